@@ -1,0 +1,91 @@
+-- FRAMES: "Sixteen octets, fields packed most significant bit first"; "a frame is either taken apart into one event or refused".
+use mathlib.Core.Bool.{Bool, cond, not}
+use mathlib.Core.List.{List, [], _∷_}
+use Prim.Native.Nat.{ℕ, suc, _+_, _-_, _*_, _/_, _%_}
+use lib.Dec.{eqb, ltb}
+use lib.ListN.{length, take, drop}
+use Rattle.protocol.specs.Folds.{isEmpty}
+use Rattle.protocol.specs.Floor.{Limits}
+use Rattle.protocol.specs.Events.{Event, start, enter, send, wire, radio, move}
+use Rattle.protocol.specs.Refusals.{check}
+
+-- "kind 4 bits, station 4, cart 6, other 4, length 6, zero 40, set 64"
+pub record Fields : Type 0 where
+  pub kind : ℕ
+  pub station : ℕ
+  pub cart : ℕ
+  pub other : ℕ
+  pub length : ℕ
+  pub zero : ℕ
+  pub set : ℕ
+
+-- the number whose octets follow those of n, most significant first
+abbrev pub octets : ℕ → List ℕ → ℕ
+octets n [] = n
+octets n (x ∷ l) = octets (n * 256 + x) l
+
+-- the fields: the first five are three octets, zero is the next five, and set the last eight
+abbrev pub fieldsOf : List ℕ → Fields
+fieldsOf l =
+    let head = octets 0 (take 3 l) in
+    record {
+      kind = head / 1048576;
+      station = head / 65536 % 16;
+      cart = head / 1024 % 64;
+      other = head / 64 % 16;
+      length = head % 64;
+      zero = octets 0 (take 5 (drop 3 l));
+      set = octets 0 (take 8 (drop 8 l));
+    }
+
+-- "Kinds: 0 start (station field, cart field), 1 enter (station, cart), 2 send (station, length, set), 3 wire (station = from, other = to),
+-- 4 radio (station, cart), 5 move (cart, other = to). Fields not listed for a kind must be zero": the sum of those
+abbrev pub unlisted : Fields → ℕ
+unlisted f =
+    cond (eqb (f .kind) 2) (f .cart + f .other + f .zero)
+    (cond (eqb (f .kind) 3) (f .cart + f .length + f .zero + f .set)
+    (cond (eqb (f .kind) 5) (f .station + f .length + f .zero + f .set)
+    (f .other + f .length + f .zero + f .set)))
+
+-- the event of a kind: "station field = stations − 1, cart field = carts − 1" for a start; a radio step's text buffer holds every text
+abbrev pub eventOf : Limits → Fields → List ℕ → Event
+eventOf M f text =
+    cond (eqb (f .kind) 0) (start (suc (f .station)) (suc (f .cart)))
+    (cond (eqb (f .kind) 1) (enter (f .station) (f .cart))
+    (cond (eqb (f .kind) 2) (send (f .station) (f .set) text)
+    (cond (eqb (f .kind) 3) (wire (f .station) (f .other))
+    (cond (eqb (f .kind) 4) (radio (f .station) (f .cart) (M .text))
+    (move (f .cart) (f .other))))))
+
+-- what the reader says: "end"; a refusal; or an event, and how many octets it took
+pub data Reading : Type 0 where
+  end : Reading
+  refusedFrame : (number : ℕ) → Reading
+  taken : Event → (size : ℕ) → Reading
+
+-- the refusal of the frame at the front of these octets, 0 if it is taken apart
+abbrev pub frameRefusal : Limits → List ℕ → ℕ
+frameRefusal M l =
+    let f = fieldsOf l in
+    check 1 (ltb (length l) 16)
+    (check 2 (ltb 5 (f .kind))
+    (check 3 (not (eqb (unlisted f) 0))
+    (check 4 (ltb (M .text) (f .length))
+    (check 1 (ltb (length l - 16) (f .length)) 0))))
+
+-- the frame at the front of these octets; "A send is followed by its text"
+unfoldable pub frameOf : Limits → List ℕ → Reading
+frameOf M l =
+    let f = fieldsOf l in
+    let refusal = frameRefusal M l in
+    cond (isEmpty l) end (cond (eqb refusal 0) (taken (eventOf M f (take (f .length) (drop 16 l))) (16 + f .length)) (refusedFrame refusal))
+
+-- "A reader over the lent frames keeps the octets and the position"; "With no octet left, a position past the end counted so, the reader says end"
+unfoldable pub readAt : Limits → List ℕ → ℕ → Reading
+readAt M l at = frameOf M (drop at l)
+
+-- the position afterwards: "does not move" at the end, "A refused frame does not move the reader"
+abbrev pub movedTo : ℕ → Reading → ℕ
+movedTo at end = at
+movedTo at (refusedFrame r) = at
+movedTo at (taken e size) = at + size

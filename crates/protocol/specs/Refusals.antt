@@ -1,0 +1,86 @@
+-- WHERE EACH REFUSAL IS MET: "Checks run down the table; the first that applies is the answer."
+use mathlib.Core.Bool.{Bool, true, false, cond, _&&_, _||_, not}
+use Prim.Native.Nat.{ℕ, _^_}
+use lib.Dec.{eqb, ltb, leb}
+use lib.ListN.{length}
+use Rattle.protocol.specs.Folds.{every, byOption, isNone, isEmpty}
+use Rattle.protocol.specs.CartSets.{has}
+use Rattle.protocol.specs.Floor.{Limits, Floor, isAt, entered, moving}
+use Rattle.protocol.specs.Events.{Event, start, enter, send, wire, radio, move}
+use Rattle.protocol.specs.Wired.{freeRoom}
+use Rattle.protocol.specs.Wireless.{queueHead}
+use Rattle.protocol.specs.Form.{passesForm}
+
+-- refusal r if the check applies, else the rest of the table
+abbrev pub check : ℕ → Bool → ℕ → ℕ
+check r applies rest = cond applies r rest
+
+-- 7: "stations not 1 to 16, or carts not 1 to 64"
+abbrev pub wrongSize : Limits → ℕ → ℕ → Bool
+wrongSize M n k = not ((ltb 0 n && leb n (M .stations)) && (ltb 0 k && leb k (M .carts)))
+
+-- 8: "a station number not on the floor"
+abbrev pub noStation : Floor → ℕ → Bool
+noStation F t = leb (F .stations) t
+
+-- 9: "a cart number .. not on the floor"
+abbrev pub noCart : Floor → ℕ → Bool
+noCart F c = leb (F .carts) c
+
+-- 9: "or a cart in the set, not on the floor"
+abbrev pub strangers : Floor → ℕ → Bool
+strangers F set = leb (2 ^ F .carts) set
+
+-- 12: "a named cart never entered"
+unfoldable pub neverEntered : Floor → ℕ → Bool
+neverEntered F set = not (every (F .carts) (λ c. not (has set c) || entered (F .place c)))
+
+module _ (M : Limits) (F : Floor) where
+  -- 17: "queue empty, or its head entry lacks the cart"
+  abbrev pub headLacks : ℕ → ℕ → Bool
+  headLacks t c = byOption (queueHead M F t) true (λ m. not (has (F .queue m t) c))
+
+  -- 21: "lent text buffer shorter than the text"
+  abbrev pub bufferShort : ℕ → ℕ → Bool
+  bufferShort t buffer = byOption (queueHead M F t) false (λ m. ltb buffer (length (F .text m)))
+
+  -- the refusal of an event, 0 if it is accepted; `broken`: "not started, or the lent floor breaks the written form rule". "Start skips 8
+  -- and 9, and of 5 it keeps only this: a lent part of the floor has the wrong length, met before 6"
+  unfoldable pub refusalIf : Bool → Event → ℕ
+  refusalIf broken (start n k) = check 5 (not (F .lengthsRight)) (check 6 (F .started) (check 7 (wrongSize M n k) 0))
+  refusalIf broken (enter t c) =
+      check 5 broken
+      (check 8 (noStation F t)
+      (check 9 (noCart F c)
+      (check 10 (entered (F .place c)) 0)))
+  refusalIf broken (send s set text) =
+      check 4 (ltb (M .text) (length text))
+      (check 5 broken
+      (check 8 (noStation F s)
+      (check 9 (strangers F set)
+      (check 11 (eqb set 0)
+      (check 12 (neverEntered F set)
+      (check 13 (ltb (M .last) (F .sent s))
+      (check 14 (isNone (freeRoom M F)) 0)))))))
+  refusalIf broken (wire i j) =
+      check 5 broken
+      (check 8 (noStation F i || noStation F j)
+      (check 15 (isEmpty (F .lines i j)) 0))
+  refusalIf broken (radio t c buffer) =
+      check 5 broken
+      (check 8 (noStation F t)
+      (check 9 (noCart F c)
+      (check 16 (not (isAt (F .place c) t))
+      (check 17 (headLacks t c)
+      (check 21 (bufferShort t buffer) 0)))))
+  refusalIf broken (move c to) =
+      check 5 broken
+      (check 8 (noStation F to)
+      (check 9 (noCart F c)
+      (check 18 (not (entered (F .place c)))
+      (check 19 (moving (F .place c))
+      (check 20 (isAt (F .place c) to) 0)))))
+
+  -- the refusal of an event, 0 if it is accepted
+  unfoldable pub refusal : Event → ℕ
+  refusal e = refusalIf (not (passesForm M F)) e

@@ -1,0 +1,2 @@
+// The written steps of the floor controller. They are definitions (specs/) and theorems (proofs/): nothing here runs.
+pub fn keep() {}
