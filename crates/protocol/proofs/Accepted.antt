@@ -1,0 +1,178 @@
+use mathlib.Core.Path.{refl, _≡_}
+use mathlib.Core.Bool.{Bool, cond, false, not, true, _||_}
+use mathlib.Core.Option.{some}
+use mathlib.Core.List.{List, [], _∷_}
+use Prim.Native.Nat.{_<_, _^_, ℕ, _≤_}
+use native.Mathlib.Omega.{arith}
+use lib.Dec.{eqb, ltb}
+use lib.ListN.{length}
+use borrow.Author.Tests.{eqb-true, leb-false, ltb-false, not-false}
+use Rattle.protocol.specs.Folds.{isEmpty, isNone}
+use Rattle.protocol.specs.CartSets.{has}
+use Rattle.protocol.specs.Floor.{Floor, Limits, Record, at, behead, entered, isAt, moving, onLines}
+use Rattle.protocol.specs.Events.{Answer, Event, accepted, enter, move, radio, refused, send, start, wire}
+use Rattle.protocol.specs.Handoff.{onEnter, onMove}
+use Rattle.protocol.specs.Wired.{buffer, freeRoom, handle, onSend, onWire, withMessage}
+use Rattle.protocol.specs.Wireless.{handOver, onRadio, queueHead}
+use Rattle.protocol.specs.Form.{passesForm}
+use Rattle.protocol.specs.Refusals.{check, headLacks, neverEntered, noCart, noStation, refusal, refusalIf, strangers}
+use Rattle.protocol.specs.Step.{accept, answer, step}
+use Rattle.protocol.proofs.Tests.{by-option, by-test, clash, first-some, or-false}
+
+-- What is known of an event that passed its checks; and by cases on what an event does to a started floor.
+-- a check that did not apply, and the rest of the table
+pub passed-check : (r : ℕ) (applies : Bool) (rest : ℕ) → 0 < r → check r applies rest ≡ 0 → (applies ≡ false) × (rest ≡ 0)
+passed-check r true rest h e = absurd (omega arith)
+passed-check r false rest h e = (refl, e)
+
+pub record MayEnter (F : Floor) (t c : ℕ) : Type 0 where
+  pub station : t < F .stations
+  pub cart : c < F .carts
+  pub is-outside : entered (F .place c) ≡ false
+
+pub record MaySend (M : Limits) (F : Floor) (s set : ℕ) (text : List ℕ) (m : ℕ) : Type 0 where
+  pub station : s < F .stations
+  pub fits : length text ≤ M .text
+  pub carts : set < 2 ^ F .carts
+  pub some : eqb set 0 ≡ false
+  pub all-entered : neverEntered F set ≡ false
+  pub number : F .sent s ≤ M .last
+  pub room : m < M .held
+  pub free : eqb (F .waiting m) 0 ≡ true
+
+pub record MayWire (F : Floor) (i j : ℕ) (r : Record) (l : List Record) : Type 0 where
+  pub from : i < F .stations
+  pub to : j < F .stations
+  pub line : F .lines i j ≡ r ∷ l
+
+pub record MayRadio (M : Limits) (F : Floor) (t c m : ℕ) : Type 0 where
+  pub station : t < F .stations
+  pub cart : c < F .carts
+  pub is-at : isAt (F .place c) t ≡ true
+  pub is-head : queueHead M F t ≡ some m
+  pub queued : has (F .queue m t) c ≡ true
+
+pub record MayMove (F : Floor) (c to : ℕ) : Type 0 where
+  pub station : to < F .stations
+  pub cart : c < F .carts
+  pub has-entered : entered (F .place c) ≡ true
+  pub not-moving : moving (F .place c) ≡ false
+  pub elsewhere : isAt (F .place c) to ≡ false
+
+module _ (M : Limits) (F : Floor) (broken : Bool) where
+  pub may-enter : (t c : ℕ) → refusalIf M F broken (enter t c) ≡ 0 → MayEnter F t c
+  unfolding refusalIf
+  may-enter t c e =
+      let a5 = passed-check 5 broken _ (omega arith) e in
+      let a8 = passed-check 8 (noStation F t) _ (omega arith) (a5 .1) in
+      let a9 = passed-check 9 (noCart F c) _ (omega arith) (a8 .1) in
+      let a10 = passed-check 10 (entered (F .place c)) _ (omega arith) (a9 .1) in
+      record { station = leb-false (F .stations) t (a8 .0); cart = leb-false (F .carts) c (a9 .0); is-outside = a10 .0 }
+
+  pub may-send : (s set : ℕ) (text : List ℕ) → refusalIf M F broken (send s set text) ≡ 0 → (m : ℕ) × (freeRoom M F ≡ some m) × MaySend M F s set text m
+  unfolding refusalIf freeRoom
+  may-send s set text e =
+      let a4 = passed-check 4 (ltb (M .text) (length text)) _ (omega arith) e in
+      let a5 = passed-check 5 broken _ (omega arith) (a4 .1) in
+      let a8 = passed-check 8 (noStation F s) _ (omega arith) (a5 .1) in
+      let a9 = passed-check 9 (strangers F set) _ (omega arith) (a8 .1) in
+      let a11 = passed-check 11 (eqb set 0) _ (omega arith) (a9 .1) in
+      let a12 = passed-check 12 (neverEntered F set) _ (omega arith) (a11 .1) in
+      let a13 = passed-check 13 (ltb (M .last) (F .sent s)) _ (omega arith) (a12 .1) in
+      let a14 = passed-check 14 (isNone (freeRoom M F)) _ (omega arith) (a13 .1) in
+      by-option (freeRoom M F)
+      (λ q. clash (isNone (freeRoom M F)) (rw q) (a14 .0))
+      (λ m q. let f = first-some (M .held) (λ m. eqb (F .waiting m) 0) m q in (
+        m,
+        q,
+        record {
+          station = leb-false (F .stations) s (a8 .0);
+          fits = ltb-false (M .text) (length text) (a4 .0);
+          carts = leb-false (2 ^ F .carts) set (a9 .0);
+          some = a11 .0;
+          all-entered = a12 .0;
+          number = ltb-false (M .last) (F .sent s) (a13 .0);
+          room = f .0;
+          free = f .1;
+        },
+      ))
+
+  pub may-wire : (i j : ℕ) → refusalIf M F broken (wire i j) ≡ 0 → (r : Record) × (l : List Record) × MayWire F i j r l
+  unfolding refusalIf
+  may-wire i j e =
+      let a5 = passed-check 5 broken _ (omega arith) e in
+      let a8 = passed-check 8 (noStation F i || noStation F j) _ (omega arith) (a5 .1) in
+      let a15 = passed-check 15 (isEmpty (F .lines i j)) _ (omega arith) (a8 .1) in
+      let neither = or-false (noStation F i) (noStation F j) (a8 .0) in
+      some-head (F .lines i j) refl (a15 .0) (leb-false (F .stations) i (neither .0)) (leb-false (F .stations) j (neither .1))
+    where
+      some-head : (l : List Record) → F .lines i j ≡ l → isEmpty l ≡ false → i < F .stations → j < F .stations → (r : Record) × (l : List Record) × MayWire F i j r l
+      some-head [] q n li lj = clash true refl n
+      some-head (r ∷ l) q n li lj = (r, l, record { from = li; to = lj; line = q })
+
+  pub may-radio : (t c buffer : ℕ) → refusalIf M F broken (radio t c buffer) ≡ 0 → (m : ℕ) × MayRadio M F t c m
+  unfolding refusalIf
+  may-radio t c buffer e =
+      let a5 = passed-check 5 broken _ (omega arith) e in
+      let a8 = passed-check 8 (noStation F t) _ (omega arith) (a5 .1) in
+      let a9 = passed-check 9 (noCart F c) _ (omega arith) (a8 .1) in
+      let a16 = passed-check 16 (not (isAt (F .place c) t)) _ (omega arith) (a9 .1) in
+      let a17 = passed-check 17 (headLacks M F t c) _ (omega arith) (a16 .1) in
+      by-option (queueHead M F t)
+      (λ q. clash (headLacks M F t c) (rw q) (a17 .0))
+      (λ m q. (m, record {
+        station = leb-false (F .stations) t (a8 .0);
+        cart = leb-false (F .carts) c (a9 .0);
+        is-at = not-false (isAt (F .place c) t) (a16 .0);
+        is-head = q;
+        queued = not-false (has (F .queue m t) c) (let z = a17 .0 in rw q at z);
+      }))
+
+  pub may-move : (c to : ℕ) → refusalIf M F broken (move c to) ≡ 0 → MayMove F c to
+  unfolding refusalIf
+  may-move c to e =
+      let a5 = passed-check 5 broken _ (omega arith) e in
+      let a8 = passed-check 8 (noStation F to) _ (omega arith) (a5 .1) in
+      let a9 = passed-check 9 (noCart F c) _ (omega arith) (a8 .1) in
+      let a18 = passed-check 18 (not (entered (F .place c))) _ (omega arith) (a9 .1) in
+      let a19 = passed-check 19 (moving (F .place c)) _ (omega arith) (a18 .1) in
+      let a20 = passed-check 20 (isAt (F .place c) to) _ (omega arith) (a19 .1) in
+      record {
+        station = leb-false (F .stations) to (a8 .0);
+        cart = leb-false (F .carts) c (a9 .0);
+        has-entered = not-false (entered (F .place c)) (a18 .0);
+        not-moving = a19 .0;
+        elsewhere = a20 .0;
+      }
+
+-- the floor without the head of the line from i to j
+abbrev pub unlined : Floor → ℕ → ℕ → Floor
+unlined F i j = onLines F (behead i j (F .lines))
+
+-- A property of event, floor and answer holds after every event on a started floor if it holds of a refusal and of each of five steps.
+module _ (M : Limits) (F : Floor) (Q : Event → Floor → Answer → Type 0) (begun : F .started ≡ true)
+    (refusing : (e : Event) (r : ℕ) → Q e F (refused r))
+    (entering : (t c : ℕ) → MayEnter F t c → Q (enter t c) (onEnter M F t c .floor) (accepted (onEnter M F t c .report)))
+    (sending : (s set : ℕ) (text : List ℕ) (m : ℕ) → MaySend M F s set text m
+    → Q (send s set text) (withMessage F m s set text) (accepted (record { kind = 2; a = s; b = F .sent s; p = 0; w = F .stations; text = [] })))
+    (handling : (i j : ℕ) (r : Record) (l : List Record) → MayWire F i j r l
+    → Q (wire i j) (handle M (unlined F i j) i j r .floor) (accepted (handle M (unlined F i j) i j r .report)))
+    (handing : (t c buffer m : ℕ) → MayRadio M F t c m → Q (radio t c buffer) (handOver M F m t c .floor) (accepted (handOver M F m t c .report)))
+    (moves : (c to : ℕ) → MayMove F c to → Q (move c to) (onMove F c to .floor) (accepted (onMove F c to .report))) where
+  when-accepted : (b : Bool) (e : Event) → refusalIf M F b e ≡ 0 → Q e (accept M F e .floor) (accepted (accept M F e .report))
+  unfolding accept onSend onWire onRadio refusalIf
+  when-accepted b (start n k) z =
+      clash (F .started) begun (passed-check 6 (F .started) _ (omega arith) (passed-check 5 (not (F .lengthsRight)) _ (omega arith) z .1) .0)
+  when-accepted b (enter t c) z = entering t c (may-enter M F b t c z)
+  when-accepted b (send s set text) z = let a = may-send M F b s set text z in rw (a .1) (sending s set text (a .0) (a .2))
+  when-accepted b (wire i j) z = let a = may-wire M F b i j z in rw (a .2 .line) (handling i j (a .0) (a .1) (a .2))
+  when-accepted b (radio t c buffer) z = let a = may-radio M F b t c buffer z in rw (a .1 .is-head) (handing t c buffer (a .0) (a .1))
+  when-accepted b (move c to) z = moves c to (may-move M F b c to z)
+
+  by-refusal : (r : ℕ) (e : Event) → (r ≡ 0 → Q e (accept M F e .floor) (accepted (accept M F e .report)))
+      → Q e (cond (eqb r 0) (accept M F e .floor) F) (cond (eqb r 0) (accepted (accept M F e .report)) (refused r))
+  by-refusal r e h = by-test (eqb r 0) (λ b. rw b (h (eqb-true r 0 b))) (λ b. rw b (refusing e r))
+
+  pub by-step : (e : Event) → Q e (step M F e) (answer M F e)
+  unfolding step answer refusal
+  by-step e = by-refusal (refusal M F e) e (when-accepted (not (passesForm M F)) e)
