@@ -5,3 +5,10 @@ pub mod Accepted
 pub mod Invariant
 pub mod Updates
 pub mod CatchUp
+pub mod Arrival
+pub mod Handoffs
+pub mod MessageRecords
+pub mod Radio
+pub mod Send
+pub mod InvariantStep
+pub mod Demand3
