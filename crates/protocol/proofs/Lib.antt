@@ -12,3 +12,6 @@ pub mod Radio
 pub mod Send
 pub mod InvariantStep
 pub mod Demand3
+pub mod Counting
+pub mod RoomFacts
+pub mod RoomRadio
