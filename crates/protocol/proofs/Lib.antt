@@ -15,3 +15,6 @@ pub mod Demand3
 pub mod Counting
 pub mod RoomFacts
 pub mod RoomRadio
+pub mod RoomAcks
+pub mod RoomSteps
+pub mod RoomBound
