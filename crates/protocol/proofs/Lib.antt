@@ -18,3 +18,5 @@ pub mod RoomRadio
 pub mod RoomAcks
 pub mod RoomSteps
 pub mod RoomBound
+pub mod SumSteps
+pub mod SumRun
