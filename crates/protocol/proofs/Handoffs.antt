@@ -3,17 +3,17 @@ use mathlib.Core.Path.{_≡_, ap, fun-ext, refl, subst, sym, _∙_, _≡_}
 use mathlib.Core.Bool.{_&&_, cond, false, not, true}
 use mathlib.Core.Option.{none}
 use mathlib.Core.List.{List, [], _∷_}
-use Prim.Native.Nat.{_<_, suc, zero, ℕ, _≤_}
+use Prim.Native.Nat.{_<_, ℕ, _≤_}
 use native.Mathlib.Omega.{arith}
 use lib.Dec.{eqb, ltb}
 use borrow.Author.Tests.{eq-eqb, eqb-true, ne-eqb}
-use Rattle.protocol.specs.Folds.{listOf, update}
+use Rattle.protocol.specs.Folds.{update}
 use Rattle.protocol.specs.CartSets.{has, without}
 use Rattle.protocol.specs.Floor.{Floor, Limits, Place, Record, at, behead, between, deregister, leaving, localTo, onLines, outside, put, register, setNext, setPlace, setQueue, stationOf, travelling}
 use Rattle.protocol.specs.Handoff.{arrive, entryOf, onDeregister, onMove, rowOf, struck, withRow}
 use Rattle.protocol.specs.Claims.{All}
 use Rattle.protocol.specs.Form.{HandoffRecord, deregistering, handoffOf, handoffs, multicastNumbers, registering}
-use Rattle.protocol.proofs.Tests.{and-left, and-right, both-equal, by-eq, by-test, clash, eqb-self, on-cond, update-at}
+use Rattle.protocol.proofs.Tests.{and-left, and-right, both-equal, by-eq, by-lt, by-test, clash, eqb-self, listOf-at, listOf-past, on-cond, update-at}
 use Rattle.protocol.proofs.SetLaws.{has-without}
 use Rattle.protocol.proofs.FloorLaws.{at-home, outside-is}
 use Rattle.protocol.proofs.Accepted.{MayEnter, MayMove}
@@ -73,20 +73,16 @@ enter-ok M F G t c I may =
     arrived M F G t c (λ s. 0) (F .lines) (may .station) (may .cart) (λ s. sym (I .out c s o)) (λ u. rw o) I
     (settle-place M F G c t (F .lines) (λ s u. refl) (I .recs) (λ d i j h. refl) (λ i j. I .about c i j ∙ rw o) (λ u h. clash (localTo (F .place c) u) h (rw o)) (may .cart) I)
 
--- a row's entries are the numbers that it was made of, where there are none beyond it
-row-entry : (n : ℕ) (f : ℕ → ℕ) (s : ℕ) → (n ≤ s → f s ≡ 0) → entryOf (listOf n f) s ≡ f s
-unfolding listOf
-row-entry zero f s e = sym (e (omega arith))
-row-entry (suc n) f zero e = refl
-row-entry (suc n) f (suc s) e = row-entry n (λ k. f (suc k)) s (λ h. e (omega arith))
-
 -- a cart has no next number beyond the stations
 pub next-beyond : (M : Limits) (F : Floor) (G : History) → Invariant M F G → (c s : ℕ) → F .stations ≤ s → F .next c s ≡ 0
 next-beyond M F G I c s h = by-eq (F .next c s) 0 (λ e. e) (λ e. absurd (let a = I .low c s in let b = I .senders s (omega arith) in omega arith))
 
 -- the row that a register carries is the cart's
 pub row-is-next : (M : Limits) (F : Floor) (G : History) → Invariant M F G → (c s : ℕ) → entryOf (rowOf M (F .next c)) s ≡ F .next c s
-row-is-next M F G I c s = row-entry (M .stations) (F .next c) s (λ h. next-beyond M F G I c s (let z = I .fits in omega arith))
+row-is-next M F G I c s =
+    by-lt s (M .stations)
+    (λ l. listOf-at (M .stations) (F .next c) 0 s l)
+    (λ l. listOf-past (M .stations) (F .next c) 0 s l ∙ sym (next-beyond M F G I c s (let z = I .fits in omega arith)))
 
 module _ (M : Limits) (F : Floor) (G : History) (i t c : ℕ) (l : List Record) (I : Invariant M F G) where
   -- the record of a hand-off goes

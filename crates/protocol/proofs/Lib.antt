@@ -20,3 +20,5 @@ pub mod RoomSteps
 pub mod RoomBound
 pub mod SumSteps
 pub mod SumRun
+pub mod FormFacts
+pub mod ClaimLaws

@@ -1,13 +1,14 @@
 -- Laws of tests, choices and searches.
-use mathlib.Core.Path.{_≡_, refl, ap, _∙_}
-use mathlib.Core.Bool.{Bool, true, false, cond, _&&_, _||_, not}
+use mathlib.Core.Path.{_≡_, ap, refl, _∙_, _≡_}
+use mathlib.Core.Bool.{_&&_, Bool, cond, false, true, _||_}
 use mathlib.Core.Option.{Option, none, some}
 use mathlib.Core.List.{List, [], _∷_}
-use Prim.Native.Nat.{ℕ, zero, suc, _<_, _≤_}
+use Prim.Native.Nat.{_<_, suc, zero, ℕ, _≤_}
 use native.Mathlib.Omega.{arith}
 use lib.Dec.{eqb, ltb}
-use borrow.Author.Tests.{not-true, ltb-true, ltb-false, eqb-true, eqb-false, eq-eqb, ne-eqb}
-use Rattle.protocol.specs.Folds.{every, first, update, update2, byOption, byHead}
+use lib.ListN.{getD, length}
+use borrow.Author.Tests.{eq-eqb, eqb-false, eqb-true, ltb-false, ltb-true, ne-eqb}
+use Rattle.protocol.specs.Folds.{byHead, byOption, every, first, listOf, update, update2}
 
 -- BY CASES
 
@@ -177,3 +178,22 @@ first-only n f m h e only =
     by-option (first n f)
     (λ q. clash (f m) e (first-none n f q m h))
     (λ k q. let r = first-some n f k q in q ∙ ap some (only k (r .0) (r .1)))
+
+-- LISTS OF A FUNCTION'S VALUES
+
+pub length-listOf : {A : Type 0} (n : ℕ) (f : ℕ → A) → length (listOf n f) ≡ n
+unfolding listOf
+length-listOf zero f = refl
+length-listOf (suc n) f = ap suc (length-listOf n (λ k. f (suc k)))
+
+pub listOf-at : {A : Type 0} (n : ℕ) (f : ℕ → A) (d : A) (k : ℕ) → k < n → getD (listOf n f) k d ≡ f k
+unfolding listOf
+listOf-at zero f d k h = absurd (omega arith)
+listOf-at (suc n) f d zero h = refl
+listOf-at (suc n) f d (suc k) h = listOf-at n (λ k. f (suc k)) d k (omega arith)
+
+pub listOf-past : {A : Type 0} (n : ℕ) (f : ℕ → A) (d : A) (k : ℕ) → n ≤ k → getD (listOf n f) k d ≡ d
+unfolding listOf
+listOf-past zero f d k h = refl
+listOf-past (suc n) f d zero h = absurd (omega arith)
+listOf-past (suc n) f d (suc k) h = listOf-past n (λ k. f (suc k)) d k (omega arith)
