@@ -22,3 +22,4 @@ pub mod SumSteps
 pub mod SumRun
 pub mod FormFacts
 pub mod ClaimLaws
+pub mod Sized
