@@ -23,3 +23,5 @@ pub mod SumRun
 pub mod FormFacts
 pub mod ClaimLaws
 pub mod Sized
+pub mod FormTest
+pub mod FormRule
