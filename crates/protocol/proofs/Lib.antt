@@ -25,3 +25,5 @@ pub mod ClaimLaws
 pub mod Sized
 pub mod FormTest
 pub mod FormRule
+pub mod Ready
+pub mod ExamplesHold

@@ -6,13 +6,13 @@ pub mod Handoff
 pub mod Wired
 pub mod Wireless
 pub mod Claims
-pub mod Blank
 pub mod Form
+pub mod Blank
 pub mod Refusals
 pub mod Step
-pub mod Frames
-pub mod Printed
 pub mod TwoLists
 pub mod SumRule
 pub mod Ranges
-
+pub mod Frames
+pub mod Printed
+pub mod Examples

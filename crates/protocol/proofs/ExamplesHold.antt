@@ -1,0 +1,80 @@
+use mathlib.Core.Path.{ap, ap₂, refl, _∙_, _≡_}
+use mathlib.Core.Bool.{true}
+use mathlib.Core.List.{List, [], map, _∷_}
+use Prim.Native.Nat.{suc}
+use native.Mathlib.Omega.{arith}
+use lib.Dec.{eqb}
+use lib.ListN.{drop, length}
+use borrow.Author.Tests.{ne-eqb}
+use Rattle.protocol.specs.Folds.{count, every, first, listOf, sum}
+use Rattle.protocol.specs.CartSets.{has, minus, setOf, union, with, without}
+use Rattle.protocol.specs.Floor.{limits, unstarted}
+use Rattle.protocol.specs.Events.{Answer}
+use Rattle.protocol.specs.Handoff.{arrive, bufferedFor, catchUp, catchUpEach, catchUpStop, climb, onDeregister, onEnter, onMove, onRegister, passedOver, roomOf, struck}
+use Rattle.protocol.specs.Wired.{buffer, freeRoom, handle, onAckList, onDelete, onMulticast, onSend, onWire, withMessage}
+use Rattle.protocol.specs.Wireless.{allAcked, handOver, headAmong, onRadio, queueHead, receive, sendAcks}
+use Rattle.protocol.specs.Claims.{test}
+use Rattle.protocol.specs.Form.{passesForm}
+use Rattle.protocol.specs.Blank.{BlankBeyond}
+use Rattle.protocol.specs.Refusals.{neverEntered, refusalIf}
+use Rattle.protocol.specs.Step.{accept}
+use Rattle.protocol.specs.Frames.{frameOf}
+use Rattle.protocol.specs.Printed.{decimal, decimalDigits, hexadecimal, lineOf, printedRun}
+use Rattle.protocol.specs.Examples.{Given, Row, Shown, answered, events, examples, form, frames, nearTheLast, outcome, passes, printed}
+use Rattle.protocol.proofs.Tests.{and-false}
+use Rattle.protocol.proofs.Ready.{Ready, quick-answers, quick-lines, quickAnswer, quickAnswers, quickLines, quickStep, ready-unstarted}
+
+-- The starred examples, by computation.
+-- what is computed for a row: with refusal 5 read off the mark
+unfoldable pub quickOutcome : Given → Shown
+quickOutcome (frames octets) = printed (quickLines limits (suc (length octets)) unstarted 0 octets)
+quickOutcome (events F es hidden) = answered (drop hidden (quickAnswers limits F es))
+quickOutcome (form F) = passes (passesForm limits F)
+
+-- a row's floor, where it is started, passes the form rule
+abbrev pub ReadyFor : Given → Type 0
+ReadyFor (frames octets) = Unit {0}
+ReadyFor (events F es hidden) = Ready limits F
+ReadyFor (form F) = Unit {0}
+
+from-unstarted : Ready limits unstarted
+from-unstarted = ready-unstarted limits unstarted refl
+
+quick-outcome : (g : Given) → ReadyFor g → outcome g ≡ quickOutcome g
+unfolding outcome quickOutcome printedRun
+quick-outcome (frames octets) R = ap printed (quick-lines limits (suc (length octets)) unstarted 0 octets from-unstarted)
+quick-outcome (events F es hidden) R = ap (λ (l : List Answer). answered (drop hidden l)) (quick-answers limits F es R)
+quick-outcome (form F) R = refl
+
+abbrev pub AllReady : List Row → Type 0
+AllReady [] = Unit {0}
+AllReady (r ∷ rows) = ReadyFor (r .given) × AllReady rows
+
+quick-table : (rows : List Row) → AllReady rows → map (λ r. outcome (r .given)) rows ≡ map (λ r. quickOutcome (r .given)) rows
+quick-table [] R = refl
+quick-table (r ∷ rows) R = ap₂ (λ (x : Shown) (l : List Shown). x ∷ l) (quick-outcome (r .given) (R .0)) (quick-table rows (R .1))
+
+near-the-last-passes : passesForm limits nearTheLast ≡ true
+unfolding passesForm test every has count sum roomOf first listOf
+near-the-last-passes = refl
+
+near-the-last-blank : BlankBeyond limits nearTheLast
+near-the-last-blank =
+    record {
+      sent = λ s h. rw (ne-eqb s 0 (omega arith));
+      expected = λ t s lt h. rw (ne-eqb s 0 (omega arith), and-false (eqb t 0));
+      place = λ c h. rw (ne-eqb c 0 (omega arith));
+      next = record { below = λ c s h. rw (ne-eqb c 0 (omega arith)); right = λ c s h. rw (ne-eqb s 0 (omega arith), and-false (eqb c 0)) };
+      queue = record { below = λ m t h. refl; right = λ m t h. refl };
+      lines = record { below = λ i j h. refl; right = λ i j h. refl };
+    }
+
+computed : map (λ r. quickOutcome (r .given)) examples ≡ map (λ r. r .shown) examples
+unfolding quickOutcome quickLines quickAnswers quickStep quickAnswer refusalIf accept frameOf lineOf decimal decimalDigits hexadecimal onEnter onSend onWire onRadio onMove handle onMulticast onAckList onDelete onDeregister onRegister arrive passedOver catchUpEach catchUp catchUpStop climb bufferedFor roomOf freeRoom struck withMessage buffer receive sendAcks allAcked handOver queueHead headAmong neverEntered passesForm test every count sum first listOf has union minus with without setOf
+computed = refl
+
+-- THE TABLE
+pub table-holds : map (λ r. outcome (r .given)) examples ≡ map (λ r. r .shown) examples
+table-holds =
+    quick-table examples (tt, (from-unstarted, (from-unstarted, (from-unstarted, (from-unstarted, (from-unstarted, (tt, ((λ s. (near-the-last-blank, near-the-last-passes)), (from-unstarted, (from-unstarted, (from-unstarted, (from-unstarted, tt))))))))))))
+    ∙ computed

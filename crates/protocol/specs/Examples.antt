@@ -1,0 +1,155 @@
+-- THE STARRED EXAMPLES K1 to K10, as rows of one table.
+use mathlib.Core.Bool.{Bool, true, false, cond, _&&_}
+use mathlib.Core.List.{List, [], _∷_, _++_}
+use Prim.Native.Nat.{ℕ, zero, suc}
+use Prim.Native.Char.{code}
+use Prim.Native.String.{String, [] as endOfText, _∷_ as _then_}
+use lib.Dec.{eqb}
+use lib.ListN.{drop, replicate}
+use Rattle.protocol.specs.Floor.{limits, outside, at, Floor, unstarted}
+use Rattle.protocol.specs.Events.{Event, start, enter, send, wire, radio, move, Answer, refused, accepted}
+use Rattle.protocol.specs.Form.{passesForm}
+use Rattle.protocol.specs.Step.{answers}
+use Rattle.protocol.specs.Printed.{printedRun}
+
+-- what an example begins with: the octets of frames; a floor and events, of which the first so many answers are not shown; or a floor alone
+pub data Given : Type 0 where
+  frames : List ℕ → Given
+  events : Floor → List Event → (hidden : ℕ) → Given
+  form : Floor → Given
+
+-- what it shows: the printed lines; the answers; or whether the floor passes the form rule
+pub data Shown : Type 0 where
+  printed : List ℕ → Shown
+  answered : List Answer → Shown
+  passes : Bool → Shown
+
+-- a row of the table
+pub record Row : Type 0 where
+  pub given : Given
+  pub shown : Shown
+
+-- what the written steps say of it
+unfoldable pub outcome : Given → Shown
+outcome (frames octets) = printed (printedRun limits octets)
+outcome (events F es hidden) = answered (drop hidden (answers limits F es))
+outcome (form F) = passes (passesForm limits F)
+
+-- the octets of a text
+abbrev pub octetsOf : String → List ℕ
+octetsOf endOfText = []
+octetsOf (letter then rest) = code letter ∷ octetsOf rest
+
+-- a frame: its first three octets, twelve zeros, and the last octet of its set
+abbrev pub frame : ℕ → ℕ → ℕ → ℕ → List ℕ
+frame x y z set = x ∷ y ∷ z ∷ replicate 12 0 ++ (set ∷ [])
+
+-- an accepted answer: kind, a, b, p, w, text
+abbrev pub yes : ℕ → ℕ → ℕ → ℕ → ℕ → List ℕ → Answer
+yes kind a b p w text = accepted (record { kind = kind; a = a; b = b; p = p; w = w; text = text })
+
+-- "K1. Two stations, one cart. Frames: start; enter 0 at 0; send from 1 to {0}, text A1; wire 1→1; move 0 to 1; wire 1→0; radio 0, cart 0;
+-- wire 1→0; wire 0→1; radio 1, cart 0; wire 1→1; wire 1→0; wire 1→1. The send is 21 00 01, twelve zero octets, 01 A1; the move begins 50 00 40."
+abbrev pub K1 : Row
+K1 =
+    record {
+      given = frames
+          (frame 0x01 0x00 0x00 0 ++ frame 0x10 0x00 0x00 0 ++ frame 0x21 0x00 0x01 1 ++ (0xa1 ∷ []) ++ frame 0x31 0x00 0x40 0 ++ frame 0x50 0x00 0x40 0 ++ frame 0x31 0x00 0x00 0
+          ++ frame 0x40 0x00 0x00 0 ++ frame 0x31 0x00 0x00 0 ++ frame 0x30 0x00 0x40 0 ++ frame 0x41 0x00 0x00 0 ++ frame 0x31 0x00 0x40 0 ++ frame 0x31 0x00 0x00 0 ++ frame 0x31 0x00 0x40 0);
+      shown = printed
+          (octetsOf "0 0 2 1 0 0\n1 1 0 0 0 0\n2 2 1 0 0 2\n3 3 1 0 0 0\n4 5 0 1 0 1\n5 3 1 0 0 0\n6 no 16\n7 3 4 0 0 1\n8 3 5 0 0 0\n9 4 1 0 0 1 a1\n10 3 2 0 0 2\n11 3 3 0 0 0\n12 3 3 0 0 0\n");
+    }
+
+-- a row of events from a floor not yet started
+abbrev pub ask : List Event → ℕ → List Answer → Row
+ask es hidden shown = record { given = events unstarted es hidden; shown = answered shown }
+
+-- an event so many times
+abbrev pub times : ℕ → Event → List Event
+times zero e = []
+times (suc n) e = e ∷ times n e
+
+-- a send from 0 to {0}, text A1
+abbrev pub send0 : Event
+send0 = send 0 1 (0xa1 ∷ [])
+
+-- "K2. One station, two carts, cart 0 in, three sends to {0}, three wire steps; cart 1 enters: p = 3."
+abbrev pub K2 : Row
+K2 = ask (start 1 2 ∷ enter 0 0 ∷ times 3 send0 ++ times 3 (wire 0 0) ++ (enter 0 1 ∷ [])) 8 (yes 1 0 1 3 0 [] ∷ [])
+
+-- "K3. Cart 1 local, caught up, not named: the multicast's wire step has p = 1 for it."
+abbrev pub K3 : Row
+K3 = ask (start 1 2 ∷ enter 0 0 ∷ enter 0 1 ∷ send0 ∷ wire 0 0 ∷ []) 4 (yes 3 1 0 1 0 [] ∷ [])
+
+-- "K4. Number 0 from stations 0 and 1 both queued: station 1's is head", in whichever order the two arrive
+abbrev pub K4 : Event → Event → Row
+K4 one other =
+    ask (start 2 1 ∷ enter 0 0 ∷ send 0 1 (0x10 ∷ []) ∷ send 1 1 (0x11 ∷ []) ∷ one ∷ other ∷ radio 0 0 32 ∷ radio 0 0 32 ∷ []) 6
+    (yes 4 1 0 0 1 (0x11 ∷ []) ∷ yes 4 0 0 0 1 (0x10 ∷ []) ∷ [])
+
+-- "K5. Text of 32 accepted, 33 is 4."
+abbrev pub K5 : Row
+K5 = ask (start 1 1 ∷ enter 0 0 ∷ send 0 1 (replicate 32 7) ∷ send 0 1 (replicate 33 7) ∷ []) 2 (yes 2 0 0 0 1 [] ∷ refused 4 ∷ [])
+
+-- "from a floor written out by the definitions": one station that has sent 65,534 messages, and one cart there that has passed them all
+abbrev pub nearTheLast : Floor
+nearTheLast =
+    record {
+      lengthsRight = true;
+      started = true;
+      stations = 1;
+      carts = 1;
+      sent = λ s. cond (eqb s 0) 65534 0;
+      expected = λ t s. cond (eqb t 0 && eqb s 0) 65534 0;
+      place = λ c. cond (eqb c 0) (at 0) outside;
+      next = λ c s. cond (eqb c 0 && eqb s 0) 65534 0;
+      initiator = λ m. 0;
+      number = λ m. 0;
+      named = λ m. 0;
+      text = λ m. [];
+      acked = λ m. 0;
+      waiting = λ m. 0;
+      copy = λ m t. 0;
+      acks = λ m t. 0;
+      queue = λ m t. 0;
+      lines = λ i j. [];
+    }
+
+-- it "passes the form rule"
+abbrev pub K6form : Row
+K6form = record { given = form nearTheLast; shown = passes true }
+
+-- "K6. Number 65,534 accepted, the next send is 13"
+abbrev pub K6 : Row
+K6 = record { given = events nearTheLast (send0 ∷ send0 ∷ []) 0; shown = answered (yes 2 0 65534 0 1 [] ∷ refused 13 ∷ []) }
+
+-- 32 messages held, by one station, for one cart
+abbrev pub full : List Event
+full = start 1 1 ∷ enter 0 0 ∷ times 32 send0
+
+-- "K7. 32 held, send is 14; after one message's last delete is handled, accepted."
+abbrev pub K7 : Row
+K7 =
+    ask (full ++ (send0 ∷ times 32 (wire 0 0)) ++ (radio 0 0 32 ∷ wire 0 0 ∷ wire 0 0 ∷ send0 ∷ [])) 34
+    (refused 14 ∷ arrivals 0 32 (yes 4 0 0 0 1 (0xa1 ∷ []) ∷ yes 3 2 0 0 1 [] ∷ yes 3 3 0 0 0 [] ∷ yes 2 0 32 0 1 [] ∷ []))
+  where
+    -- the multicasts with numbers n, n + 1, .. so many of them
+    arrivals : ℕ → ℕ → List Answer → List Answer
+    arrivals n zero rest = rest
+    arrivals n (suc k) rest = yes 3 1 n 0 0 [] ∷ arrivals (suc n) k rest
+
+-- "K8. Set empty and 32 held: 11."
+abbrev pub K8 : Row
+K8 = ask (full ++ (send 0 0 [] ∷ [])) 34 (refused 11 ∷ [])
+
+-- "K9. Move during a hand-off: 19; move to its own station: 20."
+abbrev pub K9 : Row
+K9 = ask (start 2 1 ∷ enter 0 0 ∷ move 0 0 ∷ move 0 1 ∷ move 0 0 ∷ []) 2 (refused 20 ∷ yes 5 0 1 0 1 [] ∷ refused 19 ∷ [])
+
+-- "K10. Library start with 0 or 17 stations: 7."
+abbrev pub K10 : Row
+K10 = ask (start 0 1 ∷ start 17 1 ∷ []) 0 (refused 7 ∷ refused 7 ∷ [])
+
+-- THE TABLE: "The starred examples are gathered as rows of a single proved table over the written steps"
+abbrev pub examples : List Row
+examples = K1 ∷ K2 ∷ K3 ∷ K4 (wire 0 0) (wire 1 0) ∷ K4 (wire 1 0) (wire 0 0) ∷ K5 ∷ K6form ∷ K6 ∷ K7 ∷ K8 ∷ K9 ∷ K10 ∷ []
