@@ -216,6 +216,11 @@ none-cnt n f lines e i j li lj = none-cntL (f i j) (lines i j) (let z = cnt-line
 pub cnt-at : (n : ℕ) (f : ℕ → ℕ → Record → Bool) (i j : ℕ) (lines : ℕ → ℕ → List Record) (b : Record) (l : List Record) → lines i j ≡ b ∷ l → i < n → j < n → f i j b ≡ true → 0 < countLines n f lines
 cnt-at n f i j lines b l e li lj t = let z = cnt-behead n f i j lines b l e li lj in let y : bit (f i j b) ≡ 1 = rw t in omega arith
 
+pub count-le : (n : ℕ) (f : ℕ → Bool) → count n f ≤ n
+unfolding count
+count-le zero f = omega arith
+count-le (suc n) f = let z = count-le n f in by-test (f n) (λ e. rw e (omega arith)) (λ e. rw e (omega arith))
+
 pub count-ext : (n : ℕ) (f g : ℕ → Bool) → ((k : ℕ) → f k ≡ g k) → count n f ≡ count n g
 unfolding count
 count-ext zero f g h = refl

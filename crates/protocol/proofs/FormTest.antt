@@ -58,7 +58,7 @@ handoffs-same (deregistering ∷ l) = handoffs-same l
 handoffs-same (registering f ∷ l) = (row-same f, handoffs-same l)
 
 -- lines beyond the floor have no records
-no-line : (n k i j : ℕ) (l : List Record) → All (OnFloor n k i j) l → (i < n → j < n → ⊥) → l ≡ []
+pub no-line : (n k i j : ℕ) (l : List Record) → All (OnFloor n k i j) l → (i < n → j < n → ⊥) → l ≡ []
 no-line n k i j [] a h = refl
 no-line n k i j (r ∷ l) a h = absurd (h (a .0 .0) (a .0 .1 .0))
 

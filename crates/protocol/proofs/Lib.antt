@@ -27,3 +27,6 @@ pub mod FormTest
 pub mod FormRule
 pub mod Ready
 pub mod ExamplesHold
+pub mod InRange
+pub mod QueueOrder
+pub mod Theorems

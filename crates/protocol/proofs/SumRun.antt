@@ -4,8 +4,9 @@ use mathlib.Core.List.{List, [], _∷_}
 use Prim.Native.Nat.{_+_, _<_, ℕ}
 use native.Mathlib.Omega.{arith}
 use lib.Dec.{eqb}
+use Rattle.protocol.specs.Folds.{sum}
 use Rattle.protocol.specs.CartSets.{union}
-use Rattle.protocol.specs.Floor.{Floor, Limits, Record, ackList, at, delete, deregister, multicast, register}
+use Rattle.protocol.specs.Floor.{Floor, Limits, Record, ackList, at, delete, deregister, justStarted, multicast, register}
 use Rattle.protocol.specs.Events.{Done, Event, accepted, wire}
 use Rattle.protocol.specs.Handoff.{entryOf, onDeregister, onEnter, onMove, onRegister, roomOf, rowOf}
 use Rattle.protocol.specs.Wired.{buffer, handle, onAckList, onDelete, onMulticast, withMessage}
@@ -18,6 +19,7 @@ use Rattle.protocol.proofs.Accepted.{MayWire, by-step, unlined}
 use Rattle.protocol.proofs.Invariant.{Held, History, Invariant}
 use Rattle.protocol.proofs.Handoffs.{row-is-next, tag-reg}
 use Rattle.protocol.proofs.InvariantStep.{note, step-ok}
+use Rattle.protocol.proofs.Counting.{sum-nil, sum-zero}
 use Rattle.protocol.proofs.SumSteps.{arrive-sum, mcast-sum, radio-sum}
 
 -- what p alone adds
@@ -66,3 +68,7 @@ sums M F G I (e ∷ es) =
     let a = step-sum M F G I e in
     let b = sums M (step M F e) (note e (answer M F e) G) (step-ok M F G I e) es in
     omega arith
+
+pub started-total : (n k : ℕ) → total (justStarted n k) ≡ 0
+unfolding total
+started-total n k = sum-nil k (λ c. sum n (λ s. 0)) (λ c l. sum-zero n)

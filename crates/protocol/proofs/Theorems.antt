@@ -1,0 +1,157 @@
+use mathlib.Core.Path.{_≡_, refl, subst, sym, _≡_}
+use mathlib.Core.Bool.{false, not, true}
+use mathlib.Core.Option.{some}
+use mathlib.Core.List.{List, map}
+use Prim.Native.Nat.{_*_, _+_, _-_, _<_, max, suc, ℕ, _≤_}
+use native.Mathlib.Nat.{mul-le-mul-left}
+use native.Mathlib.Omega.{arith}
+use lib.Dec.{eqb}
+use lib.ListN.{length}
+use borrow.Author.Tests.{ne-eqb}
+use Rattle.protocol.specs.Folds.{count, sum}
+use Rattle.protocol.specs.Floor.{Floor, Limits, Record, at, justStarted, limits, onTheLines}
+use Rattle.protocol.specs.Events.{Event, Report, accepted, refused, start}
+use Rattle.protocol.specs.Handoff.{entryOf, onRegister}
+use Rattle.protocol.specs.Wireless.{queueHead}
+use Rattle.protocol.specs.Form.{passesForm}
+use Rattle.protocol.specs.Blank.{BlankBeyond}
+use Rattle.protocol.specs.Refusals.{refusal, refusalIf, wrongSize}
+use Rattle.protocol.specs.Step.{accept, answer, floorAfter, step}
+use Rattle.protocol.specs.TwoLists.{TwoListRule, bothEmpty, listsAfter, owes}
+use Rattle.protocol.specs.SumRule.{gains, total}
+use Rattle.protocol.specs.Ranges.{InRange}
+use Rattle.protocol.specs.Examples.{examples, outcome}
+use Rattle.protocol.proofs.Tests.{by-eq}
+use Rattle.protocol.proofs.Accepted.{passed-check}
+use Rattle.protocol.proofs.Demand3.{nothing, rule-after, started-ok}
+use Rattle.protocol.proofs.Counting.{sum-term}
+use Rattle.protocol.proofs.SumSteps.{arrive-bound}
+use Rattle.protocol.proofs.SumRun.{started-total, sums}
+use Rattle.protocol.proofs.FormFacts.{past, some-history}
+use Rattle.protocol.proofs.Sized.{CountsFit}
+use Rattle.protocol.proofs.FormTest.{clauses-of, form-of, sized-of}
+use Rattle.protocol.proofs.FormRule.{form-bound, form-kept, form-started}
+use Rattle.protocol.proofs.Ready.{ready-run, ready-unstarted, right-size, started-after, unstarted-fails}
+use Rattle.protocol.proofs.ExamplesHold.{table-holds}
+use Rattle.protocol.proofs.InRange.{in-range, step-most}
+use Rattle.protocol.proofs.QueueOrder.{head-first}
+
+-- WHAT IS PROVED of the written steps. Each statement uses names of specs/ alone; M are any limits, `limits` those of the floor.
+
+-- an accepted event meets no refusal
+accepted-passes : (M : Limits) (F : Floor) (e : Event) (l : Report) → answer M F e ≡ accepted l → refusal M F e ≡ 0
+unfolding answer
+accepted-passes M F e l a =
+    by-eq (refusal M F e) 0 (λ z. z)
+    (λ z. absurd (let b : refused (refusal M F e) ≡ accepted l = rw (ne-eqb (refusal M F e) 0 z) at a in let y : _≡_ {A = ℕ} 0 1 = cc in omega arith))
+
+-- DEMAND 1: "A refusal gives its number alone and changes no floor"
+pub refusal-changes-nothing : (M : Limits) (F : Floor) (e : Event) (r : ℕ) → answer M F e ≡ refused r → step M F e ≡ F
+unfolding answer step
+refusal-changes-nothing M F e r a =
+    by-eq (refusal M F e) 0
+    (λ z. absurd (let b : accepted (accept M F e .report) ≡ refused r = rw z at a in let y : _≡_ {A = ℕ} 0 1 = cc in omega arith))
+    (λ z. rw (ne-eqb (refusal M F e) 0 z))
+
+-- "it writes all the rest afresh": whatever floor a start is given, if it is accepted the floor is just started, of a size within the limits
+pub start-afresh : (M : Limits) (F : Floor) (n k : ℕ) (l : Report) → answer M F (start n k) ≡ accepted l → (step M F (start n k) ≡ justStarted n k) × (wrongSize M n k ≡ false)
+unfolding step accept refusal refusalIf
+start-afresh M F n k l a =
+    let z = accepted-passes M F (start n k) l a in
+    (rw z, passed-check 7 (wrongSize M n k) _ (omega arith) (passed-check 6 (F .started) _ (omega arith) (passed-check 5 (not (F .lengthsRight)) _ (omega arith) z .1) .1) .0)
+
+-- what holds of every run from a floor just started holds of every run from the floor that an accepted start left
+from-start : (P : Floor → Type 0) (M : Limits) (F : Floor) (n k : ℕ) (l : Report) → answer M F (start n k) ≡ accepted l → (CountsFit M n k → P (justStarted n k)) → P (step M F (start n k))
+from-start P M F n k l a h = let z = start-afresh M F n k l a in subst P (sym (z .0)) (h (right-size M n k (z .1)))
+
+-- DEMAND 3, THE TWO-LIST RULE: over every list of events, refused ones and starts among them, from the floor that an accepted start left
+pub two-list-rule : (M : Limits) (F : Floor) (n k : ℕ) (l : Report) → answer M F (start n k) ≡ accepted l → (es : List Event) (s c : ℕ) → c < k
+    → TwoListRule (owes M (floorAfter M (step M F (start n k)) es) s c)
+    (listsAfter M (step M F (start n k)) bothEmpty es .sent s c) (listsAfter M (step M F (start n k)) bothEmpty es .received s c)
+two-list-rule M F n k l a es s c lc =
+    from-start (λ X. TwoListRule (owes M (floorAfter M X es) s c) (listsAfter M X bothEmpty es .sent s c) (listsAfter M X bothEmpty es .received s c)) M F n k l a
+    (λ fit. rule-after M (justStarted n k) nothing bothEmpty es (started-ok M n k (fit .stations)) (record { count = λ s. refl; sent = λ s c. refl; received = refl }) s c lc)
+
+-- THE SUM RULE: "Over any run from a start, the sum of all carts' next numbers equals accepted radio steps plus all p"
+pub sum-rule : (M : Limits) (F : Floor) (n k : ℕ) (l : Report) → answer M F (start n k) ≡ accepted l → (es : List Event)
+    → total (floorAfter M (step M F (start n k)) es) ≡ gains M (step M F (start n k)) es
+sum-rule M F n k l a es = from-start (λ X. total (floorAfter M X es) ≡ gains M X es) M F n k l a (λ fit. begun fit)
+  where
+    begun : CountsFit M n k → total (floorAfter M (justStarted n k) es) ≡ gains M (justStarted n k) es
+    begun fit = let a = sums M (justStarted n k) nothing (started-ok M n k (fit .stations)) es in let b = started-total n k in omega arith
+
+-- "In a register step p is at most the sum, over initiators, of expected number minus next number, where positive"
+pub register-bound : (M : Limits) (F : Floor) (t c : ℕ) (row : List ℕ) → onRegister M F t c row .report .p ≤ sum (F .stations) (λ s. F .expected t s - entryOf row s)
+unfolding onRegister
+register-bound M F t c row = arrive-bound M F t c (entryOf row)
+
+-- THE FORM RULE: "Every floor reached from a start passes it"
+pub form-reached : (M : Limits) (F : Floor) (n k : ℕ) (l : Report) → answer M F (start n k) ≡ accepted l → (es : List Event)
+    → BlankBeyond M (floorAfter M (step M F (start n k)) es) × (passesForm M (floorAfter M (step M F (start n k)) es) ≡ true)
+form-reached M F n k l a es =
+    from-start (λ X. BlankBeyond M (floorAfter M X es) × (passesForm M (floorAfter M X es) ≡ true)) M F n k l a
+    (λ fit. ready-run M (justStarted n k) es (λ h. form-started M n k fit) (started-after M (justStarted n k) refl es))
+
+-- "on every floor that passes, reached or not, .. the floor it leaves passes again"
+pub form-closed : (M : Limits) (F : Floor) (e : Event) → BlankBeyond M F → passesForm M F ≡ true → BlankBeyond M (step M F e) × (passesForm M (step M F e) ≡ true)
+form-closed M F e B h = form-kept M F e B h
+
+-- "An unstarted floor fails it"
+pub form-unstarted : (M : Limits) (F : Floor) → F .started ≡ false → passesForm M F ≡ false
+form-unstarted M F e = unstarted-fails M F e
+
+-- over any list of events from any unstarted floor: wherever it is then started, it passes. So 5 is met only where no floor is started
+pub form-of-any-run : (M : Limits) (F : Floor) → F .started ≡ false → (es : List Event)
+    → floorAfter M F es .started ≡ true → BlankBeyond M (floorAfter M F es) × (passesForm M (floorAfter M F es) ≡ true)
+form-of-any-run M F e es = ready-run M F es (ready-unstarted M F e)
+
+-- THE RANGES: "with nothing out of range"
+pub numbers-in-range : (M : Limits) (F : Floor) → BlankBeyond M F → passesForm M F ≡ true → InRange M F
+numbers-in-range M F B h = let P = clauses-of M F h in in-range M F (form-of M F B P) (sized-of M F B P)
+
+-- p of any answer is at most stations × (last number + 1), or the number of carts where that is more
+pub passed-in-range : (M : Limits) (F : Floor) (e : Event) (l : Report) → BlankBeyond M F → passesForm M F ≡ true → answer M F e ≡ accepted l → l .p ≤ max (F .stations * suc (M .last)) (F .carts)
+passed-in-range M F e l B h a =
+    let P = clauses-of M F h in
+    let X = form-of M F B P in
+    let z = step-most M F (past M F X) (some-history M F X) (sized-of M F B P) e in
+    rw a at z
+
+-- THE RECORD BOUND: "No event may be refused for want of room on a line": on every floor that passes, reached or not
+pub record-bound : (M : Limits) (F : Floor) → BlankBeyond M F → passesForm M F ≡ true → onTheLines (F .stations) (F .lines) ≤ M .held * (M .stations + M .stations + M .carts) + M .carts
+record-bound M F B h =
+    let c = sized-of M F B (clauses-of M F h) .counts in
+    let r = form-bound M F B h in
+    let n = c .stations in
+    let k = c .carts in
+    let wide : F .stations + F .stations + F .carts ≤ M .stations + M .stations + M .carts = omega arith in
+    let z = mul-le-mul-left (M .held) wide in
+    omega arith
+
+-- "The lines need at most 32 × (16 + 16 + 64) + 64 = 3,136 records"
+pub floor-records : (F : Floor) → BlankBeyond limits F → passesForm limits F ≡ true → onTheLines (F .stations) (F .lines) ≤ 3136
+floor-records F B h = record-bound limits F B h
+
+-- the limits of a small floor
+abbrev pub small : ℕ → ℕ → Limits
+small last text = record { stations = 4; carts = 8; held = 8; last = last; text = text }
+
+-- of 4 stations, 8 carts and 8 held messages: at most 136 records
+pub small-floor-records : (last text : ℕ) (F : Floor) → BlankBeyond (small last text) F → passesForm (small last text) F ≡ true → onTheLines (F .stations) (F .lines) ≤ 136
+small-floor-records last text F B h = record-bound (small last text) F B h
+
+-- one line has no more records than all lines
+pub one-line : (n : ℕ) (lines : ℕ → ℕ → List Record) (i j : ℕ) → i < n → j < n → length (lines i j) ≤ onTheLines n lines
+one-line n lines i j li lj =
+    let a = sum-term n (λ j. length (lines i j)) j lj in
+    let b = sum-term n (λ i. sum n (λ j. length (lines i j))) i li in
+    omega arith
+
+-- THE QUEUE'S ORDER: "smallest number first; between equal numbers the higher initiator stands first"
+pub queue-order : (M : Limits) (F : Floor) (t m : ℕ) → queueHead M F t ≡ some m → (k : ℕ) → k < M .held → eqb (F .queue k t) 0 ≡ false
+    → (F .number m ≤ F .number k) × (F .number m ≡ F .number k → F .initiator k ≤ F .initiator m)
+queue-order M F t m e k l q = let z = head-first M F t m e .1 .1 k l q in (z .smallest, z .higher)
+
+-- THE EXAMPLES: "The starred examples are gathered as rows of a single proved table over the written steps"
+pub examples-hold : map (λ r. outcome (r .given)) examples ≡ map (λ r. r .shown) examples
+examples-hold = table-holds
