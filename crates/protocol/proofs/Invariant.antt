@@ -1,6 +1,7 @@
 -- The lists of demand 3, and the invariant that carries it.
 use mathlib.Core.Path.{_≡_}
 use mathlib.Core.Bool.{Bool, cond, false, true}
+use mathlib.Core.Option.{some}
 use mathlib.Core.List.{List, [], _∷_}
 use Prim.Native.Nat.{_<_, suc, ℕ, _≤_}
 use lib.Dec.{eqb}
@@ -11,6 +12,7 @@ use Rattle.protocol.specs.Handoff.{rowOf}
 use Rattle.protocol.specs.Claims.{All, True}
 use Rattle.protocol.specs.Form.{countsUp, handoffOf, handoffs, multicastNumbers}
 use Rattle.protocol.specs.TwoLists.{Item}
+use Rattle.protocol.proofs.Readings
 
 pub record Entry : Type 0 where
   pub set : ℕ

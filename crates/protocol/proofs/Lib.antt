@@ -1,5 +1,6 @@
 pub mod Tests
 pub mod SetLaws
+pub mod Readings
 pub mod FloorLaws
 pub mod Accepted
 pub mod Invariant

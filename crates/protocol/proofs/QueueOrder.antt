@@ -4,10 +4,11 @@ use mathlib.Core.Option.{Option, none, some}
 use Prim.Native.Nat.{_<_, suc, zero, ℕ, _≤_}
 use native.Mathlib.Omega.{arith}
 use lib.Dec.{eqb, ltb}
-use borrow.Author.Tests.{eq-eqb, eqb-true, lt-ltb, ltb-false, ltb-true}
+use borrow.Author.Tests.{eq-eqb, lt-ltb, ltb-false, ltb-true}
 use Rattle.protocol.specs.Floor.{Floor, Limits, at}
 use Rattle.protocol.specs.Wireless.{headAmong, headWith, queueHead, standsBefore}
-use Rattle.protocol.proofs.Tests.{and-intro, and-left, and-right, by-eq, by-lt, clash, on-cond, or-cases, or-false}
+use Rattle.protocol.proofs.Tests.{and-intro, and-right, by-eq, by-lt, clash, on-cond, or-cases, or-false}
+use Rattle.protocol.proofs.Readings.{smallest-number-first}
 
 -- "A queue has one entry per message, smallest number first; between equal numbers the higher initiator stands first."
 -- the message in room m is at the front of that in room k
@@ -27,11 +28,12 @@ ahead-trans F a b c p q =
 
 stands-ahead : (F : Floor) (m k : ℕ) → standsBefore F m k ≡ true → Ahead F m k
 stands-ahead F m k e =
-    or-cases (ltb (F .number m) (F .number k)) (eqb (F .number m) (F .number k) && ltb (F .initiator k) (F .initiator m)) e
-    (λ l. let x = ltb-true (F .number m) (F .number k) l in record { smallest = omega arith; higher = λ q. omega arith })
-    (λ b. let x = eqb-true (F .number m) (F .number k) (and-left (eqb (F .number m) (F .number k)) (ltb (F .initiator k) (F .initiator m)) b) in
-    let y = ltb-true (F .initiator k) (F .initiator m) (and-right (eqb (F .number m) (F .number k)) (ltb (F .initiator k) (F .initiator m)) b) in
-    record { smallest = omega arith; higher = λ q. omega arith })
+    record {
+      smallest = smallest-number-first F m k e;
+      higher = λ q. or-cases (ltb (F .number m) (F .number k)) (eqb (F .number m) (F .number k) && ltb (F .initiator k) (F .initiator m)) e
+          (λ l. let x = ltb-true (F .number m) (F .number k) l in omega arith)
+          (λ b. let y = ltb-true (F .initiator k) (F .initiator m) (and-right (eqb (F .number m) (F .number k)) (ltb (F .initiator k) (F .initiator m)) b) in omega arith);
+    }
 
 stands-behind : (F : Floor) (m k : ℕ) → standsBefore F m k ≡ false → Ahead F k m
 stands-behind F m k e =

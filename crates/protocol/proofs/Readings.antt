@@ -1,0 +1,53 @@
+use mathlib.Core.Path.{refl, _∙_, _≡_}
+use mathlib.Core.Bool.{false, true}
+use mathlib.Core.Option.{none, some}
+use mathlib.Core.List.{_++_, [], _∷_}
+use Prim.Native.Nat.{_<_, ℕ, _≤_}
+use native.Mathlib.Omega.{arith}
+use lib.Dec.{eqb}
+use borrow.Author.Tests.{eqb-true, le-ltb, ne-eqb}
+use Rattle.protocol.specs.CartSets.{has, union}
+use Rattle.protocol.specs.Floor.{Floor, Limits, ackList, at}
+use Rattle.protocol.specs.Handoff.{catchUp, catchUpStop, onDeregister, roomOf}
+use Rattle.protocol.specs.Wired.{onAckList}
+use Rattle.protocol.specs.Wireless.{allAcked, handOver, receive, sendAcks, sendAcksIfAll, standsBefore}
+use Rattle.protocol.proofs.Tests.{and-false, by-lt, by-test, clash, eqb-self, on-cond, on-option, or-right}
+use Rattle.protocol.proofs.SetLaws.{has-with, has-without}
+
+-- "Readings that lose or double a correction": for each of them, what the written steps do instead.
+-- "Dropping a message at a station once its own carts have it": a radio step takes no message out of any station's buffer
+pub kept-until-deleted : (M : Limits) (F : Floor) (m t c : ℕ) → handOver M F m t c .floor .waiting ≡ F .waiting
+unfolding handOver catchUp receive sendAcks
+kept-until-deleted M F m t c =
+    on-option (λ (X : Floor). X .waiting ≡ F .waiting) (catchUpStop M (sendAcksIfAll (receive F m t c) m t) t c (F .initiator m) .found)
+    (λ q. on-cond (λ (X : Floor). X .waiting ≡ F .waiting) (allAcked (receive F m t c) m t) (λ b. refl) (λ b. refl))
+    (λ k q. on-cond (λ (X : Floor). X .waiting ≡ F .waiting) (allAcked (receive F m t c) m t) (λ b. refl) (λ b. refl))
+
+-- "Letting the initiator test the copy that a station strikes carts from": deletes go out only when the whole set as sent has acknowledged
+pub deleted-when-all-have-it : (M : Limits) (F : Floor) (s n carts m : ℕ) → roomOf M F s n ≡ some m → 0 < onAckList M F s n carts .report .w → union (F .acked m) carts ≡ F .named m
+unfolding onAckList
+deleted-when-all-have-it M F s n carts m e h =
+    by-test (eqb (union (F .acked m) carts) (F .named m))
+    (λ b. eqb-true (union (F .acked m) carts) (F .named m) b)
+    (λ b. absurd (let none : 0 < 0 = rw (e, b) at h in omega arith))
+
+-- "Deregister handled as if the cart had left at its greeting: the message queued meanwhile stays behind": no entry here has the cart afterwards
+pub leaves-every-entry : (M : Limits) (F : Floor) (i t c m : ℕ) → has (onDeregister M F i t c .floor .queue m t) c ≡ false
+unfolding onDeregister
+leaves-every-entry M F i t c m = rw (eqb-self t) (has-without (F .queue m t) c c ∙ rw (eqb-self c) (and-false (has (F .queue m t) c)))
+
+-- "Queue order by initiator first": whoever stands before another has no larger number
+pub smallest-number-first : (F : Floor) (m k : ℕ) → standsBefore F m k ≡ true → F .number m ≤ F .number k
+smallest-number-first F m k e =
+    by-lt (F .number k) (F .number m)
+    (λ l. clash (standsBefore F m k) e (rw (le-ltb (F .number m) (F .number k) (omega arith), ne-eqb (F .number m) (F .number k) (λ z. omega arith))))
+    (λ l. l)
+
+-- "Sending an ack list that is empty": the list that goes is the station's, and after a receipt the cart is in it
+pub ack-list-sent : (F : Floor) (m t : ℕ) → sendAcks F m t .lines t (F .initiator m) ≡ F .lines t (F .initiator m) ++ (ackList (F .number m) (F .acks m t) ∷ [])
+unfolding sendAcks
+ack-list-sent F m t = rw (eqb-self t, eqb-self (F .initiator m))
+
+pub cart-in-ack-list : (F : Floor) (m t c : ℕ) → has (receive F m t c .acks m t) c ≡ true
+unfolding receive
+cart-in-ack-list F m t c = rw (eqb-self m, eqb-self t) (has-with (F .acks m t) c c ∙ or-right (has (F .acks m t) c) (eqb c c) (eqb-self c))
