@@ -120,13 +120,16 @@ module _ (M : Limits) (F : Floor) (broken : Bool) where
       let a17 = passed-check 17 (headLacks M F t c) _ (omega arith) (a16 .1) in
       by-option (queueHead M F t)
       (λ q. clash (headLacks M F t c) (rw q) (a17 .0))
-      (λ m q. (m, record {
-        station = leb-false (F .stations) t (a8 .0);
-        cart = leb-false (F .carts) c (a9 .0);
-        is-at = not-false (isAt (F .place c) t) (a16 .0);
-        is-head = q;
-        queued = not-false (has (F .queue m t) c) (let z = a17 .0 in rw q at z);
-      }))
+      (λ m q. (
+        m,
+        record {
+          station = leb-false (F .stations) t (a8 .0);
+          cart = leb-false (F .carts) c (a9 .0);
+          is-at = not-false (isAt (F .place c) t) (a16 .0);
+          is-head = q;
+          queued = not-false (has (F .queue m t) c) (let z = a17 .0 in rw q at z);
+        },
+      ))
 
   pub may-move : (c to : ℕ) → refusalIf M F broken (move c to) ≡ 0 → MayMove F c to
   unfolding refusalIf

@@ -11,7 +11,7 @@ use Rattle.protocol.specs.Form.{multicastNumbers}
 use Rattle.protocol.proofs.Tests.{and-intro, and-left, and-right, by-eq, clash, on-cond, or-cases}
 use Rattle.protocol.proofs.SetLaws.{has-with, has-without}
 use Rattle.protocol.proofs.Invariant.{History, Invariant, Queued, names}
-use Rattle.protocol.proofs.Updates.{Rise, homeb, over, re-copy, rise, run-le}
+use Rattle.protocol.proofs.Updates.{Rise, copy-changed, counts-up-le, isHome, numbers-rise, received-over}
 use Rattle.protocol.proofs.CatchUp.{catch-up-ascent, catchUpAtOnce, found-is, foundIs, passed-unnamed, stops-at}
 
 -- The arrival of a cart keeps the invariant: it is struck from what it has passed, and catches up.
@@ -20,7 +20,7 @@ module _ (M : Limits) (F : Floor) (G : History) (t c : ℕ) (I : Invariant M F G
   pub struck-ok : Invariant M (struck F t c) G
   unfolding struck
   struck-ok =
-      re-copy M F G I (λ m u. cond (passed m u) (without (F .copy m u) c) (F .copy m u))
+      copy-changed M F G I (λ m u. cond (passed m u) (without (F .copy m u) c) (F .copy m u))
       (λ m u d h lt e k dd le.
       on-cond (λ x. has x d ≡ true) (passed m u)
       (λ b. has-without (F .copy m u) c d
@@ -55,9 +55,9 @@ module _ (M : Limits) (F : Floor) (G : History) (t c : ℕ) (I : Invariant M F G
         record {
           up = λ d s. on-X (λ x. F .next d s ≤ x) d s (λ z o. let a = catch-up-ascent M F t c s .from in rw z a) (λ q. omega arith);
           cap = λ d s. on-X (λ x. x ≤ F .sent s) d s
-              (λ z o. let a = catch-up-ascent M F t c s .below in let r = run-le (F .expected t s) (multicastNumbers (F .lines s t)) (F .sent s) (I .run s t lt) in let y = I .low c s in omega arith)
+              (λ z o. let a = catch-up-ascent M F t c s .below in let r = counts-up-le (F .expected t s) (multicastNumbers (F .lines s t)) (F .sent s) (I .run s t lt) in let y = I .low c s in omega arith)
               (λ q. I .low d s);
-          home = λ d s h. on-X (λ x. x ≡ F .next d s) d s (λ z o. clash (homeb (F .place d)) (rw (z, home)) h) (λ q. refl);
+          home = λ d s h. on-X (λ x. x ≡ F .next d s) d s (λ z o. clash (isHome (F .place d)) (rw (z, home)) h) (λ q. refl);
         }
 
     passes-unnamed : (d s n : ℕ) → F .next d s ≤ n → n < X d s → names (G .sends s) n d ≡ false
@@ -105,4 +105,4 @@ module _ (M : Limits) (F : Floor) (G : History) (t c : ℕ) (I : Invariant M F G
 
     pub catch-up-ok : Invariant M (catchUpAtOnce M F t c only) G
     unfolding X Y
-    catch-up-ok = rise M F G X Y (G .received) catch-up-rise queued-due (over M F G X I catch-up-rise passes-unnamed) I
+    catch-up-ok = numbers-rise M F G X Y (G .received) catch-up-rise queued-due (received-over M F G X I catch-up-rise passes-unnamed) I

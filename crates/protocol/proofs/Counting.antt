@@ -39,21 +39,21 @@ rest-le : (f : Record → Bool) (l : List Record) → countLine f (tail l) ≤ c
 rest-le f [] = omega arith
 rest-le f (b ∷ l) = omega arith
 
-pub behead-le : (f : Record → Bool) (i j : ℕ) (lines : ℕ → ℕ → List Record) (k h : ℕ) → countLine f (behead i j lines k h) ≤ countLine f (lines k h)
-behead-le f i j lines k h = on-cond (λ l. countLine f l ≤ countLine f (lines k h)) (eqb i k && eqb j h) (λ e. rest-le f (lines k h)) (λ e. omega arith)
+pub countLine-behead : (f : Record → Bool) (i j : ℕ) (lines : ℕ → ℕ → List Record) (k h : ℕ) → countLine f (behead i j lines k h) ≤ countLine f (lines k h)
+countLine-behead f i j lines k h = on-cond (λ l. countLine f l ≤ countLine f (lines k h)) (eqb i k && eqb j h) (λ e. rest-le f (lines k h)) (λ e. omega arith)
 
-pub cntL-snoc : (f : Record → Bool) (l : List Record) (x : Record) → countLine f (l ++ (x ∷ [])) ≡ countLine f l + bit (f x)
-cntL-snoc f [] x = omega arith
-cntL-snoc f (b ∷ l) x = let z = cntL-snoc f l x in omega arith
+pub countLine-more : (f : Record → Bool) (l : List Record) (x : Record) → countLine f (l ++ (x ∷ [])) ≡ countLine f l + bit (f x)
+countLine-more f [] x = omega arith
+countLine-more f (b ∷ l) x = let z = countLine-more f l x in omega arith
 
-pub cntL-none : (f : Record → Bool) (l : List Record) → All (λ b. f b ≡ false) l → countLine f l ≡ 0
-cntL-none f [] a = refl
-cntL-none f (b ∷ l) a = let z = cntL-none f l (a .1) in rw (a .0) (omega arith)
+pub countLine-none : (f : Record → Bool) (l : List Record) → All (λ b. f b ≡ false) l → countLine f l ≡ 0
+countLine-none f [] a = refl
+countLine-none f (b ∷ l) a = let z = countLine-none f l (a .1) in rw (a .0) (omega arith)
 
-pub none-cntL : (f : Record → Bool) (l : List Record) → countLine f l ≡ 0 → All (λ b. f b ≡ false) l
-none-cntL f [] e = tt
-none-cntL f (b ∷ l) e =
-    by-test (f b) (λ t. absurd (let z : 1 + countLine f l ≡ 0 = rw t at e in omega arith)) (λ t. (t, none-cntL f l (let z : 0 + countLine f l ≡ 0 = rw t at e in omega arith)))
+pub none-countLine : (f : Record → Bool) (l : List Record) → countLine f l ≡ 0 → All (λ b. f b ≡ false) l
+none-countLine f [] e = tt
+none-countLine f (b ∷ l) e =
+    by-test (f b) (λ t. absurd (let z : 1 + countLine f l ≡ 0 = rw t at e in omega arith)) (λ t. (t, none-countLine f l (let z : 0 + countLine f l ≡ 0 = rw t at e in omega arith)))
 
 -- each record of a line counts in it
 pub each-counts : (l : List Record) → All (λ b. (f : Record → Bool) → f b ≡ true → 0 < countLine f l) l
@@ -161,60 +161,60 @@ sum2-only n f a t x h e =
     (λ la. sum-only n (λ j. f a j) t x (λ j lj ne. h a j la lj (λ p q. ne q)) (λ lt. e))
 
 -- counts after a change
-pub cnt-behead : (n : ℕ) (f : ℕ → ℕ → Record → Bool) (i j : ℕ) (lines : ℕ → ℕ → List Record) (b : Record) (l : List Record) → lines i j ≡ b ∷ l → i < n → j < n
+pub countLines-behead : (n : ℕ) (f : ℕ → ℕ → Record → Bool) (i j : ℕ) (lines : ℕ → ℕ → List Record) (b : Record) (l : List Record) → lines i j ≡ b ∷ l → i < n → j < n
     → countLines n f lines ≡ bit (f i j b) + countLines n f (behead i j lines)
-cnt-behead n f i j lines b l e li lj =
+countLines-behead n f i j lines b l e li lj =
     sum-bump n (λ k. sum n (λ h. countLine (f k h) (lines k h))) (λ k. sum n (λ h. countLine (f k h) (behead i j lines k h))) i (bit (f i j b)) li
     (λ k lk ne. sum-ext n (λ h. countLine (f k h) (lines k h)) (λ h. countLine (f k h) (behead i j lines k h)) (λ h lh. rw (both-differ i k j h (λ p q. ne (sym p)))))
     (sum-bump n (λ h. countLine (f i h) (lines i h)) (λ h. countLine (f i h) (behead i j lines i h)) j (bit (f i j b)) lj
     (λ h lh ne. rw (both-differ i i j h (λ p q. ne (sym q))))
     (rw (and-intro (eqb i i) (eqb j j) (eqb-self i) (eqb-self j), e)))
 
-pub cnt-less : (n : ℕ) (f : ℕ → ℕ → Record → Bool) (i j : ℕ) (lines : ℕ → ℕ → List Record) → countLines n f (behead i j lines) ≤ countLines n f lines
-cnt-less n f i j lines =
+pub countLines-beheaded : (n : ℕ) (f : ℕ → ℕ → Record → Bool) (i j : ℕ) (lines : ℕ → ℕ → List Record) → countLines n f (behead i j lines) ≤ countLines n f lines
+countLines-beheaded n f i j lines =
     sum-mono n (λ k. sum n (λ h. countLine (f k h) (behead i j lines k h))) (λ k. sum n (λ h. countLine (f k h) (lines k h)))
-    (λ k lk. sum-mono n (λ h. countLine (f k h) (behead i j lines k h)) (λ h. countLine (f k h) (lines k h)) (λ h lh. behead-le (f k h) i j lines k h))
+    (λ k lk. sum-mono n (λ h. countLine (f k h) (behead i j lines k h)) (λ h. countLine (f k h) (lines k h)) (λ h lh. countLine-behead (f k h) i j lines k h))
 
 pub cnt-put : (n : ℕ) (f : ℕ → ℕ → Record → Bool) (on : ℕ → ℕ → Bool) (x : Record) (lines : ℕ → ℕ → List Record)
     → countLines n f (put on x lines) ≡ countLines n f lines + sum n (λ i. sum n (λ j. bit (on i j && f i j x)))
 cnt-put n f on x lines =
     sum-ext n (λ i. sum n (λ j. countLine (f i j) (put on x lines i j))) (λ i. sum n (λ j. countLine (f i j) (lines i j)) + sum n (λ j. bit (on i j && f i j x)))
     (λ i li. sum-ext n (λ j. countLine (f i j) (put on x lines i j)) (λ j. countLine (f i j) (lines i j) + bit (on i j && f i j x))
-    (λ j lj. by-test (on i j) (λ e. rw e (cntL-snoc (f i j) (lines i j) x)) (λ e. rw e (omega arith)))
+    (λ j lj. by-test (on i j) (λ e. rw e (countLine-more (f i j) (lines i j) x)) (λ e. rw e (omega arith)))
     ∙ sum-add n (λ j. countLine (f i j) (lines i j)) (λ j. bit (on i j && f i j x)))
     ∙ sum-add n (λ i. sum n (λ j. countLine (f i j) (lines i j))) (λ i. sum n (λ j. bit (on i j && f i j x)))
 
-pub cnt-put-none : (n : ℕ) (f : ℕ → ℕ → Record → Bool) (on : ℕ → ℕ → Bool) (x : Record) (lines : ℕ → ℕ → List Record) → ((i j : ℕ) → on i j ≡ true → f i j x ≡ false)
+pub countLines-put-none : (n : ℕ) (f : ℕ → ℕ → Record → Bool) (on : ℕ → ℕ → Bool) (x : Record) (lines : ℕ → ℕ → List Record) → ((i j : ℕ) → on i j ≡ true → f i j x ≡ false)
     → countLines n f (put on x lines) ≡ countLines n f lines
-cnt-put-none n f on x lines h =
+countLines-put-none n f on x lines h =
     let z = cnt-put n f on x lines in
     let y = sum-nil n (λ i. sum n (λ j. bit (on i j && f i j x)))
     (λ i li. sum-nil n (λ j. bit (on i j && f i j x)) (λ j lj. by-test (on i j) (λ e. rw (e, h i j e)) (λ e. rw e))) in
     omega arith
 
-pub cnt-put-one : (n : ℕ) (f : ℕ → ℕ → Record → Bool) (a b : ℕ) (x : Record) (lines : ℕ → ℕ → List Record) → countLines n f (put (between a b) x lines) ≤ countLines n f lines + bit (f a b x)
-cnt-put-one n f a b x lines =
+pub countLines-put-one : (n : ℕ) (f : ℕ → ℕ → Record → Bool) (a b : ℕ) (x : Record) (lines : ℕ → ℕ → List Record) → countLines n f (put (between a b) x lines) ≤ countLines n f lines + bit (f a b x)
+countLines-put-one n f a b x lines =
     let z = cnt-put n f (between a b) x lines in
     let y = sum2-only n (λ i j. bit (between a b i j && f i j x)) a b (bit (f a b x))
     (λ i j li lj ne. rw (both-differ a i b j (λ p q. ne (sym p) (sym q))))
     (rw (and-intro (eqb a a) (eqb b b) (eqb-self a) (eqb-self b)) (omega arith)) in
     omega arith
 
-pub cnt-none : (n : ℕ) (f : ℕ → ℕ → Record → Bool) (lines : ℕ → ℕ → List Record) → OnLines n (λ i j b. f i j b ≡ false) lines → countLines n f lines ≡ 0
-cnt-none n f lines a =
-    sum-nil n (λ i. sum n (λ j. countLine (f i j) (lines i j))) (λ i li. sum-nil n (λ j. countLine (f i j) (lines i j)) (λ j lj. cntL-none (f i j) (lines i j) (a i j li lj)))
+pub countLines-none : (n : ℕ) (f : ℕ → ℕ → Record → Bool) (lines : ℕ → ℕ → List Record) → OnLines n (λ i j b. f i j b ≡ false) lines → countLines n f lines ≡ 0
+countLines-none n f lines a =
+    sum-nil n (λ i. sum n (λ j. countLine (f i j) (lines i j))) (λ i li. sum-nil n (λ j. countLine (f i j) (lines i j)) (λ j lj. countLine-none (f i j) (lines i j) (a i j li lj)))
 
-pub cnt-line : (n : ℕ) (f : ℕ → ℕ → Record → Bool) (lines : ℕ → ℕ → List Record) (i j : ℕ) → i < n → j < n → countLine (f i j) (lines i j) ≤ countLines n f lines
-cnt-line n f lines i j li lj =
+pub countLine-le : (n : ℕ) (f : ℕ → ℕ → Record → Bool) (lines : ℕ → ℕ → List Record) (i j : ℕ) → i < n → j < n → countLine (f i j) (lines i j) ≤ countLines n f lines
+countLine-le n f lines i j li lj =
     let a = sum-term n (λ j. countLine (f i j) (lines i j)) j lj in
     let b = sum-term n (λ i. sum n (λ j. countLine (f i j) (lines i j))) i li in
     omega arith
 
-pub none-cnt : (n : ℕ) (f : ℕ → ℕ → Record → Bool) (lines : ℕ → ℕ → List Record) → countLines n f lines ≡ 0 → OnLines n (λ i j b. f i j b ≡ false) lines
-none-cnt n f lines e i j li lj = none-cntL (f i j) (lines i j) (let z = cnt-line n f lines i j li lj in omega arith)
+pub none-countLines : (n : ℕ) (f : ℕ → ℕ → Record → Bool) (lines : ℕ → ℕ → List Record) → countLines n f lines ≡ 0 → OnLines n (λ i j b. f i j b ≡ false) lines
+none-countLines n f lines e i j li lj = none-countLine (f i j) (lines i j) (let z = countLine-le n f lines i j li lj in omega arith)
 
-pub cnt-at : (n : ℕ) (f : ℕ → ℕ → Record → Bool) (i j : ℕ) (lines : ℕ → ℕ → List Record) (b : Record) (l : List Record) → lines i j ≡ b ∷ l → i < n → j < n → f i j b ≡ true → 0 < countLines n f lines
-cnt-at n f i j lines b l e li lj t = let z = cnt-behead n f i j lines b l e li lj in let y : bit (f i j b) ≡ 1 = rw t in omega arith
+pub countLines-at : (n : ℕ) (f : ℕ → ℕ → Record → Bool) (i j : ℕ) (lines : ℕ → ℕ → List Record) (b : Record) (l : List Record) → lines i j ≡ b ∷ l → i < n → j < n → f i j b ≡ true → 0 < countLines n f lines
+countLines-at n f i j lines b l e li lj t = let z = countLines-behead n f i j lines b l e li lj in let y : bit (f i j b) ≡ 1 = rw t in omega arith
 
 pub count-le : (n : ℕ) (f : ℕ → Bool) → count n f ≤ n
 unfolding count

@@ -24,7 +24,7 @@ use Rattle.protocol.proofs.Accepted.{by-step, unlined}
 use Rattle.protocol.proofs.Invariant.{Entry, Held, History, Invariant, blank, names, naming}
 use Rattle.protocol.proofs.Updates.{append-nil}
 use Rattle.protocol.proofs.CatchUp.{arrive-at-once, one-at-once}
-use Rattle.protocol.proofs.Send.{noted}
+use Rattle.protocol.proofs.SendStep.{noted}
 use Rattle.protocol.proofs.InvariantStep.{note, step-ok}
 
 abbrev pub nothing : History
@@ -36,11 +36,11 @@ pub record Same (G : History) (L : Lists) : Type 0 where
   pub sent : (s c : ℕ) → L .sent s c ≡ naming c 0 (G .sends s)
   pub received : L .received ≡ G .received
 
-sel-snoc : (c k : ℕ) (h : List Entry) (e : Entry) → naming c k (h ++ (e ∷ [])) ≡ naming c k h ++ cond (has (e .set) c) (item (k + length h) (e .text) ∷ []) []
-sel-snoc c k [] e = let z : k + 0 ≡ k = omega arith in rw z
-sel-snoc c k (x ∷ h) e =
+naming-more : (c k : ℕ) (h : List Entry) (e : Entry) → naming c k (h ++ (e ∷ [])) ≡ naming c k h ++ cond (has (e .set) c) (item (k + length h) (e .text) ∷ []) []
+naming-more c k [] e = let z : k + 0 ≡ k = omega arith in rw z
+naming-more c k (x ∷ h) e =
     let z : k + suc (length h) ≡ suc k + length h = omega arith in
-    by-test (has (x .set) c) (λ q. rw (q, z, sel-snoc c (suc k) h e)) (λ q. rw (q, z, sel-snoc c (suc k) h e))
+    by-test (has (x .set) c) (λ q. rw (q, z, naming-more c (suc k) h e)) (λ q. rw (q, z, naming-more c (suc k) h e))
 
 same-send : (G : History) (L : Lists) (s set : ℕ) (text : List ℕ) (l : Report) → Same G L → Same (noted G s (record { set = set; text = text })) (listsStep (send s set text) (accepted l) L)
 same-send G L s set text l S =
@@ -50,7 +50,7 @@ same-send G L s set text l S =
           (λ z. let y = eqb-true u s z in
           let k : 0 + length (G .sends s) ≡ L .count s = (let b = S .count s in omega arith) in
           let w : naming c 0 (G .sends s ++ (record { set = set; text = text } ∷ [])) ≡ L .sent s c ++ cond (has set c) (item (L .count s) text ∷ []) [] =
-          sel-snoc c 0 (G .sends s) (record { set = set; text = text }) ∙ rw (k, S .sent s c) in
+          naming-more c 0 (G .sends s) (record { set = set; text = text }) ∙ rw (k, S .sent s c) in
           rw (y, eqb-self s, w) (by-test (has set c) (λ q. rw q) (λ q. rw (q, append-nil (L .sent s c)))))
           (λ z. rw z (S .sent u c));
       received = S .received;
@@ -68,30 +68,30 @@ same-note G L (radio t c room) (accepted l) S =
 same-note G L (move c to) a S = S
 
 -- the entries from a number on
-sel-append : (c k : ℕ) (h g : List Entry) → naming c k (h ++ g) ≡ naming c k h ++ naming c (k + length h) g
-sel-append c k [] g = let z : k + 0 ≡ k = omega arith in rw z
-sel-append c k (x ∷ h) g =
+naming-append : (c k : ℕ) (h g : List Entry) → naming c k (h ++ g) ≡ naming c k h ++ naming c (k + length h) g
+naming-append c k [] g = let z : k + 0 ≡ k = omega arith in rw z
+naming-append c k (x ∷ h) g =
     let z : k + suc (length h) ≡ suc k + length h = omega arith in
-    by-test (has (x .set) c) (λ q. rw (q, z, sel-append c (suc k) h g)) (λ q. rw (q, z, sel-append c (suc k) h g))
+    by-test (has (x .set) c) (λ q. rw (q, z, naming-append c (suc k) h g)) (λ q. rw (q, z, naming-append c (suc k) h g))
 
-sel-none : (c k : ℕ) (h : List Entry) → ((j : ℕ) → names h j c ≡ false) → naming c k h ≡ []
-sel-none c k [] f = refl
-sel-none c k (x ∷ h) f = rw (f 0) (sel-none c (suc k) h (λ j. f (suc j)))
+naming-none : (c k : ℕ) (h : List Entry) → ((j : ℕ) → names h j c ≡ false) → naming c k h ≡ []
+naming-none c k [] f = refl
+naming-none c k (x ∷ h) f = rw (f 0) (naming-none c (suc k) h (λ j. f (suc j)))
 
-sel-some : (c k : ℕ) (h : List Entry) (j : ℕ) → names h j c ≡ true → (x : Item) × (xs : List Item) × (naming c k h ≡ x ∷ xs)
-sel-some c k [] j e = clash (has 0 c) e (has-zero c)
-sel-some c k (x ∷ h) zero e = (item k (x .text), naming c (suc k) h, rw e)
-sel-some c k (x ∷ h) (suc j) e =
+naming-some : (c k : ℕ) (h : List Entry) (j : ℕ) → names h j c ≡ true → (x : Item) × (xs : List Item) × (naming c k h ≡ x ∷ xs)
+naming-some c k [] j e = clash (has 0 c) e (has-zero c)
+naming-some c k (x ∷ h) zero e = (item k (x .text), naming c (suc k) h, rw e)
+naming-some c k (x ∷ h) (suc j) e =
     by-test (has (x .set) c)
     (λ q. (item k (x .text), naming c (suc k) h, rw q))
-    (λ q. let r = sel-some c (suc k) h j e in (r .0, r .1, rw q (r .2)))
+    (λ q. let r = naming-some c (suc k) h j e in (r .0, r .1, rw q (r .2)))
 
 two-lists : (M : Limits) (F : Floor) (G : History) → Invariant M F G → (s c : ℕ) → c < F .carts → TwoListRule (owes M F s c) (naming c 0 (G .sends s)) (G .received s c)
 unfolding owes
 two-lists M F G I s c lc =
     record {
-      equal = λ e. split ∙ rw (sel-none c (0 + length (take n h)) (drop n h) (clear e)) (append-nil (G .received s c));
-      behind = λ e. let r = sel-some c (0 + length (take n h)) (drop n h) (late e .0) (late e .1) in (r .0, r .1, split ∙ rw (r .2));
+      equal = λ e. split ∙ rw (naming-none c (0 + length (take n h)) (drop n h) (clear e)) (append-nil (G .received s c));
+      behind = λ e. let r = naming-some c (0 + length (take n h)) (drop n h) (late e .0) (late e .1) in (r .0, r .1, split ∙ rw (r .2));
     }
   where
     n : ℕ
@@ -101,7 +101,7 @@ two-lists M F G I s c lc =
     h = G .sends s
 
     split : naming c 0 h ≡ G .received s c ++ naming c (0 + length (take n h)) (drop n h)
-    split = rw (I .recv s c) (ap (naming c 0) (sym (take-append-drop n h)) ∙ sel-append c 0 (take n h) (drop n h))
+    split = rw (I .received-so-far s c) (ap (naming c 0) (sym (take-append-drop n h)) ∙ naming-append c 0 (take n h) (drop n h))
 
     pick : ℕ → Bool
     pick m = isHeld F m && (eqb (F .initiator m) s && (has (F .named m) c && leb (F .next c s) (F .number m)))
@@ -143,11 +143,11 @@ two-lists M F G I s c lc =
 pub started-ok : (M : Limits) (n k : ℕ) → n ≤ M .stations → Invariant M (justStarted n k) nothing
 started-ok M n k fit =
     record {
-      len = λ s. refl;
+      sends-counted = λ s. refl;
       low = λ c s. omega arith;
       run = λ s t h. refl;
       held = λ m h. absurd (empty-room m h);
-      uniq = λ m j h. absurd (empty-room m h);
+      one-room = λ m j h. absurd (empty-room m h);
       owed = λ s j c lc e. clash (has 0 c) e (has-zero c);
       gone = λ m t c h. absurd (empty-room m h);
       acks = λ m t c h. absurd (empty-room m h);
@@ -155,12 +155,12 @@ started-ok M n k fit =
       copies = λ m t c h. absurd (empty-room m h);
       within = λ m t c h. absurd (empty-room m h);
       queues = λ m t c e. clash (has 0 c) e (has-zero c);
-      recs = λ i j li lj. tt;
-      about = λ c i j. refl;
+      records-sound = λ i j li lj. tt;
+      handoffs-right = λ c i j. refl;
       out = λ c s e. refl;
       real = λ c e. clash false e refl;
-      recv = λ s c. refl;
-      begun = refl;
+      received-so-far = λ s c. refl;
+      started = refl;
       senders = λ s h. absurd (omega arith);
       fits = fit;
     }
@@ -206,4 +206,4 @@ unfolding floorAfter listsAfter
 rule-after M F G L [] I S s c lc = rw (S .sent s c, S .received) (two-lists M F G I s c lc)
 rule-after M F G L (e ∷ es) I S s c lc =
     rule-after M (step M F e) (note e (answer M F e) G) (listsStep e (answer M F e) L) es (step-ok M F G I e) (same-note G L e (answer M F e) S) s c
-    (let z = step-size M F (I .begun) e .carts in omega arith)
+    (let z = step-size M F (I .started) e .carts in omega arith)

@@ -11,20 +11,20 @@ use Rattle.protocol.specs.CartSets.{has}
 use Rattle.protocol.specs.Floor.{Floor, Limits, Place, Record, ackList, at, delete, deregister, entered, isHeld, leaving, localTo, multicast, outside, register, travelling}
 use Rattle.protocol.specs.Handoff.{roomOf, rowOf}
 use Rattle.protocol.specs.Claims.{All, Claim, True, eq, is}
-use Rattle.protocol.specs.Blank.{BlankBeyond}
 use Rattle.protocol.specs.Form.{HandoffRecord, acksOf, acksTo, bit, cartRule, copyRule, deregistering, entryRule, floorRule, formRule, handoffOf, handoffRule, handoffs, heldRule, isAckOf, lineRule, multicastNumbers, orderRule, passesForm, placeInside, reaches, recordRule, registering, roomRule, sameHandoffs, sameRow, stationRule}
+use Rattle.protocol.specs.Blank.{BlankBeyond}
 use Rattle.protocol.specs.Ranges.{PlaceInRange}
 use Rattle.protocol.proofs.Tests.{and-false, both-equal, by-eq, by-lt, by-test, clash, on-cond, on-option}
 use Rattle.protocol.proofs.SetLaws.{has-zero, member-below, some-member}
 use Rattle.protocol.proofs.FloorLaws.{outside-is}
 use Rattle.protocol.proofs.Invariant.{Held, Holds}
-use Rattle.protocol.proofs.Updates.{all-map, run-le}
+use Rattle.protocol.proofs.Updates.{all-map, counts-up-le}
 use Rattle.protocol.proofs.CatchUp.{room-some}
-use Rattle.protocol.proofs.Send.{E}
-use Rattle.protocol.proofs.Counting.{OnLines, all-map2, cnt-none, count-none}
-use Rattle.protocol.proofs.RoomFacts.{OfHeld, Reach, RoomFacts, isHandoffOf}
-use Rattle.protocol.proofs.RoomBound.{room}
-use Rattle.protocol.proofs.FormFacts.{Form, found}
+use Rattle.protocol.proofs.SendStep.{E}
+use Rattle.protocol.proofs.Counting.{OnLines, all-map2, count-none, countLines-none}
+use Rattle.protocol.proofs.LineFacts.{LineFacts, OfHeld, Reach, isHandoffOf}
+use Rattle.protocol.proofs.RecordBound.{room}
+use Rattle.protocol.proofs.FormFacts.{FormFacts, room-of-held}
 use Rattle.protocol.proofs.ClaimLaws.{reflect}
 use Rattle.protocol.proofs.Sized.{AcksFit, OnFloor, Sized}
 
@@ -176,7 +176,7 @@ module _ (M : Limits) (F : Floor) where
         let S = sized-of in
         let a : bit (has (F .acked m) c) ≡ 0 = rw (no-member (F .carts) (F .acked m) c (S .messages .acked m (g .slot)) l) in
         let b = count-none (F .stations) (λ t. has (F .acks m t) c) (λ t k. no-member (F .carts) (F .acks m t) c (S .copies .acks m t (g .slot) (let z = S .counts .stations in omega arith)) l) in
-        let d = cnt-none (F .stations) (acksTo (F .initiator m) (F .number m) c) (F .lines) (λ i j li lj. all-map (F .lines i j) (λ r h. not-acked j r (h .1 .1)) (S .lines i j)) in
+        let d = countLines-none (F .stations) (acksTo (F .initiator m) (F .number m) c) (F .lines) (λ i j li lj. all-map (F .lines i j) (λ r h. not-acked j r (h .1 .1)) (S .lines i j)) in
         omega arith
       where
         not-acked : (j : ℕ) (r : Record) → AcksFit (F .carts) r → eqb j (F .initiator m) && isAckOf (F .number m) c r ≡ false
@@ -216,14 +216,14 @@ module _ (M : Limits) (F : Floor) where
     not-handed-off c l i j (deregister d) g = ne-eqb d c (omega arith)
     not-handed-off c l i j (register d row) g = ne-eqb d c (omega arith)
 
-    room-facts : RoomFacts M F
-    room-facts =
+    line-facts : LineFacts M F
+    line-facts =
         record {
           order = λ s t lt'. by-lt s (M .stations) (λ l. P .order s l t lt' .1) (λ l. rw (B .lines .below s t l) refl);
           deleted-acked = λ m t h lt' e. P .held m (h .slot) (is-held m h) .1 .1 .0 t lt' (ap not e);
-          msgs = records-held;
-          dls = λ m t h l. P .copy m (h .slot) (is-held m h) t l .1 .1;
-          tots = λ m c h. by-lt c (F .carts) (λ l. P .held m (h .slot) (is-held m h) .1 .1 .1 c l .0) (λ l. let z = none-beyond m c h l in omega arith);
+          records-held = records-held;
+          deletes-once = λ m t h l. P .copy m (h .slot) (is-held m h) t l .1 .1;
+          acks-once = λ m c h. by-lt c (F .carts) (λ l. P .held m (h .slot) (is-held m h) .1 .1 .1 c l .0) (λ l. let z = none-beyond m c h l in omega arith);
           within = λ m c h p. by-lt c (F .carts) (λ l. P .held m (h .slot) (is-held m h) .1 .1 .1 c l .1 p .0) (λ l. absurd (let z = none-beyond m c h l in omega arith));
         }
 
@@ -243,14 +243,14 @@ module _ (M : Limits) (F : Floor) where
             let y = no-handoff (F .stations) (F .place c) i j (rowOf M (F .next c)) (sized-of .places c) h in
             rw (z, y)
 
-    pub form-of : Form M F
+    pub form-of : FormFacts M F
     form-of =
         record {
           low = λ c s. by-lt c (M .carts) (λ l. by-lt s (M .stations) (λ k. P .cart c l .1 .1 .1 s k) (λ k. let z = B .next .right c s k in omega arith)) (λ l. let z = B .next .below c s l in omega arith);
           run = λ s t lt'. by-lt s (M .stations) (λ l. P .order s l t lt' .0)
               (λ l. let z = B .lines .below s t l in let y = B .sent s l in let x = B .expected t s lt' l in rw (z, y, x) refl);
           kept = λ m h. P .held m (h .slot) (is-held m h) .0;
-          uniq = λ m k a b. P .held m (a .slot) (is-held m a) .1 .0 k (b .slot) (is-held k b);
+          one-room = λ m k a b. P .held m (a .slot) (is-held m a) .1 .0 k (b .slot) (is-held k b);
           acked-passed = λ m c h p. by-lt c (F .carts) (λ l. P .held m (h .slot) (is-held m h) .1 .1 .1 c l .1 p .1) (λ l. absurd (let z = none-beyond m c h l in omega arith));
           copies = λ m t c h lt' e lc. P .copy m (h .slot) (is-held m h) t lt' .1 .0 e c lc;
           within = λ m t c h lt' e. P .copy m (h .slot) (is-held m h) t lt' .0 c (member-below (F .carts) (F .copy m t) c (sized-of .copies .copy m t (h .slot) (station-limit t lt')) e) e;
@@ -261,17 +261,17 @@ module _ (M : Limits) (F : Floor) where
               record { held = in-room m l (q .0); home = q .1 .0; due = q .1 .1 .0; is-named = q .1 .1 .1 })
               (λ k. let z = B .queue .right m t k in clash (has 0 c) (rw z at e) (has-zero c)))
               (λ l. let z = B .queue .below m t l in clash (has 0 c) (rw z at e) (has-zero c));
-          about = handoffs-right;
+          handoffs-right = handoffs-right;
           out = λ c s e. by-lt c (M .carts) (λ l. by-lt s (M .stations) (λ k. P .cart c l .1 .1 .0 (rw e) s k) (λ k. B .next .right c s k)) (λ l. B .next .below c s l);
           real = λ c e. by-lt c (M .carts) (λ l. P .cart c l .1 .0 e) (λ l. let z = B .place c l in clash false (rw z at e) refl);
-          extra = room-facts;
-          begun = P .floor .0;
+          on-lines = line-facts;
+          started = P .floor .0;
           senders = λ s h. by-lt s (F .stations) (λ l. l) (λ l. absurd (by-lt s (M .stations) (λ k. let z = P .station s k .1 l in omega arith) (λ k. let z = B .sent s k in omega arith)));
           fits = sized-of .counts .stations;
         }
 
   -- FROM THE FACTS TO THE CLAUSES
-  module _ (S : Sized M F) (X : Form M F) where
+  module _ (S : Sized M F) (X : FormFacts M F) where
     place-inside : (p : Place) → PlaceInRange (F .stations) p → True (placeInside M F p)
     place-inside outside h = refl
     place-inside (at s) h = h
@@ -280,7 +280,7 @@ module _ (M : Limits) (F : Floor) where
 
     reaches-of : (s n t : ℕ) (p : ℕ → Claim) (r : Reach M (F .waiting) (F .initiator) (F .number) s n t) → True (p (r .m)) → True (reaches M F s n t p)
     reaches-of s n t p r h =
-        let z = found M F X (r .m) (r .held) in
+        let z = room-of-held M F X (r .m) (r .held) in
         let z' : roomOf M F s n ≡ some (r .m) = rw (r .is-initiator, r .is-number) at z in
         rw z' (r .waits, h)
 
@@ -288,7 +288,7 @@ module _ (M : Limits) (F : Floor) where
     record-rule i j (multicast n) a g = reaches-of i n j (λ m. is true) g refl
     record-rule i j (ackList n x) a g =
         let h = g .0 in
-        let z = found M F X (h .m) (h .held) in
+        let z = room-of-held M F X (h .m) (h .held) in
         let z' : roomOf M F j n ≡ some (h .m) = rw (h .is-initiator, h .is-number) at z in
         (rw z' refl, (a, member-positive x (g .1 .0) (g .1 .2)))
     record-rule i j (delete n) a g = reaches-of i n j (λ m. eq (F .acked m) (F .named m)) (g .0) (g .1)
@@ -299,23 +299,23 @@ module _ (M : Limits) (F : Floor) where
     line-rule i j =
         by-lt i (F .stations)
         (λ a. by-lt j (F .stations)
-        (λ b. all-map2 (F .lines i j) (λ r f g. (f .0, (f .1 .0, record-rule i j r (f .1 .1) g))) (S .lines i j) (X .extra .msgs i j a b))
+        (λ b. all-map2 (F .lines i j) (λ r f g. (f .0, (f .1 .0, record-rule i j r (f .1 .1) g))) (S .lines i j) (X .on-lines .records-held i j a b))
         (λ b. rw (no-line (F .stations) (F .carts) i j (F .lines i j) (S .lines i j) (λ x y. omega arith)) tt))
         (λ a. rw (no-line (F .stations) (F .carts) i j (F .lines i j) (S .lines i j) (λ x y. omega arith)) tt)
 
     pub clauses-from : Clauses
     clauses-from =
-        let E = X .extra in
+        let E = X .on-lines in
         record {
-          floor = (X .begun, (S .lengths, ((S .counts .some-stations, S .counts .stations), (S .counts .some-carts, S .counts .carts))));
+          floor = (X .started, (S .lengths, ((S .counts .some-stations, S .counts .stations), (S .counts .some-carts, S .counts .carts))));
           station = λ s l. (S .numbers s, λ k. by-eq (F .sent s) 0 (λ z. z) (λ z. absurd (let y = X .senders s (omega arith) in omega arith)));
           cart = λ c l. (place-inside (F .place c) (S .places c), (X .real c, ((λ e s k. X .out c s (outside-is (F .place c) (not-true (entered (F .place c)) e))), λ s k. X .low c s)));
           room = λ m l. (S .messages .named m l, (S .messages .acked m l, (S .messages .waiting m l, S .messages .text m l)));
           held = λ m l h. let g = in-room m l h in (
             X .kept m g,
             (
-              (λ k j b. X .uniq m k g (in-room k j b)),
-              ((λ t k e. E .deleted-acked m t g k (not-true (has (F .waiting m) t) e)), (λ c lc. (E .tots m c g, λ p. (E .within m c g p, X .acked-passed m c g p)))),
+              (λ k j b. X .one-room m k g (in-room k j b)),
+              ((λ t k e. E .deleted-acked m t g k (not-true (has (F .waiting m) t) e)), (λ c lc. (E .acks-once m c g, λ p. (E .within m c g p, X .acked-passed m c g p)))),
             ),
           );
           entry = λ m l t k. (
@@ -325,10 +325,10 @@ module _ (M : Limits) (F : Floor) where
               (S .copies .queue m t l k, λ c lc e. let q = X .queues m t c e in (is-held m (q .held), (q .home, (q .due, q .is-named)))),
             ),
           );
-          copy = λ m l h t lt'. let g = in-room m l h in ((λ c lc. X .within m t c g lt'), ((λ e c lc. X .copies m t c g lt' e lc), E .dls m t g lt'));
+          copy = λ m l h t lt'. let g = in-room m l h in ((λ c lc. X .within m t c g lt'), ((λ e c lc. X .copies m t c g lt' e lc), E .deletes-once m t g lt'));
           line = λ i a j b. line-rule i j;
           order = λ i a j b. (X .run i j b, E .order i j b);
-          handoff = λ c l i a j b. subst (λ (x : List HandoffRecord). True (sameHandoffs (handoffs c (F .lines i j)) x)) (X .about c i j) (handoffs-same (handoffs c (F .lines i j)));
+          handoff = λ c l i a j b. subst (λ (x : List HandoffRecord). True (sameHandoffs (handoffs c (F .lines i j)) x)) (X .handoffs-right c i j) (handoffs-same (handoffs c (F .lines i j)));
         }
 
     -- and there is nothing beyond the limits
@@ -336,7 +336,7 @@ module _ (M : Limits) (F : Floor) where
     blank-from =
         record {
           sent = λ s l. none-sent s (let z = S .counts .stations in omega arith);
-          expected = λ t s lt' l. let z = none-sent s (let z = S .counts .stations in omega arith) in let y = run-le (F .expected t s) (multicastNumbers (F .lines s t)) (F .sent s) (X .run s t lt') in omega arith;
+          expected = λ t s lt' l. let z = none-sent s (let z = S .counts .stations in omega arith) in let y = counts-up-le (F .expected t s) (multicastNumbers (F .lines s t)) (F .sent s) (X .run s t lt') in omega arith;
           place = λ c l. outside-beyond c (let z = S .counts .carts in omega arith);
           next = record {
             below = λ c s l. X .out c s (outside-beyond c (let z = S .counts .carts in omega arith));

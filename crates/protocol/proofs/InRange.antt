@@ -18,22 +18,22 @@ use Rattle.protocol.specs.Ranges.{InRange, RecordInRange}
 use Rattle.protocol.proofs.Tests.{by-lt, eqb-self, on-cond, on-option, update2-at}
 use Rattle.protocol.proofs.Accepted.{MayRadio, MayWire, by-step, unlined}
 use Rattle.protocol.proofs.Invariant.{Held, History, Invariant}
-use Rattle.protocol.proofs.Updates.{run-le}
+use Rattle.protocol.proofs.Updates.{counts-up-le}
 use Rattle.protocol.proofs.CatchUp.{catch-up-ascent, catchUpAtOnce, one-at-once}
 use Rattle.protocol.proofs.Counting.{all-map2, count-le, sum-le}
-use Rattle.protocol.proofs.RoomFacts.{OfHeld}
+use Rattle.protocol.proofs.LineFacts.{OfHeld}
 use Rattle.protocol.proofs.SumSteps.{arrive-bound}
-use Rattle.protocol.proofs.FormFacts.{Form}
+use Rattle.protocol.proofs.FormFacts.{FormFacts}
 use Rattle.protocol.proofs.Sized.{AcksFit, Sized}
 use Rattle.protocol.proofs.FormTest.{no-line}
 
 -- "with nothing out of range": what the form rule says of every number that is stored, and of p.
 -- a held message's number
-held-number : (M : Limits) (F : Floor) → Form M F → Sized M F → (m : ℕ) → Held M (F .waiting) m → F .number m ≤ M .last
+held-number : (M : Limits) (F : Floor) → FormFacts M F → Sized M F → (m : ℕ) → Held M (F .waiting) m → F .number m ≤ M .last
 held-number M F X S m h = let a = X .kept m h in let b = S .numbers (F .initiator m) in omega arith
 
 -- the numbers and carts of a record
-record-in-range : (M : Limits) (F : Floor) → Form M F → Sized M F → (i j : ℕ) (r : Record) → AcksFit (F .carts) r
+record-in-range : (M : Limits) (F : Floor) → FormFacts M F → Sized M F → (i j : ℕ) (r : Record) → AcksFit (F .carts) r
     → OfHeld M (F .carts) (F .waiting) (F .initiator) (F .number) (F .acked) (F .named) i j r → RecordInRange (M .last) (F .carts) r
 record-in-range M F X S i j (multicast n) a g = let z = held-number M F X S (g .m) (g .held) in rw (g .is-number) at z
 record-in-range M F X S i j (ackList n x) a g = (let h = g .0 in let z = held-number M F X S (h .m) (h .held) in rw (h .is-number) at z, a)
@@ -41,13 +41,13 @@ record-in-range M F X S i j (delete n) a g = let h = g .0 in let z = held-number
 record-in-range M F X S i j (deregister c) a g = g
 record-in-range M F X S i j (register c row) a g = g
 
-pub in-range : (M : Limits) (F : Floor) → Form M F → Sized M F → InRange M F
+pub in-range : (M : Limits) (F : Floor) → FormFacts M F → Sized M F → InRange M F
 in-range M F X S =
     record {
       stations = S .counts .stations;
       carts = S .counts .carts;
       sent = S .numbers;
-      expected = λ t s l. let a = run-le (F .expected t s) (multicastNumbers (F .lines s t)) (F .sent s) (X .run s t l) in let b = S .numbers s in omega arith;
+      expected = λ t s l. let a = counts-up-le (F .expected t s) (multicastNumbers (F .lines s t)) (F .sent s) (X .run s t l) in let b = S .numbers s in omega arith;
       next = λ c s. let a = X .low c s in let b = S .numbers s in omega arith;
       place = S .places;
       initiator = λ m l w. X .senders (F .initiator m) (let a = X .kept m (taken m l w) in omega arith);
@@ -62,7 +62,7 @@ in-range M F X S =
       records = λ i j.
           by-lt i (F .stations)
           (λ a. by-lt j (F .stations)
-          (λ b. all-map2 (F .lines i j) (λ r f g. record-in-range M F X S i j r (f .1 .1) g) (S .lines i j) (X .extra .msgs i j a b))
+          (λ b. all-map2 (F .lines i j) (λ r f g. record-in-range M F X S i j r (f .1 .1) g) (S .lines i j) (X .on-lines .records-held i j a b))
           (λ b. rw (no-line (F .stations) (F .carts) i j (F .lines i j) (S .lines i j) (λ x y. omega arith)) tt))
           (λ a. rw (no-line (F .stations) (F .carts) i j (F .lines i j) (S .lines i j) (λ x y. omega arith)) tt);
     }
@@ -82,7 +82,7 @@ module _ (M : Limits) (F : Floor) (G : History) (I : Invariant M F G) (S : Sized
   most = max (F .stations * suc (M .last)) (F .carts)
 
   expected-most : (t s : ℕ) → t < F .stations → F .expected t s ≤ suc (M .last)
-  expected-most t s l = let a = run-le (F .expected t s) (multicastNumbers (F .lines s t)) (F .sent s) (I .run s t l) in let b = S .numbers s in omega arith
+  expected-most t s l = let a = counts-up-le (F .expected t s) (multicastNumbers (F .lines s t)) (F .sent s) (I .run s t l) in let b = S .numbers s in omega arith
 
   arrival-most : (H : Floor) (t c : ℕ) (row : ℕ → ℕ) → H .stations ≡ F .stations → ((s : ℕ) → H .expected t s ≡ F .expected t s) → t < F .stations → passedOver M H t c row ≤ most
   unfolding most
@@ -125,7 +125,7 @@ module _ (M : Limits) (F : Floor) (G : History) (I : Invariant M F G) (S : Sized
   pub step-most : (e : Event) → PassesAtMost (max (F .stations * suc (M .last)) (F .carts)) (answer M F e)
   unfolding onEnter onMove most
   step-most =
-      by-step M F (λ e X a. PassesAtMost most a) (I .begun) (λ e r. tt)
+      by-step M F (λ e X a. PassesAtMost most a) (I .started) (λ e r. tt)
       (λ t c may. arrival-most F t c (λ s. 0) refl (λ s. refl) (may .station))
       (λ s set text m may. omega arith)
       handled-most

@@ -68,11 +68,11 @@ pub record Queued (M : Limits) (waiting initiator number named : ℕ → ℕ) (p
   pub is-named : has (named m) c ≡ true
 
 pub record Invariant (M : Limits) (F : Floor) (G : History) : Type 0 where
-  pub len : (s : ℕ) → length (G .sends s) ≡ F .sent s
+  pub sends-counted : (s : ℕ) → length (G .sends s) ≡ F .sent s
   pub low : (c s : ℕ) → F .next c s ≤ F .sent s
   pub run : (s t : ℕ) → t < F .stations → CountsUp (F .expected t s) (multicastNumbers (F .lines s t)) (F .sent s)
   pub held : (m : ℕ) → Held M (F .waiting) m → Kept (G .sends) (F .sent) (F .initiator m) (F .number m) (F .named m) (F .text m)
-  pub uniq : (m k : ℕ) → Held M (F .waiting) m → Held M (F .waiting) k → F .initiator m ≡ F .initiator k → F .number m ≡ F .number k → m ≡ k
+  pub one-room : (m k : ℕ) → Held M (F .waiting) m → Held M (F .waiting) k → F .initiator m ≡ F .initiator k → F .number m ≡ F .number k → m ≡ k
   pub owed : (s n c : ℕ) → c < F .carts → names (G .sends s) n c ≡ true → F .next c s ≤ n → Holds M (F .waiting) (F .initiator) (F .number) s n
   pub gone : (m t c : ℕ) → Held M (F .waiting) m → t < F .stations → has (F .waiting m) t ≡ false → has (F .named m) c ≡ true → F .number m < F .next c (F .initiator m)
   pub acks : (m t c : ℕ) → Held M (F .waiting) m → t < F .stations → has (F .acks m t) c ≡ true → F .number m < F .next c (F .initiator m)
@@ -80,11 +80,11 @@ pub record Invariant (M : Limits) (F : Floor) (G : History) : Type 0 where
   pub copies : (m t c : ℕ) → Held M (F .waiting) m → t < F .stations → F .number m < F .expected t (F .initiator m) → c < F .carts → has (F .named m) c ≡ true → F .next c (F .initiator m) ≤ F .number m → has (F .copy m t) c ≡ true
   pub within : (m t c : ℕ) → Held M (F .waiting) m → t < F .stations → has (F .copy m t) c ≡ true → has (F .named m) c ≡ true
   pub queues : (m t c : ℕ) → has (F .queue m t) c ≡ true → Queued M (F .waiting) (F .initiator) (F .number) (F .named) (F .place) (F .next) m t c
-  pub recs : (i j : ℕ) → i < F .stations → j < F .stations → All (Sound (G .sends) (F .next) i j) (F .lines i j)
-  pub about : (c i j : ℕ) → handoffs c (F .lines i j) ≡ handoffOf (F .place c) i j (rowOf M (F .next c))
+  pub records-sound : (i j : ℕ) → i < F .stations → j < F .stations → All (Sound (G .sends) (F .next) i j) (F .lines i j)
+  pub handoffs-right : (c i j : ℕ) → handoffs c (F .lines i j) ≡ handoffOf (F .place c) i j (rowOf M (F .next c))
   pub out : (c s : ℕ) → F .place c ≡ outside → F .next c s ≡ 0
   pub real : (c : ℕ) → entered (F .place c) ≡ true → c < F .carts
-  pub recv : (s c : ℕ) → G .received s c ≡ naming c 0 (take (F .next c s) (G .sends s))
-  pub begun : F .started ≡ true
+  pub received-so-far : (s c : ℕ) → G .received s c ≡ naming c 0 (take (F .next c s) (G .sends s))
+  pub started : F .started ≡ true
   pub senders : (s : ℕ) → 0 < F .sent s → s < F .stations
   pub fits : F .stations ≤ M .stations

@@ -128,9 +128,9 @@ unfoldable pub quickLines : Limits → ℕ → Floor → ℕ → List ℕ → Li
 quickLines M zero F index l = []
 quickLines M (suc k) F index l =
     elim (frameOf M l) [
-    end ↦ []
-    | refusedFrame r ↦ lineOf index (refused r)
-    | taken e size ↦ lineOf index (quickAnswer M F e) ++ quickLines M k (quickStep M F e) (suc index) (drop size l)
+      | end ↦ []
+      | refusedFrame r ↦ lineOf index (refused r)
+      | taken e size ↦ lineOf index (quickAnswer M F e) ++ quickLines M k (quickStep M F e) (suc index) (drop size l)
     ]
 
 -- one line and the rest

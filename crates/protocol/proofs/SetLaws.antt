@@ -1,17 +1,19 @@
 -- The laws of sets as numbers: who is in a union, a difference, a set with or without one; sets below 2^n; equal sets.
-use mathlib.Core.Path.{_≡_, refl, sym, ap, ap₂, _∙_, subst}
-use mathlib.Core.Bool.{Bool, true, false, cond, not, _&&_, _||_}
-use Prim.Native.Nat.{ℕ, zero, suc, _+_, _*_, _/_, _%_, _^_, _≤_, _<_, min, max}
-use native.Mathlib.Nat.{mod-lt, div-add-mod', pow-suc, le-of-suc-le-suc, not-suc-le-zero, zero-lt-suc, div-one, lt-of-le-of-lt, zero-div, mul-mod-left, mul-div-cancel, div-eq-of-lt}
+use mathlib.Core.Path.{ap, ap₂, refl, subst, sym, _∙_, _≡_}
+use mathlib.Core.Bool.{_&&_, Bool, cond, false, not, true, _||_}
+use Prim.Native.Nat.{_%_, _*_, _+_, _/_, _<_, _^_, max, min, suc, zero, ℕ}
+use native.Mathlib.Nat.{div-add-mod', div-eq-of-lt, div-one, le-of-suc-le-suc, lt-of-le-of-lt, mod-lt, mul-div-cancel, mul-mod-left, not-suc-le-zero, pow-suc, zero-div, zero-lt-suc}
 use native.Mathlib.Omega.{arith}
-use lib.Dec.{eqb, eqb·zero-suc, eqb·suc-zero, eqb·suc-suc}
-use lib.Arith.{lt-one, digits-mod}
-use lib.Pow.{shr-shr, pow-lt, pow-pos, pow-mono}
-use lib.Bits.{bitAnd, bitOr, bitXor, and-shr, or-shr, xor-shr, and-step, or-step, xor-step, differ, or-lt, xor-lt, and-le-l, or-shifted-r}
-use borrow.Author.Tests.{not-true, not-false, ne-eqb}
+use lib.Dec.{eqb, eqb·suc-suc, eqb·suc-zero, eqb·zero-suc}
+use lib.Arith.{digits-mod, lt-one}
+use lib.Pow.{pow-lt, pow-mono, pow-pos, shr-shr}
+use lib.Bits.{and-le-l, and-shr, and-step, bitAnd, bitOr, bitXor, differ, or-lt, or-shifted-r, or-shr, or-step, xor-lt, xor-shr, xor-step}
+use borrow.Author.Tests.{ne-eqb, not-false, not-true}
 use Rattle.protocol.specs.Folds.{every}
-use Rattle.protocol.specs.CartSets.{digit, has, union, minus, with, without, setOf}
-use Rattle.protocol.proofs.Tests.{by-test, by-lt, by-eq, clash, eqb-self, every-at, every-fails}
+use Rattle.protocol.specs.CartSets.{digit, has, minus, setOf, union, with, without}
+use Rattle.protocol.specs.Floor.{at}
+use Rattle.protocol.specs.Step.{step}
+use Rattle.protocol.proofs.Tests.{by-eq, by-lt, by-test, clash, eqb-self, every-at, every-fails}
 
 -- DIGITS
 

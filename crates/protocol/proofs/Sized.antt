@@ -25,7 +25,7 @@ use Rattle.protocol.proofs.Accepted.{MayMove, MayRadio, MaySend, MayWir
 use Rattle.protocol.proofs.Invariant.{History, Invariant, blank}
 use Rattle.protocol.proofs.Updates.{all-append}
 use Rattle.protocol.proofs.CatchUp.{arrive-at-once, catchUpAtOnce, docked, foundIs, one-at-once}
-use Rattle.protocol.proofs.Handoffs.{tag-reg}
+use Rattle.protocol.proofs.HandoffSteps.{registering-is}
 use Rattle.protocol.proofs.Counting.{all-rest}
 use Rattle.protocol.proofs.SumRun.{initiator-on-floor}
 
@@ -250,8 +250,8 @@ module _ (M : Limits) where
           messages = P .messages;
         }
     handled-sized i j (register c row) l may =
-        let z : registering row ∷ handoffs c l ≡ handoffOf (F .place c) i j (rowOf M (F .next c)) = rw (may .line, eqb-self c) at (I .about c i j) in
-        let y = tag-reg (F .place c) i j (rowOf M (F .next c)) row (handoffs c l) z in
+        let z : registering row ∷ handoffs c l ≡ handoffOf (F .place c) i j (rowOf M (F .next c)) = rw (may .line, eqb-self c) at (I .handoffs-right c i j) in
+        let y = registering-is (F .place c) i j (rowOf M (F .next c)) row (handoffs c l) z in
         arrived-sized (unlined F i j) j c (entryOf row) (may .to) (I .real c (rw (y .0))) (popped-sized i j)
 
     -- radio
@@ -341,7 +341,7 @@ module _ (M : Limits) where
 pub step-sized : (M : Limits) (F : Floor) (G : History) → Invariant M F G → Sized M F → (e : Event) → Sized M (step M F e)
 unfolding onEnter
 step-sized M F G I S =
-    by-step M F (λ e X a. Sized M X) (I .begun) (λ e r. S)
+    by-step M F (λ e X a. Sized M X) (I .started) (λ e r. S)
     (λ t c may. arrived-sized M F t c (λ s. 0) (may .station) (may .cart) S)
     (λ s set text m may. sent-sized M F s set text m may S)
     (handled-sized M F G I S)

@@ -17,10 +17,10 @@ use Rattle.protocol.proofs.Tests.{eqb-self, on-cond, on-option}
 use Rattle.protocol.proofs.FloorLaws.{outside-is}
 use Rattle.protocol.proofs.Accepted.{MayWire, by-step, unlined}
 use Rattle.protocol.proofs.Invariant.{Held, History, Invariant}
-use Rattle.protocol.proofs.Handoffs.{row-is-next, tag-reg}
+use Rattle.protocol.proofs.HandoffSteps.{registering-is, row-is-next}
 use Rattle.protocol.proofs.InvariantStep.{note, step-ok}
 use Rattle.protocol.proofs.Counting.{sum-nil, sum-zero}
-use Rattle.protocol.proofs.SumSteps.{arrive-sum, mcast-sum, radio-sum}
+use Rattle.protocol.proofs.SumSteps.{arrive-sum, multicast-sum, radio-sum}
 
 -- what p alone adds
 by-p : (a t p : ℕ) → a ≡ t + p → a ≡ t + (0 + p)
@@ -35,15 +35,15 @@ module _ (M : Limits) (F : Floor) (G : History) (I : Invariant M F G) where
 
   handle-sum : (i j : ℕ) (r : Record) (l : List Record) → MayWire F i j r l → Gains (wire i j) (handle M (unlined F i j) i j r)
   unfolding handle onMulticast onAckList onDelete onDeregister onRegister roomOf total
-  handle-sum i j (multicast n) l may = on-option (Gains (wire i j)) (roomOf M F i n) (λ q. idle (total F)) (λ m q. by-p _ _ _ (mcast-sum M (unlined F i j) m i j n (may .from)))
+  handle-sum i j (multicast n) l may = on-option (Gains (wire i j)) (roomOf M F i n) (λ q. idle (total F)) (λ m q. by-p _ _ _ (multicast-sum M (unlined F i j) m i j n (may .from)))
   handle-sum i j (ackList n set) l may =
       on-option (Gains (wire i j)) (roomOf M F j n) (λ q. idle (total F))
       (λ m q. on-cond (Gains (wire i j)) (eqb (union (F .acked m) set) (F .named m)) (λ b. idle (total F)) (λ b. idle (total F)))
   handle-sum i j (delete n) l may = on-option (Gains (wire i j)) (roomOf M F i n) (λ q. idle (total F)) (λ m q. idle (total F))
   handle-sum i j (deregister c) l may = idle (total F)
   handle-sum i j (register c row) l may =
-      let z : registering row ∷ handoffs c l ≡ handoffOf (F .place c) i j (rowOf M (F .next c)) = rw (may .line, eqb-self c) at (I .about c i j) in
-      let y = tag-reg (F .place c) i j (rowOf M (F .next c)) row (handoffs c l) z in
+      let z : registering row ∷ handoffs c l ≡ handoffOf (F .place c) i j (rowOf M (F .next c)) = rw (may .line, eqb-self c) at (I .handoffs-right c i j) in
+      let y = registering-is (F .place c) i j (rowOf M (F .next c)) row (handoffs c l) z in
       by-p _ _ _ (arrive-sum M (unlined F i j) j c (entryOf row) (I .real c (rw (y .0))) (λ s. ap (λ (f : List ℕ). entryOf f s) (y .1 .0) ∙ row-is-next M F G I c s))
 
 -- the initiator of a held message is on the floor
@@ -54,7 +54,7 @@ initiator-on-floor M F G I m h = I .senders (F .initiator m) (let z = I .held m 
 pub step-sum : (M : Limits) (F : Floor) (G : History) → Invariant M F G → (e : Event) → total (step M F e) ≡ total F + gain e (answer M F e)
 unfolding onEnter withMessage onMove total
 step-sum M F G I =
-    by-step M F (λ e X a. total X ≡ total F + gain e a) (I .begun) (λ e r. idle M F G I (total F))
+    by-step M F (λ e X a. total X ≡ total F + gain e a) (I .started) (λ e r. idle M F G I (total F))
     (λ t c may. by-p _ _ _ (arrive-sum M F t c (λ s. 0) (may .cart) (λ s. sym (I .out c s (outside-is (F .place c) (may .is-outside))))))
     (λ s set text m may. idle M F G I (total F))
     (handle-sum M F G I)

@@ -92,10 +92,10 @@ module _ (M : Limits) (F : Floor) (t c : ℕ) (row : ℕ → ℕ) where
       (sum-mono (F .stations) (λ s. upto s - row s) (λ s. F .expected t s - row s) (λ s ls. let a = rises s .1 in omega arith))
 
 -- multicast: p counts the carts that are passed over
-pub mcast-sum : (M : Limits) (F : Floor) (m s t n : ℕ) → s < F .stations
+pub multicast-sum : (M : Limits) (F : Floor) (m s t n : ℕ) → s < F .stations
     → total (buffer F m t s n) ≡ total F + count (F .carts) (passesOver F m t s n)
 unfolding total buffer
-mcast-sum M F m s t n ls =
+multicast-sum M F m s t n ls =
     total-up (F .carts) (F .stations) (F .next) (buffer F m t s n .next) (λ c u. cond (eqb u s) (cond (passesOver F m t s n c) 1 0) 0)
     (λ c u lc lu. by-test (eqb u s)
     (λ e. by-test (passesOver F m t s n c)

@@ -75,10 +75,10 @@ two-list-rule M F n k l a es s c lc =
 -- THE SUM RULE: "Over any run from a start, the sum of all carts' next numbers equals accepted radio steps plus all p"
 pub sum-rule : (M : Limits) (F : Floor) (n k : ℕ) (l : Report) → answer M F (start n k) ≡ accepted l → (es : List Event)
     → total (floorAfter M (step M F (start n k)) es) ≡ gains M (step M F (start n k)) es
-sum-rule M F n k l a es = from-start (λ X. total (floorAfter M X es) ≡ gains M X es) M F n k l a (λ fit. begun fit)
+sum-rule M F n k l a es = from-start (λ X. total (floorAfter M X es) ≡ gains M X es) M F n k l a from-fresh
   where
-    begun : CountsFit M n k → total (floorAfter M (justStarted n k) es) ≡ gains M (justStarted n k) es
-    begun fit = let a = sums M (justStarted n k) nothing (started-ok M n k (fit .stations)) es in let b = started-total n k in omega arith
+    from-fresh : CountsFit M n k → total (floorAfter M (justStarted n k) es) ≡ gains M (justStarted n k) es
+    from-fresh fit = let a = sums M (justStarted n k) nothing (started-ok M n k (fit .stations)) es in let b = started-total n k in omega arith
 
 -- "In a register step p is at most the sum, over initiators, of expected number minus next number, where positive"
 pub register-bound : (M : Limits) (F : Floor) (t c : ℕ) (row : List ℕ) → onRegister M F t c row .report .p ≤ sum (F .stations) (λ s. F .expected t s - entryOf row s)

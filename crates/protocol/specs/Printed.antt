@@ -51,9 +51,9 @@ unfoldable pub linesFrom : Limits → ℕ → Floor → ℕ → List ℕ → Lis
 linesFrom M zero F index l = []
 linesFrom M (suc k) F index l =
     elim (frameOf M l) [
-    end ↦ []
-    | refusedFrame r ↦ lineOf index (refused r)
-    | taken e size ↦ lineOf index (answer M F e) ++ linesFrom M k (step M F e) (suc index) (drop size l)
+      | end ↦ []
+      | refusedFrame r ↦ lineOf index (refused r)
+      | taken e size ↦ lineOf index (answer M F e) ++ linesFrom M k (step M F e) (suc index) (drop size l)
     ]
 
 -- what the program prints for these octets; a frame has an octet at least, so there are no more frames than octets

@@ -20,38 +20,38 @@ use Rattle.protocol.proofs.FloorLaws.{on-put}
 use Rattle.protocol.proofs.Accepted.{MayRadio}
 use Rattle.protocol.proofs.Invariant.{Entry, Held, History, Invariant, Sound}
 use Rattle.protocol.proofs.CatchUp.{one-at-once}
-use Rattle.protocol.proofs.Counting.{cnt-none, cnt-put-one, cntL-snoc, count-at, count-ext, count-mono, count-none, count-off, count-one, on-lines-map, on-lines-put}
-use Rattle.protocol.proofs.RoomFacts.{DeletesAfter, OfHeld, RoomFacts, advance-room, dels-quiet, pop-room, push-room}
+use Rattle.protocol.proofs.Counting.{count-at, count-ext, count-mono, count-none, count-off, count-one, countLine-more, countLines-none, countLines-put-one, on-lines-map, on-lines-put}
+use Rattle.protocol.proofs.LineFacts.{DeletesAfter, LineFacts, OfHeld, deletes-after-quiet, multicast-taken-lines, put-lines, taken-lines}
 
-pub dereg-room : (M : Limits) (F : Floor) (i t c : ℕ) (l : List Record) → F .lines i t ≡ deregister c ∷ l → c < F .carts → RoomFacts M F
-    → RoomFacts M (onDeregister M (onLines F (behead i t (F .lines))) i t c .floor)
+pub deregister-lines : (M : Limits) (F : Floor) (i t c : ℕ) (l : List Record) → F .lines i t ≡ deregister c ∷ l → c < F .carts → LineFacts M F
+    → LineFacts M (onDeregister M (onLines F (behead i t (F .lines))) i t c .floor)
 unfolding onDeregister
-dereg-room M F i t c l e lc X =
-    push-room M (onLines F (behead i t (F .lines))) t i (register c (rowOf M (F .next c))) refl (λ n. refl) (λ n c. refl) lc (pop-room M F i t (deregister c) l e (λ k d. d) X)
+deregister-lines M F i t c l e lc X =
+    put-lines M (onLines F (behead i t (F .lines))) t i (register c (rowOf M (F .next c))) refl (λ n. refl) (λ n c. refl) lc (taken-lines M F i t (deregister c) l e (λ k d. d) X)
 
-pub mcast-room : (M : Limits) (F : Floor) (s t n : ℕ) (l : List Record) → F .lines s t ≡ multicast n ∷ l → RoomFacts M F
-    → RoomFacts M (onMulticast M (onLines F (behead s t (F .lines))) s t n .floor)
+pub multicast-lines : (M : Limits) (F : Floor) (s t n : ℕ) (l : List Record) → F .lines s t ≡ multicast n ∷ l → LineFacts M F
+    → LineFacts M (onMulticast M (onLines F (behead s t (F .lines))) s t n .floor)
 unfolding onMulticast buffer roomOf
-mcast-room M F s t n l e X =
-    on-option (λ (d : Done). RoomFacts M (d .floor)) (roomOf M F s n) (λ q. advance-room M F s t n l e X) (λ m q. advance-room M F s t n l e X)
+multicast-lines M F s t n l e X =
+    on-option (λ (d : Done). LineFacts M (d .floor)) (roomOf M F s n) (λ q. multicast-taken-lines M F s t n l e X) (λ m q. multicast-taken-lines M F s t n l e X)
 
 -- what is acknowledged has been passed
-not-ack : (sends : ℕ → List Entry) (next : ℕ → ℕ → ℕ) (s n c : ℕ) → next c s ≤ n → (i j : ℕ) (b : Record) → Sound sends next i j b → eqb j s && isAckOf n c b ≡ false
-not-ack sends next s n c le i j (multicast k) p = and-false (eqb j s)
-not-ack sends next s n c le i j (ackList k x) p =
+no-ack-yet : (sends : ℕ → List Entry) (next : ℕ → ℕ → ℕ) (s n c : ℕ) → next c s ≤ n → (i j : ℕ) (b : Record) → Sound sends next i j b → eqb j s && isAckOf n c b ≡ false
+no-ack-yet sends next s n c le i j (multicast k) p = and-false (eqb j s)
+no-ack-yet sends next s n c le i j (ackList k x) p =
     by-test (eqb j s && (eqb k n && has x c))
     (λ q. let a = eqb-true j s (and-left (eqb j s) (eqb k n && has x c) q) in
     let b = and-right (eqb j s) (eqb k n && has x c) q in
     let k' = eqb-true k n (and-left (eqb k n) (has x c) b) in
     absurd (let z = p c (and-right (eqb k n) (has x c) b) in let z' : k < next c s = rw a at z in omega arith))
     (λ q. q)
-not-ack sends next s n c le i j (delete k) p = and-false (eqb j s)
-not-ack sends next s n c le i j (deregister d) p = and-false (eqb j s)
-not-ack sends next s n c le i j (register d row) p = and-false (eqb j s)
+no-ack-yet sends next s n c le i j (delete k) p = and-false (eqb j s)
+no-ack-yet sends next s n c le i j (deregister d) p = and-false (eqb j s)
+no-ack-yet sends next s n c le i j (register d row) p = and-false (eqb j s)
 
-pub passed-by : (M : Limits) (F : Floor) (G : History) → Invariant M F G → (m c : ℕ) → Held M (F .waiting) m
+pub acked-has-passed : (M : Limits) (F : Floor) (G : History) → Invariant M F G → (m c : ℕ) → Held M (F .waiting) m
     → 0 < ackCount (F .stations) (F .acked) (F .acks) (F .initiator) (F .number) (F .lines) m c → F .number m < F .next c (F .initiator m)
-passed-by M F G I m c h t =
+acked-has-passed M F G I m c h t =
     by-test (ltb (F .number m) (F .next c (F .initiator m)))
     (λ q. ltb-true (F .number m) (F .next c (F .initiator m)) q)
     (λ q. let le = ltb-false (F .number m) (F .next c (F .initiator m)) q in
@@ -59,13 +59,13 @@ passed-by M F G I m c h t =
     let b : count (F .stations) (λ t. has (F .acks m t) c) ≡ 0 =
     count-none (F .stations) (λ t. has (F .acks m t) c) (λ u lu. by-test (has (F .acks m u) c) (λ y. absurd (let z = I .acks m u c h lu y in omega arith)) (λ y. y)) in
     let d : countLines (F .stations) (acksTo (F .initiator m) (F .number m) c) (F .lines) ≡ 0 =
-    cnt-none (F .stations) (acksTo (F .initiator m) (F .number m) c) (F .lines)
+    countLines-none (F .stations) (acksTo (F .initiator m) (F .number m) c) (F .lines)
     (on-lines-map (F .stations) (Sound (G .sends) (F .next)) (λ i j b. acksTo (F .initiator m) (F .number m) c i j b ≡ false) (F .lines)
-    (λ i j b p. not-ack (G .sends) (F .next) (F .initiator m) (F .number m) c le i j b p) (I .recs)) in
+    (λ i j b p. no-ack-yet (G .sends) (F .next) (F .initiator m) (F .number m) c le i j b p) (I .records-sound)) in
     omega arith)
 
 -- radio: the cart joins the ack list
-module _ (M : Limits) (F : Floor) (G : History) (m t c : ℕ) (I : Invariant M F G) (X : RoomFacts M F) (q0 : has (F .queue m t) c ≡ true) (lt : t < F .stations) (lc : c < F .carts) where
+module _ (M : Limits) (F : Floor) (G : History) (m t c : ℕ) (I : Invariant M F G) (X : LineFacts M F) (q0 : has (F .queue m t) c ≡ true) (lt : t < F .stations) (lc : c < F .carts) where
   T : ℕ → ℕ → ℕ
   T = ackCount (F .stations) (F .acked) (F .acks) (F .initiator) (F .number) (F .lines)
 
@@ -80,14 +80,14 @@ module _ (M : Limits) (F : Floor) (G : History) (m t c : ℕ) (I : Invariant M F
   unfolding T
   fresh =
       let q = I .queues m t c q0 in
-      let z = passed-by M F G I m c (q .held) in
+      let z = acked-has-passed M F G I m c (q .held) in
       by-test (eqb (T m c) 0) (λ e. eqb-true (T m c) 0 e)
       (λ e. absurd (let ne : T m c ≡ 0 → ⊥ = eqb-false (T m c) 0 e in let y = z (omega arith) in let v = q .due in omega arith))
 
   -- no other tally grows
-  keeps : (k d : ℕ) → (k ≡ m → d ≡ c → ⊥) → T' k d ≤ T k d
+  either-way : (k d : ℕ) → (k ≡ m → d ≡ c → ⊥) → T' k d ≤ T k d
   unfolding T T' A
-  keeps k d ne =
+  either-way k d ne =
       let z = count-mono (F .stations) (λ u. has (A k u) d) (λ u. has (F .acks k u) d)
       (λ u. on-update2 (λ x. has x d ≡ true → has (F .acks k u) d ≡ true) (F .acks) m t (with (F .acks m t) c) k u
       (λ y v e. or-cases (has (F .acks m t) d) (eqb c d) (sym (has-with (F .acks m t) c d) ∙ e)
@@ -105,25 +105,25 @@ module _ (M : Limits) (F : Floor) (G : History) (m t c : ℕ) (I : Invariant M F
       (λ y e. absurd (let w = count-at (F .stations) (λ u. has (F .acks m u) c) u lu e in omega arith))) in
       omega arith
 
-  receive-room : RoomFacts M (receive F m t c)
+  receive-lines : LineFacts M (receive F m t c)
   unfolding T T' A receive
-  receive-room =
+  receive-lines =
       record {
-        tots = λ k d h. by-test (eqb k m && eqb d c)
+        acks-once = λ k d h. by-test (eqb k m && eqb d c)
             (λ e. let z = both-equal k m d c e in rw (z .0, z .1) one)
-            (λ e. let z = keeps k d (not-both-equal k m d c e) in let y = X .tots k d h in omega arith);
+            (λ e. let z = either-way k d (not-both-equal k m d c e) in let y = X .acks-once k d h in omega arith);
         within = λ k d h p. by-test (eqb k m && eqb d c)
             (λ e. let z = both-equal k m d c e in rw (z .0, z .1) (I .queues m t c q0 .is-named))
-            (λ e. let z = keeps k d (not-both-equal k m d c e) in X .within k d h (omega arith));
+            (λ e. let z = either-way k d (not-both-equal k m d c e) in X .within k d h (omega arith));
         order = X .order;
         deleted-acked = X .deleted-acked;
-        msgs = X .msgs;
-        dls = X .dls;
+        records-held = X .records-held;
+        deletes-once = X .deletes-once;
       }
 
 -- the ack list goes to the initiator
 module _ (M : Limits) (F : Floor) (m t c : ℕ) (uniq : (m k : ℕ) → Held M (F .waiting) m → Held M (F .waiting) k → F .initiator m ≡ F .initiator k → F .number m ≡ F .number k → m ≡ k)
-    (H : Held M (F .waiting) m) (X : RoomFacts M F) (lt : t < F .stations) (lc : c < F .carts) (mine : has (F .acks m t) c ≡ true) where
+    (H : Held M (F .waiting) m) (X : LineFacts M F) (lt : t < F .stations) (lc : c < F .carts) (mine : has (F .acks m t) c ≡ true) where
   r0 : Record
   r0 = ackList (F .number m) (F .acks m t)
 
@@ -134,11 +134,11 @@ module _ (M : Limits) (F : Floor) (m t c : ℕ) (uniq : (m k : ℕ) → Held M (
   unfolding A0
   off d u = rw (eqb-self m) (by-test (eqb u t) (λ e. rw e (has-zero d)) (λ e. rw e))
 
-  tally-same : (k d : ℕ) → Held M (F .waiting) k
+  acks-moved : (k d : ℕ) → Held M (F .waiting) k
       → ackCount (F .stations) (F .acked) A0 (F .initiator) (F .number) (put (between t (F .initiator m)) r0 (F .lines)) k d ≤ ackCount (F .stations) (F .acked) (F .acks) (F .initiator) (F .number) (F .lines) k d
   unfolding A0 r0
-  tally-same k d h =
-      let z = cnt-put-one (F .stations) (acksTo (F .initiator k) (F .number k) d) t (F .initiator m) r0 (F .lines) in
+  acks-moved k d h =
+      let z = countLines-put-one (F .stations) (acksTo (F .initiator k) (F .number k) d) t (F .initiator m) r0 (F .lines) in
       by-test (eqb k m)
       (λ e. let y = eqb-true k m e in
       let v : acksTo (F .initiator m) (F .number m) d t (F .initiator m) r0 ≡ has (F .acks m t) d = rw (eqb-self (F .initiator m), eqb-self (F .number m)) in
@@ -161,29 +161,29 @@ module _ (M : Limits) (F : Floor) (m t c : ℕ) (uniq : (m k : ℕ) → Held M (
       let v' : bit (acksTo (F .initiator k) (F .number k) d t (F .initiator m) r0) ≡ 0 = rw v in
       omega arith)
 
-  flush-room : RoomFacts M (sendAcks F m t)
+  acks-sent-lines : LineFacts M (sendAcks F m t)
   unfolding A0 r0 sendAcks
-  flush-room =
+  acks-sent-lines =
       record {
-        order = λ s u lu. on-put (DeletesAfter (F .expected u s)) (between t (F .initiator m)) r0 (F .lines) s u (λ e. dels-quiet (F .expected u s) (F .lines s u) r0 refl (X .order s u lu)) (λ e. X .order s u lu);
-        msgs = on-lines-put (F .stations) (OfHeld M (F .carts) (F .waiting) (F .initiator) (F .number) (F .acked) (F .named)) (between t (F .initiator m)) r0 (F .lines) (X .msgs)
+        order = λ s u lu. on-put (DeletesAfter (F .expected u s)) (between t (F .initiator m)) r0 (F .lines) s u (λ e. deletes-after-quiet (F .expected u s) (F .lines s u) r0 refl (X .order s u lu)) (λ e. X .order s u lu);
+        records-held = on-lines-put (F .stations) (OfHeld M (F .carts) (F .waiting) (F .initiator) (F .number) (F .acked) (F .named)) (between t (F .initiator m)) r0 (F .lines) (X .records-held)
             (λ i j li lj e. let z = both-equal t i (F .initiator m) j e in (record { m = m; held = H; is-initiator = z .1; is-number = refl }, (c, lc, mine)));
-        dls = λ k u h lu. on-put (λ l. countLine (isDeleteOf (F .number k)) l ≤ 1) (between t (F .initiator m)) r0 (F .lines) (F .initiator k) u
-            (λ e. let z = cntL-snoc (isDeleteOf (F .number k)) (F .lines (F .initiator k) u) r0 in let y = X .dls k u h lu in omega arith) (λ e. X .dls k u h lu);
-        tots = λ k d h. let z = tally-same k d h in let y = X .tots k d h in omega arith;
-        within = λ k d h p. let z = tally-same k d h in X .within k d h (omega arith);
+        deletes-once = λ k u h lu. on-put (λ l. countLine (isDeleteOf (F .number k)) l ≤ 1) (between t (F .initiator m)) r0 (F .lines) (F .initiator k) u
+            (λ e. let z = countLine-more (isDeleteOf (F .number k)) (F .lines (F .initiator k) u) r0 in let y = X .deletes-once k u h lu in omega arith) (λ e. X .deletes-once k u h lu);
+        acks-once = λ k d h. let z = acks-moved k d h in let y = X .acks-once k d h in omega arith;
+        within = λ k d h p. let z = acks-moved k d h in X .within k d h (omega arith);
         deleted-acked = X .deleted-acked;
       }
 
-pub radio-room : (M : Limits) (F : Floor) (G : History) (m t c : ℕ) → Invariant M F G → RoomFacts M F → MayRadio M F t c m → RoomFacts M (handOver M F m t c .floor)
+pub radio-lines : (M : Limits) (F : Floor) (G : History) (m t c : ℕ) → Invariant M F G → LineFacts M F → MayRadio M F t c m → LineFacts M (handOver M F m t c .floor)
 unfolding handOver receive
-radio-room M F G m t c I X may =
+radio-lines M F G m t c I X may =
     let q = may .queued in
     let R = receive F m t c in
-    let XR = receive-room M F G m t c I X q (may .station) (may .cart) in
+    let XR = receive-lines M F G m t c I X q (may .station) (may .cart) in
     let mine : has (R .acks m t) c ≡ true =
     rw (update2-at (F .acks) m t (with (F .acks m t) c)) (has-with (F .acks m t) c c ∙ or-right (has (F .acks m t) c) (eqb c c) (eqb-self c)) in
     rw (one-at-once M (sendAcksIfAll R m t) t c (F .initiator m))
-    (on-cond (λ (x : Floor). RoomFacts M x) (allAcked R m t)
-    (λ e. flush-room M R m t c (I .uniq) (I .queues m t c q .held) XR (may .station) (may .cart) mine)
+    (on-cond (λ (x : Floor). LineFacts M x) (allAcked R m t)
+    (λ e. acks-sent-lines M R m t c (I .one-room) (I .queues m t c q .held) XR (may .station) (may .cart) mine)
     (λ e. XR))

@@ -17,14 +17,14 @@ use Rattle.protocol.specs.Wired.{addAcks, buffer, isQueued, isStruck, on
 use Rattle.protocol.proofs.Tests.{and-intro, and-left, and-right, by-test, clash, on-cond, on-option, on-update, on-update2, or-cases, update-at, update2-at}
 use Rattle.protocol.proofs.SetLaws.{has-minus, has-union, setOf-member}
 use Rattle.protocol.proofs.Invariant.{Held, History, Invariant, Queued, blank, names}
-use Rattle.protocol.proofs.Updates.{Rise, advance, home-local, homeb, over, push-on, re-acked, re-copy, rise}
+use Rattle.protocol.proofs.Updates.{Rise, acked-changed, copy-changed, isHome, local-is-home, multicast-taken, numbers-rise, received-over, record-put}
 use Rattle.protocol.proofs.CatchUp.{room-none, room-some}
 
 -- ack list, its record off the line
 module _ (M : Limits) (F : Floor) (G : History) (i s n set : ℕ) (hs : (c : ℕ) → has set c ≡ true → n < F .next c s) (I : Invariant M F G) where
-  credit-ok : (m : ℕ) → F .initiator m ≡ s → F .number m ≡ n → Invariant M (addAcks F m set) G
-  credit-ok m is-i is-n =
-      re-acked M F G I (update (F .acked) m (union (F .acked m) set))
+  acks-added-ok : (m : ℕ) → F .initiator m ≡ s → F .number m ≡ n → Invariant M (addAcks F m set) G
+  acks-added-ok m is-i is-n =
+      acked-changed M F G I (update (F .acked) m (union (F .acked m) set))
       (λ k c h. on-update (λ x. has x c ≡ true → F .number k < F .next c (F .initiator k)) (F .acked) m (union (F .acked m) set) k
       (λ z e. or-cases (has (F .acked m) c) (has set c) (sym (has-union (F .acked m) set c) ∙ e)
       (λ q. rw z (I .acked m c (rw z at h) q))
@@ -32,38 +32,38 @@ module _ (M : Limits) (F : Floor) (G : History) (i s n set : ℕ) (hs : (c : ℕ
       (λ z e. I .acked k c h e))
 
   -- the whole set has acknowledged
-  all-done : (m : ℕ) → Held M (F .waiting) m → F .initiator m ≡ s → F .number m ≡ n → union (F .acked m) set ≡ F .named m → (n < length (G .sends s)) × ((c : ℕ) → names (G .sends s) n c ≡ true → n < F .next c s)
-  all-done m h is-i is-n j = (
-    let a = I .held m h .low in let a' : n < F .sent s = rw (is-i, is-n) at a in let b = I .len s in omega arith,
+  whole-set-has-it : (m : ℕ) → Held M (F .waiting) m → F .initiator m ≡ s → F .number m ≡ n → union (F .acked m) set ≡ F .named m → (n < length (G .sends s)) × ((c : ℕ) → names (G .sends s) n c ≡ true → n < F .next c s)
+  whole-set-has-it m h is-i is-n j = (
+    let a = I .held m h .low in let a' : n < F .sent s = rw (is-i, is-n) at a in let b = I .sends-counted s in omega arith,
     λ c e.
         let k = I .held m h in
         let d : has (F .named m) c ≡ true = rw (← (k .is-set), is-i, is-n) e in
         let a : has (update (F .acked) m (union (F .acked m) set) m) c ≡ true = rw (update-at (F .acked) m (union (F .acked m) set), j) d in
-        let z = credit-ok m is-i is-n .acked m c h a in
+        let z = acks-added-ok m is-i is-n .acked m c h a in
         rw (is-i, is-n) at z,
   )
 
-  pub ack-ok : Invariant M (onAckList M F s n set .floor) G
+  pub ack-list-ok : Invariant M (onAckList M F s n set .floor) G
   unfolding onAckList
-  ack-ok =
+  ack-list-ok =
       on-option (λ (d : Done). Invariant M (d .floor) G) (roomOf M F s n)
       (λ q. I)
       (λ m q. let f = room-some M F s n m q in
-      let C = credit-ok m (f .1 .0) (f .1 .1) in
+      let C = acks-added-ok m (f .1 .0) (f .1 .1) in
       on-cond (λ (d : Done). Invariant M (d .floor) G) (eqb (union (F .acked m) set) (F .named m))
-      (λ b. push-on M (addAcks F m set) G (toEvery (F .stations) s) (delete n) refl (λ c. refl)
-      (λ x y o. rw (← (eqb-true s x (and-left (eqb s x) (ltb y (F .stations)) o))) (all-done m (f .0) (f .1 .0) (f .1 .1) (eqb-true (union (F .acked m) set) (F .named m) b)))
+      (λ b. record-put M (addAcks F m set) G (toEvery (F .stations) s) (delete n) refl (λ c. refl)
+      (λ x y o. rw (← (eqb-true s x (and-left (eqb s x) (ltb y (F .stations)) o))) (whole-set-has-it m (f .0) (f .1 .0) (f .1 .1) (eqb-true (union (F .acked m) set) (F .named m) b)))
       C)
       (λ b. C))
 
 -- delete, its record off the line
 module _ (M : Limits) (F : Floor) (G : History) (s t n : ℕ) (hs : (c : ℕ) → names (G .sends s) n c ≡ true → n < F .next c s) (I : Invariant M F G) where
   module _ (m : ℕ) (f : roomOf M F s n ≡ some m) where
-    less : ℕ → ℕ
-    less = update (F .waiting) m (without (F .waiting m) t)
+    waitingLess : ℕ → ℕ
+    waitingLess = update (F .waiting) m (without (F .waiting m) t)
 
-    back : (k : ℕ) → Held M less k → Held M (F .waiting) k
-    unfolding less
+    back : (k : ℕ) → Held M waitingLess k → Held M (F .waiting) k
+    unfolding waitingLess
     back k h =
         by-test (eqb k m)
         (λ z. rw (eqb-true k m z) (room-some M F s n m f .0))
@@ -76,20 +76,20 @@ module _ (M : Limits) (F : Floor) (G : History) (s t n : ℕ) (hs : (c : ℕ) �
         let e : names (G .sends s) n c ≡ true = rw (← (h .1 .0), ← (h .1 .1), k .is-set) d in
         rw (h .1 .0, h .1 .1) (hs c e)
 
-    other : (k : ℕ) → (k ≡ m → ⊥) → Held M (F .waiting) k → Held M less k
-    unfolding less
+    other : (k : ℕ) → (k ≡ m → ⊥) → Held M (F .waiting) k → Held M waitingLess k
+    unfolding waitingLess
     other k z h = record { slot = h .slot; some = rw (ne-eqb k m z) (h .some) }
 
-    e' : (k u : ℕ) → eqb k m ≡ false → has (less k) u ≡ false → has (F .waiting k) u ≡ false
-    unfolding less
+    e' : (k u : ℕ) → eqb k m ≡ false → has (waitingLess k) u ≡ false → has (F .waiting k) u ≡ false
+    unfolding waitingLess
     e' k u z e = rw z at e
 
-    less-ok : Invariant M (setWaiting F less) G
-    less-ok =
+    waiting-less-ok : Invariant M (setWaiting F waitingLess) G
+    waiting-less-ok =
         let h = room-some M F s n m f in
         record {
           held = λ k h. I .held k (back k h);
-          uniq = λ a b x y. I .uniq a b (back a x) (back b y);
+          one-room = λ a b x y. I .one-room a b (back a x) (back b y);
           owed = λ s' n' c lc e le.
               let o = I .owed s' n' c lc e le in
               by-test (eqb (o .m) m)
@@ -117,22 +117,22 @@ module _ (M : Limits) (F : Floor) (G : History) (s t n : ℕ) (hs : (c : ℕ) �
                 is-named = q .is-named;
                 held = other k (λ z. (let d = q .is-named in let v = q .due in let g = settled c (rw z at d) in let v' : F .next c (F .initiator m) ≡ F .number m = rw z at v in omega arith)) (q .held);
               };
-          len = I .len;
+          sends-counted = I .sends-counted;
           low = I .low;
           run = I .run;
-          recs = I .recs;
-          about = I .about;
+          records-sound = I .records-sound;
+          handoffs-right = I .handoffs-right;
           out = I .out;
           real = I .real;
-          begun = I .begun;
+          started = I .started;
           senders = I .senders;
           fits = I .fits;
-          recv = I .recv;
+          received-so-far = I .received-so-far;
         }
 
-  pub del-ok : Invariant M (onDelete M F s t n .floor) G
-  unfolding less onDelete
-  del-ok = on-option (λ (d : Done). Invariant M (d .floor) G) (roomOf M F s n) (λ q. I) (λ m q. less-ok m q)
+  pub delete-ok : Invariant M (onDelete M F s t n .floor) G
+  unfolding waitingLess onDelete
+  delete-ok = on-option (λ (d : Done). Invariant M (d .floor) G) (roomOf M F s n) (λ q. I) (λ m q. waiting-less-ok m q)
 
 -- multicast
 module _ (M : Limits) (F : Floor) (G : History) (s t n : ℕ) (l : List Record) (e : F .lines s t ≡ multicast n ∷ l) (lt : t < F .stations) (I : Invariant M F G) where
@@ -149,8 +149,8 @@ module _ (M : Limits) (F : Floor) (G : History) (s t n : ℕ) (l : List Record) 
     is-n : F .number m ≡ n
     is-n = room-some M F s n m f .1 .1
 
-    is-e : n ≡ F .expected t s
-    is-e = (rw e at (I .run s t lt)) .0
+    is-expected : n ≡ F .expected t s
+    is-expected = (rw e at (I .run s t lt)) .0
 
     in-copy : (c : ℕ) → has (minus (F .named m) (cartsThat F (isStruck F m t s n))) c ≡ (has (F .named m) c && not (has (cartsThat F (isStruck F m t s n)) c))
     in-copy c = has-minus (F .named m) (cartsThat F (isStruck F m t s n)) c
@@ -158,10 +158,10 @@ module _ (M : Limits) (F : Floor) (G : History) (s t n : ℕ) (l : List Record) 
     copy-ok : Invariant M (setCopy F copied) G
     unfolding copied
     copy-ok =
-        re-copy M F G I copied
+        copy-changed M F G I copied
         (λ k u c h a b g d le.
         on-update2 (λ x. has x c ≡ true) (F .copy) m t (minus (F .named m) (cartsThat F (isStruck F m t s n))) k u
-        (λ x y. absurd (let b' : F .number m < F .expected t (F .initiator m) = rw (← x, ← y) b in let b'' : n < F .expected t s = rw (is-i, is-n) at b' in let z = is-e in omega arith))
+        (λ x y. absurd (let b' : F .number m < F .expected t (F .initiator m) = rw (← x, ← y) b in let b'' : n < F .expected t s = rw (is-i, is-n) at b' in let z = is-expected in omega arith))
         (λ z. I .copies k u c h a b g d le))
         (λ k u c h lu.
         on-update2 (λ x. has x c ≡ true → has (F .named k) c ≡ true) (F .copy) m t (minus (F .named m) (cartsThat F (isStruck F m t s n))) k u
@@ -180,9 +180,9 @@ module _ (M : Limits) (F : Floor) (G : History) (s t n : ℕ) (l : List Record) 
     moved-ok : Invariant M (setExpected (onLines (setCopy F copied) (behead s t (F .lines))) (update2 (F .expected) t s (suc (F .expected t s)))) G
     unfolding copied
     moved-ok =
-        advance M (setCopy F copied) G s t n l e lt copy-ok
+        multicast-taken M (setCopy F copied) G s t n l e lt copy-ok
         (λ k c h a b g d le.
-        let is-k : k ≡ m = I .uniq k m h H (a ∙ sym is-i) (b ∙ sym is-n) in
+        let is-k : k ≡ m = I .one-room k m h H (a ∙ sym is-i) (b ∙ sym is-n) in
         let d' : has (F .named m) c ≡ true = rw is-k at d in
         let le' : F .next c s ≤ n = rw (a, b) at le in
         rw (is-k, update2-at (F .copy) m t (minus (F .named m) (cartsThat F (isStruck F m t s n))))
@@ -210,7 +210,7 @@ module _ (M : Limits) (F : Floor) (G : History) (s t n : ℕ) (l : List Record) 
         record {
           up = λ c u. on-X (λ x. F .next c u ≤ x) c u (λ z k. rw z (let y = k .1 .0 in omega arith)) (omega arith);
           cap = λ c u. on-X (λ x. x ≤ F .sent u) c u (λ z k. rw z (let y = I .held m H .low in let y' : n < F .sent s = rw (is-i, is-n) at y in omega arith)) (I .low c u);
-          home = λ c u h. on-X (λ x. x ≡ F .next c u) c u (λ z k. clash (homeb (F .place c)) (home-local (F .place c) t (k .0)) h) refl;
+          home = λ c u h. on-X (λ x. x ≡ F .next c u) c u (λ z k. clash (isHome (F .place c)) (local-is-home (F .place c) t (k .0)) h) refl;
         }
 
     passes : (c u j : ℕ) → F .next c u ≤ j → j < X c u → names (G .sends u) j c ≡ false
@@ -251,22 +251,22 @@ module _ (M : Limits) (F : Floor) (G : History) (s t n : ℕ) (l : List Record) 
           due = on-X (λ x. x ≡ F .number k) c (F .initiator k)
               (λ y g. let w = o .due in
               let v : F .number k ≡ F .number m = (let w' : F .next c s ≡ F .number k = rw y at w in let a = g .1 .0 in let b = is-n in omega arith) in
-              let is-k : k ≡ m = I .uniq k m (o .held) H (y ∙ sym is-i) v in
+              let is-k : k ≡ m = I .one-room k m (o .held) H (y ∙ sym is-i) v in
               let d = o .is-named in
               clash (has (F .named m) c) (rw is-k at d) (g .1 .1))
               (o .due);
         })
 
-    pub mcast-some : Invariant M (raiseExpected (buffer (onLines F (behead s t (F .lines))) m t s n) t s) G
+    pub multicast-buffered-ok : Invariant M (raiseExpected (buffer (onLines F (behead s t (F .lines))) m t s n) t s) G
     unfolding X enqueued copied buffer
-    mcast-some =
+    multicast-buffered-ok =
         let F2 = setExpected (onLines (setCopy F copied) (behead s t (F .lines))) (update2 (F .expected) t s (suc (F .expected t s))) in
         let R : Rise F2 X = record { up = rises .up; cap = rises .cap; home = rises .home } in
-        rise M F2 G X enqueued (G .received) R queued (over M F2 G X moved-ok R passes) moved-ok
+        numbers-rise M F2 G X enqueued (G .received) R queued (received-over M F2 G X moved-ok R passes) moved-ok
 
-  pub mcast-ok : Invariant M (onMulticast M (onLines F (behead s t (F .lines))) s t n .floor) G
+  pub multicast-ok : Invariant M (onMulticast M (onLines F (behead s t (F .lines))) s t n .floor) G
   unfolding onMulticast buffer roomOf
-  mcast-ok =
+  multicast-ok =
       on-option (λ (d : Done). Invariant M (d .floor) G) (roomOf M F s n)
-      (λ q. advance M F G s t n l e lt I (λ m c h a b g d le. absurd (room-none M F s n m q h a b)))
-      (λ m q. mcast-some m q)
+      (λ q. multicast-taken M F G s t n l e lt I (λ m c h a b g d le. absurd (room-none M F s n m q h a b)))
+      (λ m q. multicast-buffered-ok m q)

@@ -20,7 +20,7 @@ use Rattle.protocol.proofs.Tests.{and-intro, and-left, both-equal, by-t
 use Rattle.protocol.proofs.SetLaws.{has-setOf, has-zero}
 use Rattle.protocol.proofs.FloorLaws.{on-put}
 use Rattle.protocol.proofs.Invariant.{CountsUp, Entry, Held, History, Invariant, Kept, Queued, Sound, blank, names, naming}
-use Rattle.protocol.proofs.Updates.{all-append, all-map, append-nil, nums-append, run-le, run-snoc, tags-append}
+use Rattle.protocol.proofs.Updates.{all-append, all-map, append-nil, counts-up-le, counts-up-more, handoffs-append, numbers-append}
 
 abbrev pub noted : History → ℕ → Entry → History
 noted G s e = record { sends = update (G .sends) s (G .sends s ++ (e ∷ [])); received = G .received }
@@ -75,13 +75,13 @@ module _ (M : Limits) (F : Floor) (G : History) (s set : ℕ) (text : List ℕ) 
   len' : (u : ℕ) → length (noted G s E .sends u) ≡ update (F .sent) s (suc (F .sent s)) u
   len' u =
       by-test (eqb u s)
-      (λ z. rw z (let a = length-append (G .sends s) (E ∷ []) in let b = I .len s in omega arith))
-      (λ z. rw z (I .len u))
+      (λ z. rw z (let a = length-append (G .sends s) (E ∷ []) in let b = I .sends-counted s in omega arith))
+      (λ z. rw z (I .sends-counted u))
 
   named-old : (u n c : ℕ) → names (noted G s E .sends u) n c ≡ true → (u ≡ s → n ≡ F .sent s → ⊥) → names (G .sends u) n c ≡ true
   named-old u n c =
       on-update (λ h. names h n c ≡ true → (u ≡ s → n ≡ F .sent s → ⊥) → names (G .sends u) n c ≡ true) (G .sends) s (G .sends s ++ (E ∷ [])) u
-      (λ z e ne. rw z (named-more (G .sends s) E n c e (λ q. ne z (q ∙ I .len s))))
+      (λ z e ne. rw z (named-more (G .sends s) E n c e (λ q. ne z (q ∙ I .sends-counted s))))
       (λ z e ne. e)
 
   -- what is said of a held message
@@ -93,7 +93,7 @@ module _ (M : Limits) (F : Floor) (G : History) (s set : ℕ) (text : List ℕ) 
   kept-more u n x y k =
       by-test (eqb u s)
       (λ z. let w = eqb-true u s z in
-      let o = old-entry (G .sends s) E n (let a = k .low in let b = I .len s in let a' : n < F .sent s = rw w at a in omega arith) in
+      let o = old-entry (G .sends s) E n (let a = k .low in let b = I .sends-counted s in let a' : n < F .sent s = rw w at a in omega arith) in
       record {
         low = rw z (let a = k .low in let a' : n < F .sent s = rw w at a in omega arith);
         is-set = rw (z, o) (let a = k .is-set in rw w at a);
@@ -103,7 +103,7 @@ module _ (M : Limits) (F : Floor) (G : History) (s set : ℕ) (text : List ℕ) 
 
   kept-new : Kept (noted G s E .sends) (update (F .sent) s (suc (F .sent s))) s (F .sent s) set text
   kept-new =
-      let y : getD (G .sends s ++ (E ∷ [])) (F .sent s) blank ≡ E = (let a = getD-append-seam (G .sends s) E [] blank in rw (I .len s) at a) in
+      let y : getD (G .sends s ++ (E ∷ [])) (F .sent s) blank ≡ E = (let a = getD-append-seam (G .sends s) E [] blank in rw (I .sends-counted s) at a) in
       record { low = rw (eqb-self s) (omega arith); is-set = rw (eqb-self s, y); is-text = rw (eqb-self s, y) }
 
   sound-more : (i j : ℕ) (b : Record) → Sound (G .sends) (F .next) i j b → Sound (noted G s E .sends) (F .next) i j b
@@ -111,11 +111,11 @@ module _ (M : Limits) (F : Floor) (G : History) (s set : ℕ) (text : List ℕ) 
   sound-more i j (ackList n x) p = p
   sound-more i j (delete n) p = (
     (let a = len' i in
-        let b = I .len i in
+        let b = I .sends-counted i in
         let p0 = p .0 in
         let q : n < update (F .sent) s (suc (F .sent s)) i = on-update (λ x. n < x) (F .sent) s (suc (F .sent s)) i (λ z. let w : F .sent i ≡ F .sent s = rw z in omega arith) (λ z. omega arith) in
         omega arith),
-    λ c e. p .1 c (named-old i n c e (λ x y. let p0 = p .0 in let b = I .len s in let q : n < length (G .sends s) = rw x at p0 in omega arith)),
+    λ c e. p .1 c (named-old i n c e (λ x y. let p0 = p .0 in let b = I .sends-counted s in let q : n < length (G .sends s) = rw x at p0 in omega arith)),
   )
   sound-more i j (deregister d) p = tt
   sound-more i j (register d row) p = tt
@@ -126,23 +126,23 @@ module _ (M : Limits) (F : Floor) (G : History) (s set : ℕ) (text : List ℕ) 
       let on = toEvery (F .stations) s in
       let x = multicast (F .sent s) in
       record {
-        len = len';
+        sends-counted = len';
         low = λ c u. on-update (λ x. F .next c u ≤ x) (F .sent) s (suc (F .sent s)) u (λ z. rw z (let a = I .low c s in omega arith)) (λ z. I .low c u);
         run = λ u t lt.
             on-update (λ y. CountsUp (F .expected t u) (multicastNumbers (put on x (F .lines) u t)) y) (F .sent) s (suc (F .sent s)) u
             (λ z. rw z (on-put (λ l. CountsUp (F .expected t s) (multicastNumbers l) (suc (F .sent s))) on x (F .lines) s t
-            (λ e. rw (nums-append (F .lines s t) (x ∷ [])) (run-snoc (F .expected t s) (multicastNumbers (F .lines s t)) (F .sent s) (I .run s t lt)))
+            (λ e. rw (numbers-append (F .lines s t) (x ∷ [])) (counts-up-more (F .expected t s) (multicastNumbers (F .lines s t)) (F .sent s) (I .run s t lt)))
             (λ e. clash (on s t) (and-intro (eqb s s) (ltb t (F .stations)) (eqb-self s) (lt-ltb t (F .stations) lt)) e)))
             (λ z. on-put (λ l. CountsUp (F .expected t u) (multicastNumbers l) (F .sent u)) on x (F .lines) u t
             (λ e. absurd (z (sym (eqb-true s u (and-left (eqb s u) (ltb t (F .stations)) e))))) (λ e. I .run u t lt));
         held = λ k h. by-slot (Kept (noted G s E .sends) (update (F .sent) s (suc (F .sent s)))) k (λ z. kept-new) (λ z. kept-more (F .initiator k) (F .number k) (F .named k) (F .text k) (I .held k (old k z h)));
-        uniq = λ a b ha hb.
+        one-room = λ a b ha hb.
             by-slot (λ ia na da ta. ia ≡ update (F .initiator) m s b → na ≡ update (F .number) m (F .sent s) b → a ≡ b) a
             (λ z. by-slot (λ ib nb db tb. s ≡ ib → F .sent s ≡ nb → a ≡ b) b (λ y p q. z ∙ sym y)
             (λ y p q. absurd (let k = I .held b (old b y hb) .low in let k' : F .number b < F .sent s = rw (← p) at k in omega arith)))
             (λ z. by-slot (λ ib nb db tb. F .initiator a ≡ ib → F .number a ≡ nb → a ≡ b) b
             (λ y p q. absurd (let k = I .held a (old a z ha) .low in let k' : F .number a < F .sent s = rw p at k in omega arith))
-            (λ y p q. I .uniq a b (old a z ha) (old b y hb) p q));
+            (λ y p q. I .one-room a b (old a z ha) (old b y hb) p q));
         owed = λ u n c lc e le.
             by-test (eqb u s && eqb n (F .sent s))
             (λ b. let z = both-equal u s n (F .sent s) b in record { m = m; held = is-new; is-initiator = rw (eqb-self m) (sym (z .0)); is-number = rw (eqb-self m) (sym (z .1)) })
@@ -163,7 +163,7 @@ module _ (M : Limits) (F : Floor) (G : History) (s set : ℕ) (text : List ℕ) 
             (λ z e. I .acked k c (old k z h) (rw (ne-eqb k m z) at e));
         copies = λ k t c h lt.
             by-slot (λ i n d x. n < F .expected t i → c < F .carts → has d c ≡ true → F .next c i ≤ n → has (cond (eqb k m) 0 (F .copy k t)) c ≡ true) k
-            (λ z a g d le. absurd (let r = run-le (F .expected t s) (multicastNumbers (F .lines s t)) (F .sent s) (I .run s t lt) in omega arith))
+            (λ z a g d le. absurd (let r = counts-up-le (F .expected t s) (multicastNumbers (F .lines s t)) (F .sent s) (I .run s t lt) in omega arith))
             (λ z a g d le. rw (ne-eqb k m z) (I .copies k t c (old k z h) lt a g d le));
         within = λ k t c h lt.
             by-slot (λ i n d x. has (cond (eqb k m) 0 (F .copy k t)) c ≡ true → has d c ≡ true) k
@@ -173,18 +173,18 @@ module _ (M : Limits) (F : Floor) (G : History) (s set : ℕ) (text : List ℕ) 
             on-cond (λ x. has x c ≡ true → Queued M W (update (F .initiator) m s) (update (F .number) m (F .sent s)) (update (F .named) m set) (F .place) (F .next) k t c) (eqb k m)
             (λ z e. clash (has 0 c) e (has-zero c))
             (λ z e. let q = I .queues k t c e in record { held = new k (q .held); home = q .home; due = rw z (q .due); is-named = rw z (q .is-named) });
-        recs = λ i j li lj. on-put (All (Sound (noted G s E .sends) (F .next) i j)) on x (F .lines) i j
-            (λ e. all-append (Sound (noted G s E .sends) (F .next) i j) (F .lines i j) (x ∷ []) (all-map (F .lines i j) (sound-more i j) (I .recs i j li lj)) (tt, tt))
-            (λ e. all-map (F .lines i j) (sound-more i j) (I .recs i j li lj));
-        about = λ c i j. on-put (λ l. handoffs c l ≡ handoffOf (F .place c) i j (rowOf M (F .next c))) on x (F .lines) i j
-            (λ e. rw (tags-append c (F .lines i j) (x ∷ []), append-nil (handoffs c (F .lines i j))) (I .about c i j)) (λ e. I .about c i j);
-        recv = λ u c. I .recv u c ∙ sym
+        records-sound = λ i j li lj. on-put (All (Sound (noted G s E .sends) (F .next) i j)) on x (F .lines) i j
+            (λ e. all-append (Sound (noted G s E .sends) (F .next) i j) (F .lines i j) (x ∷ []) (all-map (F .lines i j) (sound-more i j) (I .records-sound i j li lj)) (tt, tt))
+            (λ e. all-map (F .lines i j) (sound-more i j) (I .records-sound i j li lj));
+        handoffs-right = λ c i j. on-put (λ l. handoffs c l ≡ handoffOf (F .place c) i j (rowOf M (F .next c))) on x (F .lines) i j
+            (λ e. rw (handoffs-append c (F .lines i j) (x ∷ []), append-nil (handoffs c (F .lines i j))) (I .handoffs-right c i j)) (λ e. I .handoffs-right c i j);
+        received-so-far = λ u c. I .received-so-far u c ∙ sym
             (on-update (λ h. naming c 0 (take (F .next c u) h) ≡ naming c 0 (take (F .next c u) (G .sends u))) (G .sends) s (G .sends s ++ (E ∷ [])) u
-            (λ z. rw (z, take-append-le (F .next c s) (G .sends s) (E ∷ []) (let a = I .low c s in let b = I .len s in omega arith)))
+            (λ z. rw (z, take-append-le (F .next c s) (G .sends s) (E ∷ []) (let a = I .low c s in let b = I .sends-counted s in omega arith)))
             (λ z. refl));
         out = I .out;
         real = I .real;
-        begun = I .begun;
+        started = I .started;
         senders = λ u. on-update (λ x. 0 < x → u < F .stations) (F .sent) s (suc (F .sent s)) u (λ z h. rw z ls) (λ z. I .senders u);
         fits = I .fits;
       }

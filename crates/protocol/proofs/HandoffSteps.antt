@@ -18,7 +18,7 @@ use Rattle.protocol.proofs.SetLaws.{has-without}
 use Rattle.protocol.proofs.FloorLaws.{at-home, outside-is}
 use Rattle.protocol.proofs.Accepted.{MayEnter, MayMove}
 use Rattle.protocol.proofs.Invariant.{History, Invariant, Queued, Sound}
-use Rattle.protocol.proofs.Updates.{hand-off, pop-line, re-queue, settle-place}
+use Rattle.protocol.proofs.Updates.{handoff-put, handoff-taken, on-beheaded, queue-changed}
 use Rattle.protocol.proofs.CatchUp.{arrive-at-once, catchUpAtOnce}
 use Rattle.protocol.proofs.Arrival.{catch-up-ok, struck-ok}
 
@@ -26,29 +26,29 @@ Z : {P : Type 0} → _≡_ {A = ℕ} 0 1 → P
 Z e = absurd (omega arith)
 
 -- what a hand-off's record says of its cart
-pub tag-reg : (p : Place) (i j : ℕ) (f row : List ℕ) (k : List HandoffRecord) → registering row ∷ k ≡ handoffOf p i j f → (p ≡ travelling i j) × ((row ≡ f) × (k ≡ []))
-tag-reg outside i j f row k e = Z (cc)
-tag-reg (at s) i j f row k e = Z (cc)
-tag-reg (leaving s u) i j f row k e =
+pub registering-is : (p : Place) (i j : ℕ) (f row : List ℕ) (k : List HandoffRecord) → registering row ∷ k ≡ handoffOf p i j f → (p ≡ travelling i j) × ((row ≡ f) × (k ≡ []))
+registering-is outside i j f row k e = Z (cc)
+registering-is (at s) i j f row k e = Z (cc)
+registering-is (leaving s u) i j f row k e =
     by-test (eqb u i && eqb s j) (λ q. let z : registering row ∷ k ≡ deregistering ∷ [] = rw q at e in Z (cc)) (λ q. let z : registering row ∷ k ≡ [] = rw q at e in Z (cc))
-tag-reg (travelling s u) i j f row k e =
+registering-is (travelling s u) i j f row k e =
     by-test (eqb s i && eqb u j)
     (λ q. let z : registering row ∷ k ≡ registering f ∷ [] = rw q at e in let y = both-equal s i u j q in (rw (y .0, y .1), (cc, cc)))
     (λ q. let z : registering row ∷ k ≡ [] = rw q at e in Z (cc))
 
-pub tag-dereg : (p : Place) (i j : ℕ) (f : List ℕ) (k : List HandoffRecord) → deregistering ∷ k ≡ handoffOf p i j f → (p ≡ leaving j i) × (k ≡ [])
-tag-dereg outside i j f k e = Z (cc)
-tag-dereg (at s) i j f k e = Z (cc)
-tag-dereg (leaving s u) i j f k e =
+pub deregistering-is : (p : Place) (i j : ℕ) (f : List ℕ) (k : List HandoffRecord) → deregistering ∷ k ≡ handoffOf p i j f → (p ≡ leaving j i) × (k ≡ [])
+deregistering-is outside i j f k e = Z (cc)
+deregistering-is (at s) i j f k e = Z (cc)
+deregistering-is (leaving s u) i j f k e =
     by-test (eqb u i && eqb s j)
     (λ q. let z : deregistering ∷ k ≡ deregistering ∷ [] = rw q at e in let y = both-equal u i s j q in (rw (y .0, y .1), cc))
     (λ q. let z : deregistering ∷ k ≡ [] = rw q at e in Z (cc))
-tag-dereg (travelling s u) i j f k e =
+deregistering-is (travelling s u) i j f k e =
     by-test (eqb s i && eqb u j) (λ q. let z : deregistering ∷ k ≡ registering f ∷ [] = rw q at e in Z (cc)) (λ q. let z : deregistering ∷ k ≡ [] = rw q at e in Z (cc))
 
 -- a cart that is at no station is in no queue
-pub not-queued : (M : Limits) (F : Floor) (G : History) (c : ℕ) → Invariant M F G → ((u : ℕ) → localTo (F .place c) u ≡ false) → (m u : ℕ) → has (F .queue m u) c ≡ true → ⊥
-not-queued M F G c I h m u e = clash (localTo (F .place c) u) (I .queues m u c e .home) (h u)
+pub in-no-queue : (M : Limits) (F : Floor) (G : History) (c : ℕ) → Invariant M F G → ((u : ℕ) → localTo (F .place c) u ≡ false) → (m u : ℕ) → has (F .queue m u) c ≡ true → ⊥
+in-no-queue M F G c I h m u e = clash (localTo (F .place c) u) (I .queues m u c e .home) (h u)
 
 -- the cart's own row, put in its place again, changes nothing
 same-row : (F : Floor) (c : ℕ) (row : ℕ → ℕ) → ((s : ℕ) → row s ≡ F .next c s) → withRow F c row ≡ F
@@ -63,7 +63,7 @@ unfolding struck
 arrived M F G t c row w lt lc er nl I J =
     let F1 = setPlace (onLines F w) (update (F .place) c (at t)) in
     let Z : Invariant M (catchUpAtOnce M (struck F1 t c) t c (λ s. ltb s (F .stations))) G =
-    catch-up-ok M (struck F1 t c) G t c (struck-ok M F1 G t c J) (λ s. ltb s (F .stations)) lt lc (update-at (F .place) c (at t)) (λ m u e o. not-queued M F G c I nl m u e) in
+    catch-up-ok M (struck F1 t c) G t c (struck-ok M F1 G t c J) (λ s. ltb s (F .stations)) lt lc (update-at (F .place) c (at t)) (λ m u e o. in-no-queue M F G c I nl m u e) in
     let here : Floor → Floor = λ X. catchUpAtOnce M (setPlace (struck X t c) (update (F .place) c (at t))) t c (λ s. ltb s (F .stations)) in
     subst (λ (X : Floor). Invariant M X G) (sym (arrive-at-once M (onLines F w) t c row ∙ ap here (same-row (onLines F w) c row er))) Z
 
@@ -71,7 +71,7 @@ pub enter-ok : (M : Limits) (F : Floor) (G : History) (t c : ℕ) → Invariant 
 enter-ok M F G t c I may =
     let o = outside-is (F .place c) (may .is-outside) in
     arrived M F G t c (λ s. 0) (F .lines) (may .station) (may .cart) (λ s. sym (I .out c s o)) (λ u. rw o) I
-    (settle-place M F G c t (F .lines) (λ s u. refl) (I .recs) (λ d i j h. refl) (λ i j. I .about c i j ∙ rw o) (λ u h. clash (localTo (F .place c) u) h (rw o)) (may .cart) I)
+    (handoff-taken M F G c t (F .lines) (λ s u. refl) (I .records-sound) (λ d i j h. refl) (λ i j. I .handoffs-right c i j ∙ rw o) (λ u h. clash (localTo (F .place c) u) h (rw o)) (may .cart) I)
 
 -- a cart has no next number beyond the stations
 pub next-beyond : (M : Limits) (F : Floor) (G : History) → Invariant M F G → (c s : ℕ) → F .stations ≤ s → F .next c s ≡ 0
@@ -86,44 +86,44 @@ row-is-next M F G I c s =
 
 module _ (M : Limits) (F : Floor) (G : History) (i t c : ℕ) (l : List Record) (I : Invariant M F G) where
   -- the record of a hand-off goes
-  gone-hand : (b : Record) → F .lines i t ≡ b ∷ l → multicastNumbers (b ∷ l) ≡ multicastNumbers l → ((d : ℕ) → (d ≡ c → ⊥) → handoffs d (b ∷ l) ≡ handoffs d l) → handoffs c l ≡ []
+  handoff-gone : (b : Record) → F .lines i t ≡ b ∷ l → multicastNumbers (b ∷ l) ≡ multicastNumbers l → ((d : ℕ) → (d ≡ c → ⊥) → handoffs d (b ∷ l) ≡ handoffs d l) → handoffs c l ≡ []
       → ((k h : ℕ) → eqb i k && eqb t h ≡ false → handoffOf (F .place c) k h (rowOf M (F .next c)) ≡ [])
       → ((u : ℕ) → localTo (F .place c) u ≡ true → u ≡ t) → c < F .carts
       → Invariant M (setPlace (onLines F (behead i t (F .lines))) (update (F .place) c (at t))) G
-  gone-hand b e en et ec eo el lc =
+  handoff-gone b e en et ec eo el lc =
       let N : ℕ → ℕ → List Record → Type 0 = λ s u k. multicastNumbers k ≡ multicastNumbers (F .lines s u) in
       let S : ℕ → ℕ → List Record → Type 0 = λ s t k. s < F .stations → t < F .stations → All (Sound (G .sends) (F .next) s t) k in
       let A : ℕ → ℕ → ℕ → List Record → Type 0 = λ d s u k. handoffs d k ≡ handoffs d (F .lines s u) in
-      settle-place M F G c t (behead i t (F .lines))
-      (pop-line N N i t (F .lines) b l e (λ s u. refl) (λ a. sym en ∙ a) (λ k h l t p. p))
-      (pop-line S S i t (F .lines) b l e (I .recs) (λ a li lj. a li lj .1) (λ k h l t p. p))
-      (λ d s u h. pop-line (A d) (A d) i t (F .lines) b l e (λ s u. refl) (λ a. sym (et d h) ∙ a) (λ k h l t p. p) s u)
-      (pop-line (λ s u k. handoffs c k ≡ handoffOf (F .place c) s u (rowOf M (F .next c))) (λ s u k. handoffs c k ≡ []) i t (F .lines) b l e (I .about c) (λ a. ec) (λ k h l q p. p ∙ eo k h q))
+      handoff-taken M F G c t (behead i t (F .lines))
+      (on-beheaded N N i t (F .lines) b l e (λ s u. refl) (λ a. sym en ∙ a) (λ k h l t p. p))
+      (on-beheaded S S i t (F .lines) b l e (I .records-sound) (λ a li lj. a li lj .1) (λ k h l t p. p))
+      (λ d s u h. on-beheaded (A d) (A d) i t (F .lines) b l e (λ s u. refl) (λ a. sym (et d h) ∙ a) (λ k h l t p. p) s u)
+      (on-beheaded (λ s u k. handoffs c k ≡ handoffOf (F .place c) s u (rowOf M (F .next c))) (λ s u k. handoffs c k ≡ []) i t (F .lines) b l e (I .handoffs-right c) (λ a. ec) (λ k h l q p. p ∙ eo k h q))
       el lc I
 
-  pub reg-ok : (row : List ℕ) → F .lines i t ≡ register c row ∷ l → t < F .stations
+  pub register-ok : (row : List ℕ) → F .lines i t ≡ register c row ∷ l → t < F .stations
       → Invariant M (arrive M (onLines F (behead i t (F .lines))) t c (entryOf row)) G
-  reg-ok row e lt =
-      let z : registering row ∷ handoffs c l ≡ handoffOf (F .place c) i t (rowOf M (F .next c)) = rw (e, eqb-self c) at (I .about c i t) in
-      let y = tag-reg (F .place c) i t (rowOf M (F .next c)) row (handoffs c l) z in
+  register-ok row e lt =
+      let z : registering row ∷ handoffs c l ≡ handoffOf (F .place c) i t (rowOf M (F .next c)) = rw (e, eqb-self c) at (I .handoffs-right c i t) in
+      let y = registering-is (F .place c) i t (rowOf M (F .next c)) row (handoffs c l) z in
       let is-p = y .0 in
       let lc = I .real c (rw is-p) in
       arrived M F G t c (entryOf row) (behead i t (F .lines)) lt lc (λ s. ap (λ (f : List ℕ). entryOf f s) (y .1 .0) ∙ row-is-next M F G I c s) (λ u. rw is-p) I
-      (gone-hand (register c row) e refl (λ d h. rw (ne-eqb c d (λ q. h (sym q)))) (y .1 .1) (λ k h q. rw (is-p, q)) (λ u h. clash (localTo (F .place c) u) h (rw is-p)) lc)
+      (handoff-gone (register c row) e refl (λ d h. rw (ne-eqb c d (λ q. h (sym q)))) (y .1 .1) (λ k h q. rw (is-p, q)) (λ u h. clash (localTo (F .place c) u) h (rw is-p)) lc)
 
-  pub dereg-ok : F .lines i t ≡ deregister c ∷ l → Invariant M (onDeregister M (onLines F (behead i t (F .lines))) i t c .floor) G
+  pub deregister-ok : F .lines i t ≡ deregister c ∷ l → Invariant M (onDeregister M (onLines F (behead i t (F .lines))) i t c .floor) G
   unfolding onDeregister
-  dereg-ok e =
-      let z : deregistering ∷ handoffs c l ≡ handoffOf (F .place c) i t (rowOf M (F .next c)) = rw (e, eqb-self c) at (I .about c i t) in
-      let y = tag-dereg (F .place c) i t (rowOf M (F .next c)) (handoffs c l) z in
+  deregister-ok e =
+      let z : deregistering ∷ handoffs c l ≡ handoffOf (F .place c) i t (rowOf M (F .next c)) = rw (e, eqb-self c) at (I .handoffs-right c i t) in
+      let y = deregistering-is (F .place c) i t (rowOf M (F .next c)) (handoffs c l) z in
       let is-p = y .0 in
       let F1 = setPlace (onLines F (behead i t (F .lines))) (update (F .place) c (at t)) in
       let I1 : Invariant M F1 G =
-      gone-hand (deregister c) e refl (λ d h. rw (ne-eqb c d (λ q. h (sym q)))) (y .1)
+      handoff-gone (deregister c) e refl (λ d h. rw (ne-eqb c d (λ q. h (sym q)))) (y .1)
       (λ k h q. rw (is-p, q)) (λ u h. sym (eqb-true t u (rw is-p at h))) (I .real c (rw is-p)) in
       let Q : ℕ → ℕ → ℕ = λ m u. cond (eqb u t) (without (F .queue m u) c) (F .queue m u) in
       let I2 : Invariant M (setQueue F1 Q) G =
-      re-queue M F1 G I1 Q
+      queue-changed M F1 G I1 Q
       (λ m u d. on-cond (λ x. has x d ≡ true → Queued M (F .waiting) (F .initiator) (F .number) (F .named) (F1 .place) (F .next) m u d) (eqb u t)
       (λ q h. I1 .queues m u d (and-left (has (F .queue m u) d) (not (eqb c d)) (sym (has-without (F .queue m u) c d) ∙ h)))
       (λ q h. I1 .queues m u d h)) in
@@ -131,7 +131,7 @@ module _ (M : Limits) (F : Floor) (G : History) (i t c : ℕ) (l : List Record) 
       λ m u. on-cond (λ x. has x c ≡ true → ⊥) (eqb u t)
       (λ q h. clash (not (eqb c c)) (and-right (has (F .queue m u) c) (not (eqb c c)) (sym (has-without (F .queue m u) c c) ∙ h)) (rw (eqb-self c)))
       (λ q h. clash (eqb u t) (eq-eqb u t (sym (eqb-true t u (rw is-p at (I .queues m u c h .home))))) q) in
-      let I3 = hand-off M (setQueue F1 Q) G c t (travelling t i) t i (register c (rowOf M (F .next c)))
+      let I3 = handoff-put M (setQueue F1 Q) G c t (travelling t i) t i (register c (rowOf M (F .next c)))
       (update-at (F .place) c (at t)) refl tt (λ d h. rw (ne-eqb c d (λ q. h (sym q)))) (λ x y. rw (eqb-self c)) (λ m u h. absurd (none m u h)) (λ q. Z (cc)) I2 in
       let twice : update (F1 .place) c (travelling t i) ≡ update (F .place) c (travelling t i) =
       fun-ext (λ k. by-test (eqb k c) (λ q. rw q) (λ q. rw q)) in
@@ -142,5 +142,5 @@ unfolding onMove
 move-ok M F G c to I may =
     let s = stationOf (F .place c) in
     let is-p = at-home (F .place c) (may .has-entered) (may .not-moving) in
-    hand-off M F G c s (leaving s to) to s (deregister c) is-p refl tt (λ d h. rw (ne-eqb c d (λ q. h (sym q)))) (λ x y. rw (eqb-self c))
+    handoff-put M F G c s (leaving s to) to s (deregister c) is-p refl tt (λ d h. rw (ne-eqb c d (λ q. h (sym q)))) (λ x y. rw (eqb-self c))
     (λ m u h. let z = I .queues m u c h .home in rw is-p at z) (λ q. Z (cc)) I
