@@ -1,4 +1,4 @@
--- The form rule as facts: closed under every step, with no history; and it gives room.
+-- The form rule as facts: a history can be made up for any floor that has them, so every event keeps them, and they bound the lines.
 use mathlib.Core.Path.{ap, refl, _∙_, _≡_}
 use mathlib.Core.Bool.{Bool, true}
 use mathlib.Core.Option.{Option, some}
@@ -12,7 +12,7 @@ use Rattle.protocol.specs.CartSets.{has}
 use Rattle.protocol.specs.Floor.{Floor, Limits, Record, ackList, at, delete, deregister, entered, multicast, onTheLines, outside, register}
 use Rattle.protocol.specs.Events.{Event}
 use Rattle.protocol.specs.Handoff.{roomOf, rowOf}
-use Rattle.protocol.specs.Form.{ackCount, acksTo, bit, countLine, handoffOf, handoffs, multicastNumbers}
+use Rattle.protocol.specs.Form.{acksOf, acksTo, bit, countLine, handoffOf, handoffs, multicastNumbers}
 use Rattle.protocol.specs.Step.{answer, step}
 use Rattle.protocol.proofs.Tests.{by-option, by-test, clash, eqb-self, length-listOf, listOf-at, listOf-past}
 use Rattle.protocol.proofs.SetLaws.{has-zero}
@@ -20,7 +20,7 @@ use Rattle.protocol.proofs.Invariant.{CountsUp, Entry, Held, History, H
 use Rattle.protocol.proofs.CatchUp.{room-none, room-some}
 use Rattle.protocol.proofs.InvariantStep.{note, step-ok}
 use Rattle.protocol.proofs.Counting.{all-map2, count-at, countLine-le, each-counts}
-use Rattle.protocol.proofs.LineFacts.{LineFacts, OfHeld}
+use Rattle.protocol.proofs.LineFacts.{HeldRecord, LineFacts}
 use Rattle.protocol.proofs.LinesRadio.{acked-has-passed}
 use Rattle.protocol.proofs.LinesSteps.{step-lines}
 use Rattle.protocol.proofs.RecordBound.{room}
@@ -30,7 +30,7 @@ pub record FormFacts (M : Limits) (F : Floor) : Type 0 where
   pub run : (s t : ℕ) → t < F .stations → CountsUp (F .expected t s) (multicastNumbers (F .lines s t)) (F .sent s)
   pub kept : (m : ℕ) → Held M (F .waiting) m → F .number m < F .sent (F .initiator m)
   pub one-room : (m k : ℕ) → Held M (F .waiting) m → Held M (F .waiting) k → F .initiator m ≡ F .initiator k → F .number m ≡ F .number k → m ≡ k
-  pub acked-passed : (m c : ℕ) → Held M (F .waiting) m → 0 < ackCount (F .stations) (F .acked) (F .acks) (F .initiator) (F .number) (F .lines) m c → F .number m < F .next c (F .initiator m)
+  pub acked-passed : (m c : ℕ) → Held M (F .waiting) m → 0 < acksOf M F m c → F .number m < F .next c (F .initiator m)
   pub copies : (m t c : ℕ) → Held M (F .waiting) m → t < F .stations → F .number m < F .expected t (F .initiator m) → c < F .carts → has (F .named m) c ≡ true → F .next c (F .initiator m) ≤ F .number m → has (F .copy m t) c ≡ true
   pub within : (m t c : ℕ) → Held M (F .waiting) m → t < F .stations → has (F .copy m t) c ≡ true → has (F .named m) c ≡ true
   pub queues : (m t c : ℕ) → has (F .queue m t) c ≡ true → Queued M (F .waiting) (F .initiator) (F .number) (F .named) (F .place) (F .next) m t c
@@ -77,7 +77,7 @@ module _ (M : Limits) (F : Floor) (X : FormFacts M F) where
   acked' : (m c : ℕ) → Held M (F .waiting) m → has (F .acked m) c ≡ true → F .number m < F .next c (F .initiator m)
   acked' m c h e = X .acked-passed m c h (let y : bit (has (F .acked m) c) ≡ 1 = rw e in omega arith)
 
-  sound : (i j : ℕ) → i < F .stations → j < F .stations → (b : Record) → OfHeld M (F .carts) (F .waiting) (F .initiator) (F .number) (F .acked) (F .named) i j b → ((f : Record → Bool) → f b ≡ true → 0 < countLine f (F .lines i j)) → Sound (past .sends) (F .next) i j b
+  sound : (i j : ℕ) → i < F .stations → j < F .stations → (b : Record) → HeldRecord M F i j b → ((f : Record → Bool) → f b ≡ true → 0 < countLine f (F .lines i j)) → Sound (past .sends) (F .next) i j b
   sound i j li lj (multicast n) g p = tt
   sound i j li lj (ackList n x) g p =
       let h = g .0 in

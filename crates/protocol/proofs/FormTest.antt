@@ -22,7 +22,7 @@ use Rattle.protocol.proofs.Updates.{all-map, counts-up-le}
 use Rattle.protocol.proofs.CatchUp.{room-some}
 use Rattle.protocol.proofs.SendStep.{E}
 use Rattle.protocol.proofs.Counting.{OnLines, all-map2, count-none, countLines-none}
-use Rattle.protocol.proofs.LineFacts.{LineFacts, OfHeld, Reach, isHandoffOf}
+use Rattle.protocol.proofs.LineFacts.{HeldRecord, LineFacts, Reach, isHandoffOf}
 use Rattle.protocol.proofs.RecordBound.{room}
 use Rattle.protocol.proofs.FormFacts.{FormFacts, room-of-held}
 use Rattle.protocol.proofs.ClaimLaws.{reflect}
@@ -192,7 +192,7 @@ module _ (M : Limits) (F : Floor) where
         (λ e h. clash false h refl)
         (λ m e h. let g = room-some M F s n m e in (record { m = m; held = g .0; is-initiator = g .1 .0; is-number = g .1 .1; waits = h .0 }, h .1))
 
-    record-held : (i j : ℕ) (r : Record) → True (recordRule M F i j r) → OfHeld M (F .carts) (F .waiting) (F .initiator) (F .number) (F .acked) (F .named) i j r
+    record-held : (i j : ℕ) (r : Record) → True (recordRule M F i j r) → HeldRecord M F i j r
     record-held i j (multicast n) h = reach-of i n j (λ m. is true) h .0
     record-held i j (ackList n x) h = (
       on-option (λ (q : Claim). True q → Holds M (F .waiting) (F .initiator) (F .number) j n) (roomOf M F j n) (λ e h. clash false h refl)
@@ -206,10 +206,10 @@ module _ (M : Limits) (F : Floor) where
     station-limit : (t : ℕ) → t < F .stations → t < M .stations
     station-limit t l = let z = sized-of .counts .stations in omega arith
 
-    records-held : OnLines (F .stations) (OfHeld M (F .carts) (F .waiting) (F .initiator) (F .number) (F .acked) (F .named)) (F .lines)
+    records-held : OnLines (F .stations) (HeldRecord M F) (F .lines)
     records-held i j li lj = all-map (F .lines i j) (λ r h. record-held i j r (h .1 .1)) (P .line i (station-limit i li) j (station-limit j lj))
 
-    not-handed-off : (c : ℕ) → F .carts ≤ c → (i j : ℕ) (r : Record) → OfHeld M (F .carts) (F .waiting) (F .initiator) (F .number) (F .acked) (F .named) i j r → isHandoffOf c r ≡ false
+    not-handed-off : (c : ℕ) → F .carts ≤ c → (i j : ℕ) (r : Record) → HeldRecord M F i j r → isHandoffOf c r ≡ false
     not-handed-off c l i j (multicast n) g = refl
     not-handed-off c l i j (ackList n x) g = refl
     not-handed-off c l i j (delete n) g = refl
@@ -284,7 +284,7 @@ module _ (M : Limits) (F : Floor) where
         let z' : roomOf M F s n ≡ some (r .m) = rw (r .is-initiator, r .is-number) at z in
         rw z' (r .waits, h)
 
-    record-rule : (i j : ℕ) (r : Record) → AcksFit (F .carts) r → OfHeld M (F .carts) (F .waiting) (F .initiator) (F .number) (F .acked) (F .named) i j r → True (recordRule M F i j r)
+    record-rule : (i j : ℕ) (r : Record) → AcksFit (F .carts) r → HeldRecord M F i j r → True (recordRule M F i j r)
     record-rule i j (multicast n) a g = reaches-of i n j (λ m. is true) g refl
     record-rule i j (ackList n x) a g =
         let h = g .0 in

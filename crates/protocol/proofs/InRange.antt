@@ -21,7 +21,7 @@ use Rattle.protocol.proofs.Invariant.{Held, History, Invariant}
 use Rattle.protocol.proofs.Updates.{counts-up-le}
 use Rattle.protocol.proofs.CatchUp.{catch-up-ascent, catchUpAtOnce, one-at-once}
 use Rattle.protocol.proofs.Counting.{all-map2, count-le, sum-le}
-use Rattle.protocol.proofs.LineFacts.{OfHeld}
+use Rattle.protocol.proofs.LineFacts.{HeldRecord}
 use Rattle.protocol.proofs.SumSteps.{arrive-bound}
 use Rattle.protocol.proofs.FormFacts.{FormFacts}
 use Rattle.protocol.proofs.Sized.{AcksFit, Sized}
@@ -34,7 +34,7 @@ held-number M F X S m h = let a = X .kept m h in let b = S .numbers (F .initiato
 
 -- the numbers and carts of a record
 record-in-range : (M : Limits) (F : Floor) → FormFacts M F → Sized M F → (i j : ℕ) (r : Record) → AcksFit (F .carts) r
-    → OfHeld M (F .carts) (F .waiting) (F .initiator) (F .number) (F .acked) (F .named) i j r → RecordInRange (M .last) (F .carts) r
+    → HeldRecord M F i j r → RecordInRange (M .last) (F .carts) r
 record-in-range M F X S i j (multicast n) a g = let z = held-number M F X S (g .m) (g .held) in rw (g .is-number) at z
 record-in-range M F X S i j (ackList n x) a g = (let h = g .0 in let z = held-number M F X S (h .m) (h .held) in rw (h .is-number) at z, a)
 record-in-range M F X S i j (delete n) a g = let h = g .0 in let z = held-number M F X S (h .m) (h .held) in rw (h .is-number) at z

@@ -52,12 +52,23 @@ OfHeld M carts waiting initiator number acked named i j (delete n) = (r : Reach 
 OfHeld M carts waiting initiator number acked named i j (deregister d) = d < carts
 OfHeld M carts waiting initiator number acked named i j (register d row) = d < carts
 
+-- the same, of a floor
+abbrev pub HeldRecord : Limits → Floor → ℕ → ℕ → Record → Type 0
+HeldRecord M F = OfHeld M (F .carts) (F .waiting) (F .initiator) (F .number) (F .acked) (F .named)
+
+-- what is known of the records on the lines, by columns
 pub record LineFactsOf (M : Limits) (stations carts : ℕ) (expected : ℕ → ℕ → ℕ) (initiator number named acked waiting : ℕ → ℕ) (acks : ℕ → ℕ → ℕ) (lines : ℕ → ℕ → List Record) : Type 0 where
+  -- no delete stands before its multicast
   pub order : (s t : ℕ) → t < stations → DeletesAfter (expected t s) (lines s t)
+  -- where a station has handled the delete, the whole set has acknowledged
   pub deleted-acked : (m t : ℕ) → Held M waiting m → t < stations → has (waiting m) t ≡ false → acked m ≡ named m
+  -- every record is of a held message, or of a cart on its way
   pub records-held : OnLines stations (OfHeld M carts waiting initiator number acked named) lines
+  -- one delete at most is on its way to a station
   pub deletes-once : (m t : ℕ) → Held M waiting m → t < stations → countLine (isDeleteOf (number m)) (lines (initiator m) t) ≤ 1
+  -- a cart's acknowledgement stands in one place at most
   pub acks-once : (m c : ℕ) → Held M waiting m → ackCount stations acked acks initiator number lines m c ≤ 1
+  -- and only a named cart's
   pub within : (m c : ℕ) → Held M waiting m → 0 < ackCount stations acked acks initiator number lines m c → has (named m) c ≡ true
 
 abbrev pub LineFacts : Limits → Floor → Type 0
@@ -70,7 +81,7 @@ taken-lines M F i j b l e d X =
     let O : ℕ → ℕ → List Record → Type 0 = λ s t k. t < F .stations → DeletesAfter (F .expected t s) k in
     record {
       order = on-beheaded O O i j (F .lines) b l e (X .order) (λ f lt. d (F .expected j i) (f lt)) (λ k h l t q. q);
-      records-held = on-lines-behead (F .stations) (OfHeld M (F .carts) (F .waiting) (F .initiator) (F .number) (F .acked) (F .named)) i j (F .lines) (X .records-held);
+      records-held = on-lines-behead (F .stations) (HeldRecord M F) i j (F .lines) (X .records-held);
       deletes-once = λ m t g lt. let z = countLine-behead (isDeleteOf (F .number m)) i j (F .lines) (F .initiator m) t in let y = X .deletes-once m t g lt in omega arith;
       acks-once = λ m c g. let z = countLines-beheaded (F .stations) (acksTo (F .initiator m) (F .number m) c) i j (F .lines) in let y = X .acks-once m c g in omega arith;
       within = λ m c g q. let z = countLines-beheaded (F .stations) (acksTo (F .initiator m) (F .number m) c) i j (F .lines) in X .within m c g (omega arith);
@@ -87,7 +98,7 @@ multicast-taken-lines M F s t n l e X =
       order = on-beheaded O Q s t (F .lines) (multicast n) l e (X .order)
           (λ f a. rw (update2-at (F .expected) t s (suc (F .expected t s))) (f a))
           (λ i j k h p a. rw (both-differ j t i s (λ u v. not-both-equal s i t j h (sym v) (sym u))) (p a));
-      records-held = on-lines-behead (F .stations) (OfHeld M (F .carts) (F .waiting) (F .initiator) (F .number) (F .acked) (F .named)) s t (F .lines) (X .records-held);
+      records-held = on-lines-behead (F .stations) (HeldRecord M F) s t (F .lines) (X .records-held);
       deletes-once = λ m u g lt. let z = countLine-behead (isDeleteOf (F .number m)) s t (F .lines) (F .initiator m) u in let y = X .deletes-once m u g lt in omega arith;
       acks-once = λ m c g. let z = countLines-beheaded (F .stations) (acksTo (F .initiator m) (F .number m) c) s t (F .lines) in let y = X .acks-once m c g in omega arith;
       within = λ m c g q. let z = countLines-beheaded (F .stations) (acksTo (F .initiator m) (F .number m) c) s t (F .lines) in X .within m c g (omega arith);
@@ -140,14 +151,14 @@ no-multicast-below e (deregister c ∷ l) top n r h = (refl, no-multicast-below 
 no-multicast-below e (register c row ∷ l) top n r h = (refl, no-multicast-below e l top n r h)
 
 pub put-lines : (M : Limits) (F : Floor) (a b : ℕ) (x : Record) → quiet x ≡ true → ((n : ℕ) → isDeleteOf n x ≡ false) → ((n c : ℕ) → isAckOf n c x ≡ false)
-    → OfHeld M (F .carts) (F .waiting) (F .initiator) (F .number) (F .acked) (F .named) a b x
+    → HeldRecord M F a b x
     → LineFacts M F → LineFacts M (onLines F (put (between a b) x (F .lines)))
 put-lines M F a b x q qd qa g X =
     let none : (m c : ℕ) → countLines (F .stations) (acksTo (F .initiator m) (F .number m) c) (put (between a b) x (F .lines)) ≡ countLines (F .stations) (acksTo (F .initiator m) (F .number m) c) (F .lines) =
     λ m c. countLines-put-none (F .stations) (acksTo (F .initiator m) (F .number m) c) (between a b) x (F .lines) (λ i j e. rw (qa (F .number m) c) (and-false (eqb j (F .initiator m)))) in
     record {
       order = λ s t lt. on-put (DeletesAfter (F .expected t s)) (between a b) x (F .lines) s t (λ e. deletes-after-quiet (F .expected t s) (F .lines s t) x q (X .order s t lt)) (λ e. X .order s t lt);
-      records-held = on-lines-put (F .stations) (OfHeld M (F .carts) (F .waiting) (F .initiator) (F .number) (F .acked) (F .named)) (between a b) x (F .lines) (X .records-held)
+      records-held = on-lines-put (F .stations) (HeldRecord M F) (between a b) x (F .lines) (X .records-held)
           (λ i j li lj e. let z = both-equal a i b j e in rw (← (z .0), ← (z .1)) g);
       deletes-once = λ m t k lt. on-put (λ l. countLine (isDeleteOf (F .number m)) l ≤ 1) (between a b) x (F .lines) (F .initiator m) t
           (λ e. let z = countLine-more (isDeleteOf (F .number m)) (F .lines (F .initiator m) t) x in let y = X .deletes-once m t k lt in let v : bit (isDeleteOf (F .number m) x) ≡ 0 = rw (qd (F .number m)) in omega arith)

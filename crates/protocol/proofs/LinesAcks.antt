@@ -1,4 +1,4 @@
--- Room: ack list, delete, send.
+-- The records on the lines after an ack list and a delete.
 use mathlib.Core.Path.{ap, refl, sym, _∙_, _≡_}
 use mathlib.Core.Bool.{_&&_, Bool, false, not, true, _||_}
 use mathlib.Core.Option.{none, some}
@@ -15,7 +15,7 @@ use Rattle.protocol.specs.Handoff.{roomOf}
 use Rattle.protocol.specs.Wired.{addAcks, onAckList, onDelete}
 use Rattle.protocol.specs.Wireless.{allAcked}
 use Rattle.protocol.specs.Claims.{All}
-use Rattle.protocol.specs.Form.{ackCount, acksTo, bit, countLine, countLines, isAckOf, isDeleteOf, multicastNumbers}
+use Rattle.protocol.specs.Form.{ackCount, acksOf, acksTo, bit, countLine, countLines, isAckOf, isDeleteOf, multicastNumbers}
 use Rattle.protocol.proofs.Tests.{and-false, and-intro, and-left, by-test, clash, eqb-self, on-cond, on-option, on-update, update-at}
 use Rattle.protocol.proofs.SetLaws.{has-union, has-without, has-zero}
 use Rattle.protocol.proofs.FloorLaws.{on-put}
@@ -23,14 +23,14 @@ use Rattle.protocol.proofs.Invariant.{CountsUp, Held, History, Invarian
 use Rattle.protocol.proofs.Updates.{all-map, record-taken}
 use Rattle.protocol.proofs.CatchUp.{room-some}
 use Rattle.protocol.proofs.Counting.{OnLines, all-map2, bit-le, countLine-more, countLine-none, countLines-at, countLines-behead, countLines-put-none, none-countLine, none-countLines, on-line, on-lines-behead, on-lines-head, on-lines-map, on-lines-put}
-use Rattle.protocol.proofs.LineFacts.{DeletesAfter, LineFacts, OfHeld, Reach, deletes-after-delete, isMulticastOf, no-multicast-below, taken-lines}
+use Rattle.protocol.proofs.LineFacts.{DeletesAfter, HeldRecord, LineFacts, OfHeld, Reach, deletes-after-delete, isMulticastOf, no-multicast-below, taken-lines}
 
 module _ (M : Limits) (F : Floor) (X : LineFacts M F) where
   -- while an ack list of m is on a line, m is not fully acknowledged
   pub not-all-acked : (i s n set : ℕ) (l : List Record) → F .lines i s ≡ ackList n set ∷ l → i < F .stations → s < F .stations → (m : ℕ) → Held M (F .waiting) m → F .initiator m ≡ s → F .number m ≡ n → F .acked m ≡ F .named m → ⊥
   not-all-acked i s n set l e li ls m h is-i is-n allAcked =
-      let g : OfHeld M (F .carts) (F .waiting) (F .initiator) (F .number) (F .acked) (F .named) i s (ackList n set) =
-      on-lines-head (F .stations) (OfHeld M (F .carts) (F .waiting) (F .initiator) (F .number) (F .acked) (F .named)) i s (F .lines) (ackList n set) l e li ls (X .records-held) in
+      let g : HeldRecord M F i s (ackList n set) =
+      on-lines-head (F .stations) (HeldRecord M F) i s (F .lines) (ackList n set) l e li ls (X .records-held) in
       let c = g .1 .0 in
       let hc : has set c ≡ true = g .1 .2 in
       let p = countLines-at (F .stations) (acksTo (F .initiator m) (F .number m) c) i s (F .lines) (ackList n set) l e li ls (rw (is-i, is-n, eqb-self s, eqb-self n) hc) in
@@ -71,7 +71,7 @@ module _ (M : Limits) (F : Floor) (G : History) (i s n set : ℕ) (l : List Reco
     bit-or false false true h = clash false (h refl) refl
 
     waitingLess : (k c : ℕ) → Held M (F .waiting) k
-        → ackCount (F .stations) J (F .acks) (F .initiator) (F .number) (behead i s (F .lines)) k c ≤ ackCount (F .stations) (F .acked) (F .acks) (F .initiator) (F .number) (F .lines) k c
+        → ackCount (F .stations) J (F .acks) (F .initiator) (F .number) (behead i s (F .lines)) k c ≤ acksOf M F k c
     unfolding J
     waitingLess k c h =
         let z = countLines-behead (F .stations) (acksTo (F .initiator k) (F .number k) c) i s (F .lines) (ackList n set) l e li ls in
@@ -87,7 +87,7 @@ module _ (M : Limits) (F : Floor) (G : History) (i s n set : ℕ) (l : List Reco
     unfolding J
     kept k q = by-test (eqb k m) (λ z. absurd (not-all-yet (let y = eqb-true k m z in rw y at q))) (λ z. rw z q)
 
-    record-kept : (a b : ℕ) (x : Record) → OfHeld M (F .carts) (F .waiting) (F .initiator) (F .number) (F .acked) (F .named) a b x
+    record-kept : (a b : ℕ) (x : Record) → HeldRecord M F a b x
         → OfHeld M (F .carts) (F .waiting) (F .initiator) (F .number) J (F .named) a b x
     record-kept a b (multicast k) g = g
     record-kept a b (ackList k x) g = g
@@ -100,7 +100,7 @@ module _ (M : Limits) (F : Floor) (G : History) (i s n set : ℕ) (l : List Reco
     acks-added-lines =
         record {
           deleted-acked = λ k t h lt q. kept k (X .deleted-acked k t h lt q);
-          records-held = on-lines-map (F .stations) (OfHeld M (F .carts) (F .waiting) (F .initiator) (F .number) (F .acked) (F .named)) (OfHeld M (F .carts) (F .waiting) (F .initiator) (F .number) J (F .named)) (behead i s (F .lines)) record-kept (Xp .records-held);
+          records-held = on-lines-map (F .stations) (HeldRecord M F) (OfHeld M (F .carts) (F .waiting) (F .initiator) (F .number) J (F .named)) (behead i s (F .lines)) record-kept (Xp .records-held);
           acks-once = λ k c h. let z = waitingLess k c h in let y = X .acks-once k c h in omega arith;
           within = λ k c h p. let z = waitingLess k c h in X .within k c h (omega arith);
           order = Xp .order;
@@ -110,7 +110,7 @@ module _ (M : Limits) (F : Floor) (G : History) (i s n set : ℕ) (l : List Reco
     all-wait : (t : ℕ) → t < F .stations → has (F .waiting m) t ≡ true
     all-wait t lt = by-test (has (F .waiting m) t) (λ q. q) (λ q. absurd (not-all-yet (X .deleted-acked m t H lt q)))
 
-    no-delete-yet : (a b : ℕ) (x : Record) → OfHeld M (F .carts) (F .waiting) (F .initiator) (F .number) (F .acked) (F .named) a b x → a ≡ F .initiator m → isDeleteOf (F .number m) x ≡ false
+    no-delete-yet : (a b : ℕ) (x : Record) → HeldRecord M F a b x → a ≡ F .initiator m → isDeleteOf (F .number m) x ≡ false
     no-delete-yet a b (multicast k) g z = refl
     no-delete-yet a b (ackList k x) g z = refl
     no-delete-yet a b (delete k) g z =
@@ -212,7 +212,7 @@ module _ (M : Limits) (F : Floor) (G : History) (s t n : ℕ) (l : List Record) 
 
     whole-set-acked : F .acked m ≡ F .named m
     whole-set-acked =
-        let g : OfHeld M (F .carts) (F .waiting) (F .initiator) (F .number) (F .acked) (F .named) s t (delete n) = on-lines-head (F .stations) (OfHeld M (F .carts) (F .waiting) (F .initiator) (F .number) (F .acked) (F .named)) s t (F .lines) (delete n) l e ls lt (X .records-held) in
+        let g : HeldRecord M F s t (delete n) = on-lines-head (F .stations) (HeldRecord M F) s t (F .lines) (delete n) l e ls lt (X .records-held) in
         let r = g .0 in
         let is-m : r .m ≡ m = I .one-room (r .m) m (r .held) Hm (r .is-initiator ∙ sym m-i) (r .is-number ∙ sym m-n) in
         let v = g .1 in
@@ -254,7 +254,7 @@ module _ (M : Limits) (F : Floor) (G : History) (s t n : ℕ) (l : List Record) 
         let v = stay (r .m) b (r .held) lb (r .waits) ne in
         record { m = r .m; held = record { slot = r .held .slot; some = has-some (W (r .m)) b v }; is-initiator = r .is-initiator; is-number = r .is-number; waits = v }
 
-    record-left : (a b : ℕ) → b < F .stations → (x : Record) → OfHeld M (F .carts) (F .waiting) (F .initiator) (F .number) (F .acked) (F .named) a b x
+    record-left : (a b : ℕ) → b < F .stations → (x : Record) → HeldRecord M F a b x
         → (eqb a s && eqb b t ≡ true → (isMulticastOf n x ≡ false) × (isDeleteOf n x ≡ false)) → ((c : ℕ) → eqb b (F .initiator m) && isAckOf (F .number m) c x ≡ false)
         → OfHeld M (F .carts) W (F .initiator) (F .number) (F .acked) (F .named) a b x
     unfolding reach-kept

@@ -1,4 +1,4 @@
--- Room: enter, hand-off, multicast, radio.
+-- The records on the lines after a deregister, a multicast and a radio step.
 use mathlib.Core.Path.{refl, sym, _∙_, _≡_}
 use mathlib.Core.Bool.{_&&_, cond, false, true}
 use mathlib.Core.List.{List, _∷_}
@@ -13,7 +13,7 @@ use Rattle.protocol.specs.Events.{Done}
 use Rattle.protocol.specs.Handoff.{onDeregister, roomOf, rowOf}
 use Rattle.protocol.specs.Wired.{buffer, onMulticast}
 use Rattle.protocol.specs.Wireless.{allAcked, handOver, receive, sendAcks, sendAcksIfAll}
-use Rattle.protocol.specs.Form.{ackCount, acksTo, bit, countLine, countLines, isAckOf, isDeleteOf}
+use Rattle.protocol.specs.Form.{ackCount, acksOf, acksTo, bit, countLine, countLines, isAckOf, isDeleteOf}
 use Rattle.protocol.proofs.Tests.{and-false, and-left, and-right, both-equal, by-test, eqb-self, not-both-equal, on-cond, on-option, on-update2, or-cases, or-right, update2-at}
 use Rattle.protocol.proofs.SetLaws.{has-with, has-zero}
 use Rattle.protocol.proofs.FloorLaws.{on-put}
@@ -21,7 +21,7 @@ use Rattle.protocol.proofs.Accepted.{MayRadio}
 use Rattle.protocol.proofs.Invariant.{Entry, Held, History, Invariant, Sound}
 use Rattle.protocol.proofs.CatchUp.{one-at-once}
 use Rattle.protocol.proofs.Counting.{count-at, count-ext, count-mono, count-none, count-off, count-one, countLine-more, countLines-none, countLines-put-one, on-lines-map, on-lines-put}
-use Rattle.protocol.proofs.LineFacts.{DeletesAfter, LineFacts, OfHeld, deletes-after-quiet, multicast-taken-lines, put-lines, taken-lines}
+use Rattle.protocol.proofs.LineFacts.{DeletesAfter, HeldRecord, LineFacts, deletes-after-quiet, multicast-taken-lines, put-lines, taken-lines}
 
 pub deregister-lines : (M : Limits) (F : Floor) (i t c : ℕ) (l : List Record) → F .lines i t ≡ deregister c ∷ l → c < F .carts → LineFacts M F
     → LineFacts M (onDeregister M (onLines F (behead i t (F .lines))) i t c .floor)
@@ -50,7 +50,7 @@ no-ack-yet sends next s n c le i j (deregister d) p = and-false (eqb j s)
 no-ack-yet sends next s n c le i j (register d row) p = and-false (eqb j s)
 
 pub acked-has-passed : (M : Limits) (F : Floor) (G : History) → Invariant M F G → (m c : ℕ) → Held M (F .waiting) m
-    → 0 < ackCount (F .stations) (F .acked) (F .acks) (F .initiator) (F .number) (F .lines) m c → F .number m < F .next c (F .initiator m)
+    → 0 < acksOf M F m c → F .number m < F .next c (F .initiator m)
 acked-has-passed M F G I m c h t =
     by-test (ltb (F .number m) (F .next c (F .initiator m)))
     (λ q. ltb-true (F .number m) (F .next c (F .initiator m)) q)
@@ -67,7 +67,7 @@ acked-has-passed M F G I m c h t =
 -- radio: the cart joins the ack list
 module _ (M : Limits) (F : Floor) (G : History) (m t c : ℕ) (I : Invariant M F G) (X : LineFacts M F) (q0 : has (F .queue m t) c ≡ true) (lt : t < F .stations) (lc : c < F .carts) where
   T : ℕ → ℕ → ℕ
-  T = ackCount (F .stations) (F .acked) (F .acks) (F .initiator) (F .number) (F .lines)
+  T = acksOf M F
 
   A : ℕ → ℕ → ℕ
   A = update2 (F .acks) m t (with (F .acks m t) c)
@@ -135,7 +135,7 @@ module _ (M : Limits) (F : Floor) (m t c : ℕ) (uniq : (m k : ℕ) → Held M (
   off d u = rw (eqb-self m) (by-test (eqb u t) (λ e. rw e (has-zero d)) (λ e. rw e))
 
   acks-moved : (k d : ℕ) → Held M (F .waiting) k
-      → ackCount (F .stations) (F .acked) A0 (F .initiator) (F .number) (put (between t (F .initiator m)) r0 (F .lines)) k d ≤ ackCount (F .stations) (F .acked) (F .acks) (F .initiator) (F .number) (F .lines) k d
+      → ackCount (F .stations) (F .acked) A0 (F .initiator) (F .number) (put (between t (F .initiator m)) r0 (F .lines)) k d ≤ acksOf M F k d
   unfolding A0 r0
   acks-moved k d h =
       let z = countLines-put-one (F .stations) (acksTo (F .initiator k) (F .number k) d) t (F .initiator m) r0 (F .lines) in
@@ -166,7 +166,7 @@ module _ (M : Limits) (F : Floor) (m t c : ℕ) (uniq : (m k : ℕ) → Held M (
   acks-sent-lines =
       record {
         order = λ s u lu. on-put (DeletesAfter (F .expected u s)) (between t (F .initiator m)) r0 (F .lines) s u (λ e. deletes-after-quiet (F .expected u s) (F .lines s u) r0 refl (X .order s u lu)) (λ e. X .order s u lu);
-        records-held = on-lines-put (F .stations) (OfHeld M (F .carts) (F .waiting) (F .initiator) (F .number) (F .acked) (F .named)) (between t (F .initiator m)) r0 (F .lines) (X .records-held)
+        records-held = on-lines-put (F .stations) (HeldRecord M F) (between t (F .initiator m)) r0 (F .lines) (X .records-held)
             (λ i j li lj e. let z = both-equal t i (F .initiator m) j e in (record { m = m; held = H; is-initiator = z .1; is-number = refl }, (c, lc, mine)));
         deletes-once = λ k u h lu. on-put (λ l. countLine (isDeleteOf (F .number k)) l ≤ 1) (between t (F .initiator m)) r0 (F .lines) (F .initiator k) u
             (λ e. let z = countLine-more (isDeleteOf (F .number k)) (F .lines (F .initiator k) u) r0 in let y = X .deletes-once k u h lu in omega arith) (λ e. X .deletes-once k u h lu);

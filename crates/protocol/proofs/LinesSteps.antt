@@ -1,4 +1,4 @@
--- Room: send; every step.
+-- The records on the lines after a send, and after every event.
 use mathlib.Core.Path.{refl, _≡_}
 use mathlib.Core.Bool.{_&&_, Bool, cond, false, true}
 use mathlib.Core.Option.{some}
@@ -13,7 +13,7 @@ use Rattle.protocol.specs.Floor.{Floor, Limits, Record, ackList, at, del
 use Rattle.protocol.specs.Events.{Event}
 use Rattle.protocol.specs.Handoff.{entryOf, onEnter, onMove, onRegister, rowOf, struck}
 use Rattle.protocol.specs.Wired.{buffer, handle, withMessage}
-use Rattle.protocol.specs.Form.{ackCount, acksTo, bit, countLine, countLines, deregistering, handoffOf, handoffs, isAckOf, isDeleteOf}
+use Rattle.protocol.specs.Form.{ackCount, acksOf, acksTo, bit, countLine, countLines, deregistering, handoffOf, handoffs, isAckOf, isDeleteOf}
 use Rattle.protocol.specs.Step.{step}
 use Rattle.protocol.proofs.Tests.{and-false, and-left, and-right, by-test, clash, eqb-self}
 use Rattle.protocol.proofs.SetLaws.{has-setOf, has-zero}
@@ -24,7 +24,7 @@ use Rattle.protocol.proofs.Updates.{all-map}
 use Rattle.protocol.proofs.CatchUp.{arrive-at-once}
 use Rattle.protocol.proofs.HandoffSteps.{deregistering-is}
 use Rattle.protocol.proofs.Counting.{count-ext, count-none, countLine-more, countLine-none, countLines-none, countLines-put-none, on-lines-map, on-lines-put}
-use Rattle.protocol.proofs.LineFacts.{DeletesAfter, LineFacts, OfHeld, Reach, deletes-after-multicast, put-lines, taken-lines}
+use Rattle.protocol.proofs.LineFacts.{DeletesAfter, HeldRecord, LineFacts, OfHeld, Reach, deletes-after-multicast, put-lines, taken-lines}
 use Rattle.protocol.proofs.LinesRadio.{deregister-lines, multicast-lines, radio-lines}
 use Rattle.protocol.proofs.LinesAcks.{ack-list-lines, delete-lines}
 
@@ -67,7 +67,7 @@ module _ (M : Limits) (F : Floor) (G : History) (s set : ℕ) (text : List ℕ) 
       let z' : F .number (r .m) < F .sent s = rw (r .is-initiator, x) at z in
       let v = r .is-number in omega arith
 
-  no-delete-of-new : (u : ℕ) (x : Record) → OfHeld M (F .carts) (F .waiting) (F .initiator) (F .number) (F .acked) (F .named) s u x → isDeleteOf n x ≡ false
+  no-delete-of-new : (u : ℕ) (x : Record) → HeldRecord M F s u x → isDeleteOf n x ≡ false
   unfolding n
   no-delete-of-new u (multicast k) g = refl
   no-delete-of-new u (ackList k x) g = refl
@@ -75,7 +75,7 @@ module _ (M : Limits) (F : Floor) (G : History) (s set : ℕ) (text : List ℕ) 
   no-delete-of-new u (deregister d) g = refl
   no-delete-of-new u (register d row) g = refl
 
-  no-ack-of-new : (c a b : ℕ) (x : Record) → OfHeld M (F .carts) (F .waiting) (F .initiator) (F .number) (F .acked) (F .named) a b x → eqb b s && isAckOf n c x ≡ false
+  no-ack-of-new : (c a b : ℕ) (x : Record) → HeldRecord M F a b x → eqb b s && isAckOf n c x ≡ false
   unfolding n
   no-ack-of-new c a b (multicast k) g = and-false (eqb b s)
   no-ack-of-new c a b (ackList k x) g =
@@ -98,7 +98,7 @@ module _ (M : Limits) (F : Floor) (G : History) (s set : ℕ) (text : List ℕ) 
       let z = not-m (r .m) (r .held) in
       record { m = r .m; held = new (r .m) (r .held); is-initiator = rw z (r .is-initiator); is-number = rw z (r .is-number); waits = rw z (r .waits) }
 
-  record-old : (a b : ℕ) (x : Record) → OfHeld M (F .carts) (F .waiting) (F .initiator) (F .number) (F .acked) (F .named) a b x → OfHeld M (F .carts) W (update (F .initiator) m s) (update (F .number) m (F .sent s)) (update (F .acked) m 0) (update (F .named) m set) a b x
+  record-old : (a b : ℕ) (x : Record) → HeldRecord M F a b x → OfHeld M (F .carts) W (update (F .initiator) m s) (update (F .number) m (F .sent s)) (update (F .acked) m 0) (update (F .named) m set) a b x
   unfolding reach-old
   record-old a b (multicast k) g = reach-old a k b g
   record-old a b (ackList k x) g =
@@ -112,7 +112,7 @@ module _ (M : Limits) (F : Floor) (G : History) (s set : ℕ) (text : List ℕ) 
   unfolding n
   acks-new c =
       let a = countLines-put-none (F .stations) (acksTo s (F .sent s) c) on (multicast n) (F .lines) (λ a b o. and-false (eqb b s)) in
-      let b = countLines-none (F .stations) (acksTo s (F .sent s) c) (F .lines) (on-lines-map (F .stations) (OfHeld M (F .carts) (F .waiting) (F .initiator) (F .number) (F .acked) (F .named)) (λ i j b. acksTo s (F .sent s) c i j b ≡ false) (F .lines) (no-ack-of-new c) (X .records-held)) in
+      let b = countLines-none (F .stations) (acksTo s (F .sent s) c) (F .lines) (on-lines-map (F .stations) (HeldRecord M F) (λ i j b. acksTo s (F .sent s) c i j b ≡ false) (F .lines) (no-ack-of-new c) (X .records-held)) in
       let e = count-none (F .stations) (λ t. has (cond (eqb m m) 0 (F .acks m t)) c) (λ t lt. rw (eqb-self m) (has-zero c)) in
       let f : bit (has (update (F .acked) m 0 m) c) ≡ 0 = rw (eqb-self m, has-zero c) in
       let g : countLines (F .stations) (acksTo (update (F .initiator) m s m) (update (F .number) m (F .sent s) m) c) (put on (multicast n) (F .lines)) ≡ countLines (F .stations) (acksTo s (F .sent s) c) (put on (multicast n) (F .lines)) = rw (eqb-self m) in
@@ -120,7 +120,7 @@ module _ (M : Limits) (F : Floor) (G : History) (s set : ℕ) (text : List ℕ) 
 
   acks-old : (k c : ℕ) → eqb k m ≡ false
       → ackCount (F .stations) (update (F .acked) m 0) (λ k t. cond (eqb k m) 0 (F .acks k t)) (update (F .initiator) m s) (update (F .number) m (F .sent s)) (put on (multicast n) (F .lines)) k c
-      ≡ ackCount (F .stations) (F .acked) (F .acks) (F .initiator) (F .number) (F .lines) k c
+      ≡ acksOf M F k c
   acks-old k c z =
       let a = acks-unmoved k c in
       let e = count-ext (F .stations) (λ t. has (cond (eqb k m) 0 (F .acks k t)) c) (λ t. has (F .acks k t) c) (λ t. rw z) in
@@ -138,7 +138,7 @@ module _ (M : Limits) (F : Floor) (G : History) (s set : ℕ) (text : List ℕ) 
         deleted-acked = λ k t h lt q. by-test (eqb k m)
             (λ z. let y = eqb-true k m z in clash (has (W k) t) (rw (y, eqb-self m) (has-setOf (F .stations) (λ t. true) t lt)) q)
             (λ z. rw z (X .deleted-acked k t (old k z h) lt (rw z at q)));
-        records-held = on-lines-put (F .stations) (OfHeld M (F .carts) W (update (F .initiator) m s) (update (F .number) m (F .sent s)) (update (F .acked) m 0) (update (F .named) m set)) on x w (on-lines-map (F .stations) (OfHeld M (F .carts) (F .waiting) (F .initiator) (F .number) (F .acked) (F .named)) (OfHeld M (F .carts) W (update (F .initiator) m s) (update (F .number) m (F .sent s)) (update (F .acked) m 0) (update (F .named) m set)) w record-old (X .records-held))
+        records-held = on-lines-put (F .stations) (OfHeld M (F .carts) W (update (F .initiator) m s) (update (F .number) m (F .sent s)) (update (F .acked) m 0) (update (F .named) m set)) on x w (on-lines-map (F .stations) (HeldRecord M F) (OfHeld M (F .carts) W (update (F .initiator) m s) (update (F .number) m (F .sent s)) (update (F .acked) m 0) (update (F .named) m set)) w record-old (X .records-held))
             (λ a t la lt o. let z = eqb-true s a (and-left (eqb s a) (ltb t (F .stations)) o) in
             record { m = m; held = is-new; is-initiator = rw (eqb-self m) z; is-number = rw (eqb-self m); waits = rw (eqb-self m) (has-setOf (F .stations) (λ t. true) t lt) });
         deletes-once = λ k u h lu. by-test (eqb k m)

@@ -1,4 +1,4 @@
--- Room: the bound.
+-- The record bound: held × (stations + stations + carts) + carts.
 use mathlib.Core.Path.{ap, refl, sym, _∙_, _≡_}
 use mathlib.Core.Bool.{_&&_, Bool, false, not, true}
 use mathlib.Core.Option.{some}
@@ -16,7 +16,7 @@ use Rattle.protocol.specs.Form.{HandoffRecord, acksTo, bit, countLine, c
 use Rattle.protocol.proofs.Tests.{and-false, and-intro, and-left, and-right, both-differ, by-test, clash, eqb-self, on-cond}
 use Rattle.protocol.proofs.Invariant.{CountsUp, Held, Holds}
 use Rattle.protocol.proofs.Counting.{OnLines, all-any, countLine-none, countLines-none, cover, on-lines-map, sum-add, sum-ext, sum-le, sum-nil, sum-only, sum2-only}
-use Rattle.protocol.proofs.LineFacts.{LineFacts, OfHeld, isHandoffOf, isMulticastOf, no-multicast-below}
+use Rattle.protocol.proofs.LineFacts.{HeldRecord, LineFacts, isHandoffOf, isMulticastOf, no-multicast-below}
 
 abbrev isMulticast : Record → Bool
 isMulticast (multicast n) = true
@@ -134,12 +134,12 @@ module _ (M : Limits) (F : Floor) (X : LineFacts M F)
 
   -- multicasts and deletes: one for each held message and station
   sent-at-most : (K : Record → Bool) (B : ℕ → Record → Bool)
-      → ((i j : ℕ) (x : Record) → OfHeld M (F .carts) (F .waiting) (F .initiator) (F .number) (F .acked) (F .named) i j x → K x ≡ true → (n : ℕ) × (Holds M (F .waiting) (F .initiator) (F .number) i n) × (B n x ≡ true))
+      → ((i j : ℕ) (x : Record) → HeldRecord M F i j x → K x ≡ true → (n : ℕ) × (Holds M (F .waiting) (F .initiator) (F .number) i n) × (B n x ≡ true))
       → ((m t : ℕ) → Held M (F .waiting) m → t < F .stations → countLine (B (F .number m)) (F .lines (F .initiator m) t) ≤ 1)
       → countLines (F .stations) (λ i j. K) (F .lines) ≤ M .held * F .stations
   sent-at-most K B of one =
       kind-at-most (F .stations) K (λ m i j x. eqb i (F .initiator m) && B (F .number m) x)
-      (on-lines-map (F .stations) (OfHeld M (F .carts) (F .waiting) (F .initiator) (F .number) (F .acked) (F .named)) (λ i j x. K x ≡ true → (m : ℕ) × (Held M (F .waiting) m) × (eqb i (F .initiator m) && B (F .number m) x ≡ true)) (F .lines)
+      (on-lines-map (F .stations) (HeldRecord M F) (λ i j x. K x ≡ true → (m : ℕ) × (Held M (F .waiting) m) × (eqb i (F .initiator m) && B (F .number m) x ≡ true)) (F .lines)
       (λ i j x g e. let r = of i j x g e in let h = r .1 in
       (h .m, h .held, and-intro (eqb i (F .initiator (h .m))) (B (F .number (h .m)) x) (eq-eqb i (F .initiator (h .m)) (sym (h .is-initiator))) (let q = r .2 in rw (h .is-number) q)))
       (X .records-held))
@@ -151,7 +151,7 @@ module _ (M : Limits) (F : Floor) (X : LineFacts M F)
   multicasts-le : countLines (F .stations) (λ i j. isMulticast) (F .lines) ≤ M .held * F .stations
   multicasts-le = sent-at-most isMulticast isMulticastOf of (λ m t h lt. one-multicast (F .expected t (F .initiator m)) (F .lines (F .initiator m) t) (F .sent (F .initiator m)) (F .number m) (run (F .initiator m) t lt))
     where
-      of : (i j : ℕ) (x : Record) → OfHeld M (F .carts) (F .waiting) (F .initiator) (F .number) (F .acked) (F .named) i j x → isMulticast x ≡ true → (n : ℕ) × (Holds M (F .waiting) (F .initiator) (F .number) i n) × (isMulticastOf n x ≡ true)
+      of : (i j : ℕ) (x : Record) → HeldRecord M F i j x → isMulticast x ≡ true → (n : ℕ) × (Holds M (F .waiting) (F .initiator) (F .number) i n) × (isMulticastOf n x ≡ true)
       of i j (multicast n) r e = (n, record { m = r .m; held = r .held; is-initiator = r .is-initiator; is-number = r .is-number }, eqb-self n)
       of i j (ackList n x) g e = clash false e refl
       of i j (delete n) g e = clash false e refl
@@ -161,7 +161,7 @@ module _ (M : Limits) (F : Floor) (X : LineFacts M F)
   deletes-le : countLines (F .stations) (λ i j. isDelete) (F .lines) ≤ M .held * F .stations
   deletes-le = sent-at-most isDelete isDeleteOf of (X .deletes-once)
     where
-      of : (i j : ℕ) (x : Record) → OfHeld M (F .carts) (F .waiting) (F .initiator) (F .number) (F .acked) (F .named) i j x → isDelete x ≡ true → (n : ℕ) × (Holds M (F .waiting) (F .initiator) (F .number) i n) × (isDeleteOf n x ≡ true)
+      of : (i j : ℕ) (x : Record) → HeldRecord M F i j x → isDelete x ≡ true → (n : ℕ) × (Holds M (F .waiting) (F .initiator) (F .number) i n) × (isDeleteOf n x ≡ true)
       of i j (multicast n) g e = clash false e refl
       of i j (ackList n x) g e = clash false e refl
       of i j (delete n) g e = let r = g .0 in (n, record { m = r .m; held = r .held; is-initiator = r .is-initiator; is-number = r .is-number }, eqb-self n)
@@ -179,12 +179,12 @@ module _ (M : Limits) (F : Floor) (X : LineFacts M F)
   ack-lists-le : countLines (F .stations) (λ i j. isAckList) (F .lines) ≤ M .held * F .carts
   ack-lists-le =
       kind-at-most (F .carts) isAckList (λ m i j x. eqb j (F .initiator m) && isAckListOf (F .number m) x)
-      (on-lines-map (F .stations) (OfHeld M (F .carts) (F .waiting) (F .initiator) (F .number) (F .acked) (F .named)) (λ i j x. isAckList x ≡ true → (m : ℕ) × (Held M (F .waiting) m) × (eqb j (F .initiator m) && isAckListOf (F .number m) x ≡ true)) (F .lines) of (X .records-held))
+      (on-lines-map (F .stations) (HeldRecord M F) (λ i j x. isAckList x ≡ true → (m : ℕ) × (Held M (F .waiting) m) × (eqb j (F .initiator m) && isAckListOf (F .number m) x ≡ true)) (F .lines) of (X .records-held))
       (λ m h. let c = cover (F .stations) (λ i j x. eqb j (F .initiator m) && isAckListOf (F .number m) x) (F .carts) (λ c. acksTo (F .initiator m) (F .number m) c) (F .lines)
-      (on-lines-map (F .stations) (OfHeld M (F .carts) (F .waiting) (F .initiator) (F .number) (F .acked) (F .named)) (λ i j x. eqb j (F .initiator m) && isAckListOf (F .number m) x ≡ true → (c : ℕ) × (c < F .carts) × (acksTo (F .initiator m) (F .number m) c i j x ≡ true)) (F .lines) (to m) (X .records-held)) in
+      (on-lines-map (F .stations) (HeldRecord M F) (λ i j x. eqb j (F .initiator m) && isAckListOf (F .number m) x ≡ true → (c : ℕ) × (c < F .carts) × (acksTo (F .initiator m) (F .number m) c i j x ≡ true)) (F .lines) (to m) (X .records-held)) in
       let y = sum-le (F .carts) 1 (λ c. countLines (F .stations) (acksTo (F .initiator m) (F .number m) c) (F .lines)) (λ c lt. let o = X .acks-once m c h in omega arith) in omega arith)
     where
-      of : (i j : ℕ) (x : Record) → OfHeld M (F .carts) (F .waiting) (F .initiator) (F .number) (F .acked) (F .named) i j x → isAckList x ≡ true → (m : ℕ) × (Held M (F .waiting) m) × (eqb j (F .initiator m) && isAckListOf (F .number m) x ≡ true)
+      of : (i j : ℕ) (x : Record) → HeldRecord M F i j x → isAckList x ≡ true → (m : ℕ) × (Held M (F .waiting) m) × (eqb j (F .initiator m) && isAckListOf (F .number m) x ≡ true)
       of i j (multicast n) g e = clash false e refl
       of i j (ackList n x) g e =
           let r = g .0 in
@@ -193,7 +193,7 @@ module _ (M : Limits) (F : Floor) (X : LineFacts M F)
       of i j (deregister d) g e = clash false e refl
       of i j (register d row) g e = clash false e refl
 
-      to : (m i j : ℕ) (x : Record) → OfHeld M (F .carts) (F .waiting) (F .initiator) (F .number) (F .acked) (F .named) i j x → eqb j (F .initiator m) && isAckListOf (F .number m) x ≡ true → (c : ℕ) × (c < F .carts) × (acksTo (F .initiator m) (F .number m) c i j x ≡ true)
+      to : (m i j : ℕ) (x : Record) → HeldRecord M F i j x → eqb j (F .initiator m) && isAckListOf (F .number m) x ≡ true → (c : ℕ) × (c < F .carts) × (acksTo (F .initiator m) (F .number m) c i j x ≡ true)
       to m i j (multicast n) g e = clash (eqb j (F .initiator m) && false) e (and-false (eqb j (F .initiator m)))
       to m i j (ackList n x) g e = (
         g .1 .0,
@@ -209,14 +209,14 @@ module _ (M : Limits) (F : Floor) (X : LineFacts M F)
   handoffs-le : countLines (F .stations) (λ i j. isHandoff) (F .lines) ≤ F .carts
   handoffs-le =
       let c = cover (F .stations) (λ i j. isHandoff) (F .carts) (λ c i j. isHandoffOf c) (F .lines)
-      (on-lines-map (F .stations) (OfHeld M (F .carts) (F .waiting) (F .initiator) (F .number) (F .acked) (F .named)) (λ i j x. isHandoff x ≡ true → (c : ℕ) × (c < F .carts) × (isHandoffOf c x ≡ true)) (F .lines) of (X .records-held)) in
+      (on-lines-map (F .stations) (HeldRecord M F) (λ i j x. isHandoff x ≡ true → (c : ℕ) × (c < F .carts) × (isHandoffOf c x ≡ true)) (F .lines) of (X .records-held)) in
       let y = sum-le (F .carts) 1 (λ c. countLines (F .stations) (λ i j. isHandoffOf c) (F .lines))
       (λ c lt. let z = sum-ext (F .stations) (λ i. sum (F .stations) (λ j. countLine (isHandoffOf c) (F .lines i j))) (λ i. sum (F .stations) (λ j. length (handoffOf (F .place c) i j (rowOf M (F .next c)))))
       (λ i li. sum-ext (F .stations) (λ j. countLine (isHandoffOf c) (F .lines i j)) (λ j. length (handoffOf (F .place c) i j (rowOf M (F .next c)))) (λ j lj. count-handoffs c (F .lines i j) ∙ ap (λ (l : List HandoffRecord). length l) (about c i j))) in
       let o = one-handoff (F .stations) (F .place c) (rowOf M (F .next c)) in omega arith) in
       omega arith
     where
-      of : (i j : ℕ) (x : Record) → OfHeld M (F .carts) (F .waiting) (F .initiator) (F .number) (F .acked) (F .named) i j x → isHandoff x ≡ true → (c : ℕ) × (c < F .carts) × (isHandoffOf c x ≡ true)
+      of : (i j : ℕ) (x : Record) → HeldRecord M F i j x → isHandoff x ≡ true → (c : ℕ) × (c < F .carts) × (isHandoffOf c x ≡ true)
       of i j (multicast n) g e = clash false e refl
       of i j (ackList n x) g e = clash false e refl
       of i j (delete n) g e = clash false e refl
