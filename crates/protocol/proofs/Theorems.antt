@@ -117,6 +117,15 @@ passed-in-range M F e l B h a =
     let z = step-most M F (past M F X) (some-history M F X) (sized-of M F B P) e in
     rw a at z
 
+-- for the floor: at most 16 × 65,535
+pub floor-passed : (F : Floor) (e : Event) (l : Report) → BlankBeyond limits F → passesForm limits F ≡ true → answer limits F e ≡ accepted l → l .p ≤ 1048560
+floor-passed F e l B h a =
+    let p = passed-in-range limits F e l B h a in
+    let r = numbers-in-range limits F B h in
+    let n = r .stations in
+    let k = r .carts in
+    omega arith
+
 -- THE RECORD BOUND: "No event may be refused for want of room on a line": on every floor that passes, reached or not
 pub record-bound : (M : Limits) (F : Floor) → BlankBeyond M F → passesForm M F ≡ true → onTheLines (F .stations) (F .lines) ≤ M .held * (M .stations + M .stations + M .carts) + M .carts
 record-bound M F B h =
