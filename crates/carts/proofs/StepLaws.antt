@@ -1,0 +1,143 @@
+-- THE STEPS OF A CART'S RECORD, on the carts of a table; and the words of a place.
+use mathlib.Core.Path.{_≡_, refl, sym, ap, _∙_}
+use mathlib.Core.Bool.{Bool, true, cond}
+use mathlib.Core.List.{List}
+use Prim.Native.Nat.{ℕ, zero, suc, _+_, _≤_, _<_}
+use native.Mathlib.Omega.{arith}
+use lib.Dec.{eqb}
+use lib.ListN.{length, getD, set, List·getD-eq-default}
+use lib.Seq.{getD-set-same, getD-set-other}
+use borrow.Author.Tests.{eq-eqb, ne-eqb, eqb-true}
+use Rattle.protocol.specs.Folds.{every, listOf, update, update2}
+use Rattle.protocol.specs.Floor.{outside, at, leaving, travelling, Carts}
+use Rattle.protocol.proofs.Tests.{by-test, by-lt, by-eq, and-left, and-right, every-at, every-all, on-update, length-listOf, listOf-at}
+use Rattle.protocol.specs.Floor as floor
+use Rattle.ids.specs.declared.Station.{Station}
+use Rattle.carts.specs.declared.Place.{Place}
+use Rattle.carts.specs.declared.Place.the-variants.{Outside, At, Leaving, Travelling}
+use Rattle.carts.specs.declared.Cart.{Cart}
+use Rattle.carts.specs.Words.{placeIn, canonical}
+use Rattle.carts.specs.Records.{seen, greetedPlace, greeted, departedPlace, departed, received}
+use Rattle.carts.specs.View.{withPlace, withNext, withCart, IsCart}
+
+-- THE WORDS OF A PLACE
+
+-- the three words that a place is written in
+abbrev pub kindOf : floor.Place → ℕ
+kindOf outside = 0
+kindOf (at s) = 1
+kindOf (leaving s t) = 2
+kindOf (travelling s t) = 3
+
+abbrev pub firstOf : floor.Place → ℕ
+firstOf outside = 0
+firstOf (at s) = s
+firstOf (leaving s t) = s
+firstOf (travelling s t) = s
+
+abbrev pub secondOf : floor.Place → ℕ
+secondOf outside = 0
+secondOf (at s) = 0
+secondOf (leaving s t) = t
+secondOf (travelling s t) = t
+
+-- a place has one canonical writing
+pub canonical-words : (kind s t : ℕ) → canonical kind s t ≡ true → (kind ≡ kindOf (placeIn kind s t)) × (s ≡ firstOf (placeIn kind s t)) × (t ≡ secondOf (placeIn kind s t))
+canonical-words zero s t e = (refl, eqb-true s 0 (and-left (eqb s 0) (eqb t 0) e), eqb-true t 0 (and-right (eqb s 0) (eqb t 0) e))
+canonical-words (suc zero) s t e = (refl, refl, eqb-true t 0 e)
+canonical-words (suc (suc zero)) s t e = (refl, refl, refl)
+canonical-words (suc (suc (suc zero))) s t e = (refl, refl, refl)
+canonical-words (suc (suc (suc (suc kind)))) s t e = absurd (let z : _≡_ {A = ℕ} 0 1 = cc in omega arith)
+
+-- and that is one
+pub words-canonical : (p : floor.Place) → (canonical (kindOf p) (firstOf p) (secondOf p) ≡ true) × (placeIn (kindOf p) (firstOf p) (secondOf p) ≡ p)
+words-canonical outside = (refl, refl)
+words-canonical (at s) = (refl, refl)
+words-canonical (leaving s t) = (refl, refl)
+words-canonical (travelling s t) = (refl, refl)
+
+-- where all rows are canonical, a place put in one leaves them so
+pub still-canonical : (n : ℕ) (K : ℕ → Bool) (c : ℕ) → every n K ≡ true → every n (update K c true) ≡ true
+still-canonical n K c e =
+    every-all n (update K c true) (λ d l. on-update (λ b. b ≡ true) K c true d (λ q. refl) (λ q. every-at n K e d l))
+
+-- where those before c are, those up to c are once c's place is put
+pub one-more-canonical : (K : ℕ → Bool) (c : ℕ) → every c K ≡ true → every (c + 1) (update K c true) ≡ true
+one-more-canonical K c e =
+    every-all (c + 1) (update K c true) (λ d l. on-update (λ b. b ≡ true) K c true d (λ q. refl) (λ q. every-at c K e d (omega arith)))
+
+-- THE STEPS
+
+-- beyond sixteen initiators there are no next numbers
+abbrev pub Sixteen : Carts → Type 0
+Sixteen C = (d s : ℕ) → 16 ≤ s → C .next d s ≡ 0
+
+-- a place changed for itself
+place-same : (f : ℕ → floor.Place) (c : ℕ) (p : floor.Place) → p ≡ f c → update f c p ≡ f
+place-same f c p e = λ i d. same d i
+  where
+    same : (d : ℕ) → update f c p d ≡ f d
+    same d = by-test (eqb d c) (λ q. rw q (e ∙ ap f (sym (eqb-true d c q)))) (λ q. rw q)
+
+module _ (C : Carts) (sixteen : Sixteen C) (c : ℕ) (k : Cart) (is : IsCart C c k) where
+  -- a cart's next numbers are those of its record
+  pub entry : (s : ℕ) → getD (k .next) s 0 ≡ C .next c s
+  entry s =
+      ap (λ (row : List ℕ). getD row s 0) (is .next)
+      ∙ by-lt s 16
+      (λ l. listOf-at 16 (C .next c) 0 s l)
+      (λ l. List·getD-eq-default (listOf 16 (C .next c)) 0 (let z = length-listOf 16 (C .next c) in omega arith) ∙ sym (sixteen c s l))
+
+  -- a record with the same next numbers changes the place alone
+  place-only : (p : floor.Place) (k′ : Cart) → seen (k′ .place) ≡ p → k′ .next ≡ k .next → withCart C c k′ ≡ withPlace C c p
+  place-only p k′ e n = λ i. record { place = update (C .place) c (e i); next = λ d s. row d s i }
+    where
+      row : (d s : ℕ) → cond (eqb d c) (getD (k′ .next) s 0) (C .next d s) ≡ C .next d s
+      row d s =
+          by-test (eqb d c)
+          (λ q. rw q (ap (λ (l : List ℕ). getD l s 0) n ∙ entry s ∙ ap (λ (x : ℕ). C .next x s) (sym (eqb-true d c q))))
+          (λ q. rw q)
+
+  -- "the cart is leaving"
+  pub greet-step : (s : ℕ) (to : Station) (k′ : Cart) → C .place c ≡ at s → k′ ≡ greeted k to → withCart C c k′ ≡ withPlace C c (leaving s (to .0))
+  greet-step s to k′ e g = place-only (leaving s (to .0)) k′ (ap (λ x. seen (x .place)) g ∙ leaves (k .place) (is .place ∙ e)) (ap (λ x. x .next) g)
+    where
+      leaves : (p : Place) → seen p ≡ at s → seen (greetedPlace p to) ≡ leaving s (to .0)
+      leaves Outside q = cc
+      leaves (At r) q = cc
+      leaves (Leaving r t) q = cc
+      leaves (Travelling r t) q = cc
+
+  -- "travelling (its register is on a line)"
+  pub depart-step : (s t : ℕ) (k′ : Cart) → C .place c ≡ leaving s t → k′ ≡ departed k → withCart C c k′ ≡ withPlace C c (travelling s t)
+  depart-step s t k′ e g = place-only (travelling s t) k′ (ap (λ x. seen (x .place)) g ∙ goes (k .place) (is .place ∙ e)) (ap (λ x. x .next) g)
+    where
+      goes : (p : Place) → seen p ≡ leaving s t → seen (departedPlace p) ≡ travelling s t
+      goes Outside q = cc
+      goes (At r) q = cc
+      goes (Leaving r u) q = cc
+      goes (Travelling r u) q = cc
+
+  -- "its next number rises"
+  pub receive-step : (s : Station) (k′ : Cart) → s .0 < 16 → k′ ≡ received k s → withCart C c k′ ≡ withNext C c (s .0) (C .next c (s .0) + 1)
+  receive-step s k′ h g = λ i. record { place = place i; next = λ d u. row d u i }
+    where
+      place : update (C .place) c (seen (k′ .place)) ≡ C .place
+      place = place-same (C .place) c (seen (k′ .place)) (ap (λ x. seen (x .place)) g ∙ is .place)
+
+      long : s .0 < length (k .next)
+      long = let z = ap length (is .next) ∙ length-listOf 16 (C .next c) in omega arith
+
+      at-entry : (u : ℕ) → getD (k′ .next) u 0 ≡ cond (eqb u (s .0)) (C .next c (s .0) + 1) (C .next c u)
+      at-entry u =
+          ap (λ x. getD (x .next) u 0) g
+          ∙ by-eq u (s .0)
+          (λ q. rw (eq-eqb u (s .0) q) (ap (λ (n : ℕ). getD (set (k .next) (s .0) (getD (k .next) (s .0) 0 + 1)) n 0) q
+          ∙ getD-set-same (k .next) (s .0) (getD (k .next) (s .0) 0 + 1) 0 long ∙ ap (λ (n : ℕ). n + 1) (entry (s .0))))
+          (λ q. rw (ne-eqb u (s .0) q) (getD-set-other (k .next) (s .0) u (getD (k .next) (s .0) 0 + 1) 0 q ∙ entry u))
+
+      row : (d u : ℕ) → cond (eqb d c) (getD (k′ .next) u 0) (C .next d u) ≡ update2 (C .next) c (s .0) (C .next c (s .0) + 1) d u
+      row d u =
+          by-test (eqb d c)
+          (λ q. rw q (at-entry u ∙ ap (λ (x : ℕ). cond (eqb u (s .0)) (C .next c (s .0) + 1) (C .next x u)) (sym (eqb-true d c q))))
+          (λ q. rw q)

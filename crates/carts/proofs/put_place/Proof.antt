@@ -1,0 +1,68 @@
+-- `carts::put_place` meets its contract.
+use mathlib.Core.Path.{ap, _∙_}
+use native.Mathlib.Omega.{arith}
+use lib.ListN.{length-set}
+use borrow.Author.Needs.{needs}
+use Rattle.protocol.specs.Folds.{update}
+use Rattle.carts.specs.View.{cartsIn, canonicalIn, withPlace}
+use Rattle.carts.proofs.TableLaws.{place-put, place-put-canonical}
+use Rattle.carts.proofs.put_place.Statement.{statement}
+use Rattle.carts.proofs.put_place.Tie as tie
+
+mul-at : tie.Need-mul-at
+mul-at c = search needs
+
+words-of-requires : tie.Need-words-of-requires
+words-of-requires c κs = search needs
+
+mul-carts : tie.Need-mul-carts
+mul-carts c = search needs
+
+slice-write-carts : tie.Need-slice-write-carts
+slice-write-carts c = search needs
+
+add-carts : tie.Need-add-carts
+add-carts c = search needs
+
+mul-carts-2 : tie.Need-mul-carts-2
+mul-carts-2 c = search needs
+
+slice-write-carts-2 : tie.Need-slice-write-carts-2
+slice-write-carts-2 c = simp length-set (omega arith)
+
+add-carts-2 : tie.Need-add-carts-2
+add-carts-2 c = search needs
+
+mul-carts-3 : tie.Need-mul-carts-3
+mul-carts-3 c = search needs
+
+slice-write-carts-3 : tie.Need-slice-write-carts-3
+slice-write-carts-3 c = simp length-set (omega arith)
+
+same-length : tie.Need-same-length
+same-length c = search needs
+
+returns : tie.Need-returns
+returns c =
+    let a = c .before .before .args in
+    let w = c .words-of .result in (
+      place-put (a .carts .now) (a .number .0) (w .0) (w .1) (w .2) (omega arith) ∙ ap (withPlace (cartsIn (a .carts .now)) (a .number .0)) (c .words-of .ensures .0),
+      (place-put-canonical (a .carts .now) (a .number .0) (w .0) (w .1) (w .2) (omega arith) ∙ ap (update (canonicalIn (a .carts .now)) (a .number .0)) (c .words-of .ensures .1), simp length-set),
+    )
+
+pub put-place-spec : {M : Type 1} → statement M
+put-place-spec =
+    tie.close
+    (tie.spec
+    mul-at
+    words-of-requires
+    mul-carts
+    slice-write-carts
+    add-carts
+    mul-carts-2
+    slice-write-carts-2
+    add-carts-2
+    mul-carts-3
+    slice-write-carts-3
+    same-length
+    returns)

@@ -1,0 +1,47 @@
+-- A CART'S RECORD: "A cart's record is handed in and handed back with its new state".
+use mathlib.Core.List.{List}
+use Prim.Native.Nat.{ℕ, _+_}
+use lib.ListN.{getD, set}
+use Rattle.protocol.specs.Floor.{outside, at, leaving, travelling}
+use Rattle.protocol.specs.Floor as floor
+use Rattle.ids.specs.declared.Station.{Station}
+use Rattle.carts.specs.declared.Place.{Place}
+use Rattle.carts.specs.declared.Place.the-variants.{Outside, At, Leaving, Travelling}
+use Rattle.carts.specs.declared.Cart.{Cart}
+
+-- the place of the written steps that a place in a record is
+abbrev pub seen : Place → floor.Place
+seen Outside = outside
+seen (At s) = at (s .0)
+seen (Leaving s t) = leaving (s .0) (t .0)
+seen (Travelling s t) = travelling (s .0) (t .0)
+
+-- "leaving (it has greeted a new station, the old one has not heard)": from a station a cart is leaving it for the new one; elsewhere it stays
+abbrev pub greetedPlace : Place → Station → Place
+greetedPlace Outside to = Outside
+greetedPlace (At s) to = Leaving s to
+greetedPlace (Leaving s t) to = Leaving s t
+greetedPlace (Travelling s t) to = Travelling s t
+
+-- a cart's record when it has greeted a new station
+abbrev pub greeted : Cart → Station → Cart
+greeted k to = record { place = greetedPlace (k .place) to; next = k .next }
+
+-- "travelling (its register is on a line)": a leaving cart is on its way to where it was leaving for; any other stays
+abbrev pub departedPlace : Place → Place
+departedPlace Outside = Outside
+departedPlace (At s) = At s
+departedPlace (Leaving s t) = Travelling s t
+departedPlace (Travelling s t) = Travelling s t
+
+-- a cart's record when the old station has heard
+abbrev pub departed : Cart → Cart
+departed k = record { place = departedPlace (k .place); next = k .next }
+
+-- "the cart is at this station", with the row of next numbers that its register carried
+abbrev pub arrived : Cart → Station → List ℕ → Cart
+arrived k station row = record { place = At station; next = row }
+
+-- "its next number rises", the one for that initiator
+abbrev pub received : Cart → Station → Cart
+received k initiator = record { place = k .place; next = set (k .next) (initiator .0) (getD (k .next) (initiator .0) 0 + 1) }
