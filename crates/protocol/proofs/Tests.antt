@@ -172,6 +172,17 @@ first-none (suc n) f e m h =
     (λ t. by-eq m n (λ r. rw r t) (λ r. first-none n f q m (omega arith))))
     (λ k q. absurd (let z : _≡_ {A = ℕ} 0 1 = cc (first-go n f (some k) q) in omega arith))
 
+-- before what was found none passes
+pub first-least : (n : ℕ) (f : ℕ → Bool) (m : ℕ) → first n f ≡ some m → (k : ℕ) → k < m → f k ≡ false
+unfolding first
+first-least zero f m e k h = absurd (let z : _≡_ {A = ℕ} 0 1 = cc in omega arith)
+first-least (suc n) f m e k h =
+    by-option (first n f)
+    (λ q. by-test (f n)
+    (λ t. let z : m ≡ n = cc (first-go n f none q) in first-none n f q k (omega arith))
+    (λ t. absurd (let z : _≡_ {A = ℕ} 0 1 = cc (first-go n f none q) in omega arith)))
+    (λ j q. let z : j ≡ m = cc (first-go n f (some j) q) in first-least n f j q k (omega arith))
+
 -- where only m passes, m is found
 pub first-only : (n : ℕ) (f : ℕ → Bool) (m : ℕ) → m < n → f m ≡ true → ((k : ℕ) → k < n → f k ≡ true → k ≡ m) → first n f ≡ some m
 first-only n f m h e only =
