@@ -157,7 +157,8 @@ module _ (M : Limits) (F : Floor) where
     sized-of =
         record {
           lengths = P .floor .1 .0;
-          counts = (let f = P .floor .1 .1 in record { some-stations = f .0 .0; stations = f .0 .1; some-carts = f .1 .0; carts = f .1 .1 });
+          words = P .floor .1 .1 .0;
+          counts = (let f = P .floor .1 .1 .1 in record { some-stations = f .0 .0; stations = f .0 .1; some-carts = f .1 .0; carts = f .1 .1 });
           numbers = λ s. by-lt s (M .stations) (λ l. P .station s l .0) (λ l. let z = B .sent s l in omega arith);
           places = λ c. by-lt c (M .carts) (λ l. place-fits (F .place c) (P .cart c l .0)) (λ l. rw (B .place c l) tt);
           messages = record { named = λ m l. P .room m l .0; acked = λ m l. P .room m l .1 .0; waiting = λ m l. P .room m l .1 .1 .0; text = λ m l. P .room m l .1 .1 .1 };
@@ -307,7 +308,7 @@ module _ (M : Limits) (F : Floor) where
     clauses-from =
         let E = X .on-lines in
         record {
-          floor = (X .started, (S .lengths, ((S .counts .some-stations, S .counts .stations), (S .counts .some-carts, S .counts .carts))));
+          floor = (X .started, (S .lengths, (S .words, ((S .counts .some-stations, S .counts .stations), (S .counts .some-carts, S .counts .carts)))));
           station = λ s l. (S .numbers s, λ k. by-eq (F .sent s) 0 (λ z. z) (λ z. absurd (let y = X .senders s (omega arith) in omega arith)));
           cart = λ c l. (place-inside (F .place c) (S .places c), (X .real c, ((λ e s k. X .out c s (outside-is (F .place c) (not-true (entered (F .place c)) e))), λ s k. X .low c s)));
           room = λ m l. (S .messages .named m l, (S .messages .acked m l, (S .messages .waiting m l, S .messages .text m l)));

@@ -80,6 +80,7 @@ LinesFit stations carts lines = (i j : ℕ) → All (OnFloor stations carts i j)
 
 pub record Sized (M : Limits) (F : Floor) : Type 0 where
   pub lengths : F .lengthsRight ≡ true
+  pub words : F .wordsRight ≡ true
   pub counts : CountsFit M (F .stations) (F .carts)
   pub numbers : NumbersFit M (F .sent)
   pub places : PlacesFit (F .stations) (F .place)
@@ -131,6 +132,7 @@ module _ (M : Limits) where
               (S .copies .queue) (λ m u lm lu. with-lt (F .carts) (F .queue m u) c (S .copies .queue m u lm lu) lc);
         };
         lengths = S .lengths;
+        words = S .words;
         counts = S .counts;
         numbers = S .numbers;
         places = S .places;
@@ -154,6 +156,7 @@ module _ (M : Limits) where
           queue = S .copies .queue;
         };
         lengths = S .lengths;
+        words = S .words;
         counts = S .counts;
         numbers = S .numbers;
         messages = S .messages;
@@ -165,6 +168,7 @@ module _ (M : Limits) where
     popped-sized i j = record {
       lines = behead-fits (F .stations) (F .carts) (F .lines) i j (S .lines);
       lengths = S .lengths;
+      words = S .words;
       counts = S .counts;
       numbers = S .numbers;
       places = S .places;
@@ -180,7 +184,7 @@ module _ (M : Limits) where
     handled-sized i j (multicast n) l may =
         let P = popped-sized i j in
         on-option Fits (roomOf M F i n)
-        (λ q. record { lengths = P .lengths; counts = P .counts; numbers = P .numbers; places = P .places; messages = P .messages; copies = P .copies; lines = P .lines })
+        (λ q. record { lengths = P .lengths; words = P .words; counts = P .counts; numbers = P .numbers; places = P .places; messages = P .messages; copies = P .copies; lines = P .lines })
         (λ m q. record {
           copies = record {
             copy = set-update M (F .carts) (F .copy) m j (minus (F .named m) (cartsThat F (isStruck F m j i n)))
@@ -189,6 +193,7 @@ module _ (M : Limits) where
             queue = set-update M (F .carts) (F .queue) m j (cartsThat F (isQueued F m j i n)) (λ lm lt. setOf-lt (F .carts) (isQueued F m j i n)) (S .copies .queue);
           };
           lengths = P .lengths;
+          words = P .words;
           counts = P .counts;
           numbers = P .numbers;
           places = P .places;
@@ -211,12 +216,13 @@ module _ (M : Limits) where
           messages = H;
           lines = put-fits (F .stations) (F .carts) (behead i j (F .lines)) (toEvery (F .stations) j) (delete n) (P .lines) (to-every (F .stations) (F .carts) j (delete n) (may .to) tt);
           lengths = P .lengths;
+          words = P .words;
           counts = P .counts;
           numbers = P .numbers;
           places = P .places;
           copies = P .copies;
         })
-        (λ b. record { messages = H; lengths = P .lengths; counts = P .counts; numbers = P .numbers; places = P .places; copies = P .copies; lines = P .lines }))
+        (λ b. record { messages = H; lengths = P .lengths; words = P .words; counts = P .counts; numbers = P .numbers; places = P .places; copies = P .copies; lines = P .lines }))
     handled-sized i j (delete n) l may =
         let P = popped-sized i j in
         on-option Fits (roomOf M F i n) (λ q. P)
@@ -228,6 +234,7 @@ module _ (M : Limits) where
             text = S .messages .text;
           };
           lengths = P .lengths;
+          words = P .words;
           counts = P .counts;
           numbers = P .numbers;
           places = P .places;
@@ -245,6 +252,7 @@ module _ (M : Limits) where
           };
           lines = put-fits (F .stations) (F .carts) (behead i j (F .lines)) (between j i) (register c (rowOf M (F .next c))) (P .lines) (to-one (F .stations) (F .carts) j i (register c (rowOf M (F .next c))) (may .to) (may .from) tt);
           lengths = P .lengths;
+          words = P .words;
           counts = P .counts;
           numbers = P .numbers;
           messages = P .messages;
@@ -264,6 +272,7 @@ module _ (M : Limits) where
         queue = set-update M (F .carts) (F .queue) m t (without (F .queue m t) c) (λ lm lt. without-lt (F .carts) (F .queue m t) c (S .copies .queue m t lm lt)) (S .copies .queue);
       };
       lengths = S .lengths;
+      words = S .words;
       counts = S .counts;
       numbers = S .numbers;
       places = S .places;
@@ -284,6 +293,7 @@ module _ (M : Limits) where
         lines = put-fits (F .stations) (F .carts) (F .lines) (between t (F .initiator m)) (ackList (F .number m) (F .acks m t)) (S .lines)
             (to-one (F .stations) (F .carts) t (F .initiator m) (ackList (F .number m) (F .acks m t)) lt li (S .copies .acks m t lm lt'));
         lengths = S .lengths;
+        words = S .words;
         counts = S .counts;
         numbers = S .numbers;
         places = S .places;
@@ -318,6 +328,7 @@ module _ (M : Limits) where
         copies = record { copy = blank (F .copy) (S .copies .copy); acks = blank (F .acks) (S .copies .acks); queue = blank (F .queue) (S .copies .queue) };
         lines = put-fits (F .stations) (F .carts) (F .lines) (toEvery (F .stations) s) (multicast (F .sent s)) (S .lines) (to-every (F .stations) (F .carts) s (multicast (F .sent s)) (may .station) tt);
         lengths = S .lengths;
+        words = S .words;
         counts = S .counts;
         places = S .places;
       }
@@ -331,6 +342,7 @@ module _ (M : Limits) where
         places = λ d. on-update (PlaceInRange (F .stations)) (F .place) c (leaving (stationOf (F .place c)) to) d (λ z. (old, may .station)) (λ z. S .places d);
         lines = put-fits (F .stations) (F .carts) (F .lines) (between to (stationOf (F .place c))) (deregister c) (S .lines) (to-one (F .stations) (F .carts) to (stationOf (F .place c)) (deregister c) (may .station) old tt);
         lengths = S .lengths;
+        words = S .words;
         counts = S .counts;
         numbers = S .numbers;
         messages = S .messages;
@@ -353,6 +365,7 @@ pub started-sized : (M : Limits) (n k : ℕ) → CountsFit M n k → Sized M (ju
 started-sized M n k fit =
     record {
       lengths = refl;
+      words = refl;
       counts = fit;
       numbers = λ s. omega arith;
       places = λ c. tt;

@@ -96,6 +96,7 @@ abbrev pub nearTheLast : Floor
 nearTheLast =
     record {
       lengthsRight = true;
+      wordsRight = true;
       started = true;
       stations = 1;
       carts = 1;

@@ -40,6 +40,8 @@ pub data Record : Type 0 where
 pub record Floor : Type 0 where
   -- "a lent part of the floor has the wrong length" is no
   pub lengthsRight : Bool
+  -- the words of the lent parts are such as their layout has: how they lie is no matter here
+  pub wordsRight : Bool
   -- "the mark that says started"
   pub started : Bool
   -- "Stations 1 to 16, numbered from 0": how many
@@ -102,6 +104,7 @@ abbrev pub onStations : Floor → (ℕ → ℕ) → (ℕ → ℕ → ℕ) → Fl
 onStations F sent expected =
     record {
       lengthsRight = F .lengthsRight;
+      wordsRight = F .wordsRight;
       started = F .started;
       stations = F .stations;
       carts = F .carts;
@@ -126,6 +129,7 @@ abbrev pub onCarts : Floor → Carts → Floor
 onCarts F C =
     record {
       lengthsRight = F .lengthsRight;
+      wordsRight = F .wordsRight;
       started = F .started;
       stations = F .stations;
       carts = F .carts;
@@ -150,6 +154,7 @@ abbrev pub onMessages : Floor → Messages → Floor
 onMessages F H =
     record {
       lengthsRight = F .lengthsRight;
+      wordsRight = F .wordsRight;
       started = F .started;
       stations = F .stations;
       carts = F .carts;
@@ -174,6 +179,7 @@ abbrev pub onCopies : Floor → Copies → Floor
 onCopies F K =
     record {
       lengthsRight = F .lengthsRight;
+      wordsRight = F .wordsRight;
       started = F .started;
       stations = F .stations;
       carts = F .carts;
@@ -198,6 +204,7 @@ abbrev pub onLines : Floor → (ℕ → ℕ → List Record) → Floor
 onLines F lines =
     record {
       lengthsRight = F .lengthsRight;
+      wordsRight = F .wordsRight;
       started = F .started;
       stations = F .stations;
       carts = F .carts;
@@ -344,6 +351,7 @@ abbrev pub afresh : Bool → ℕ → ℕ → Floor
 afresh mark n k =
     record {
       lengthsRight = true;
+      wordsRight = true;
       started = mark;
       stations = n;
       carts = k;

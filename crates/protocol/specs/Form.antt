@@ -115,11 +115,11 @@ sameHandoffs (registering f ∷ l) (deregistering ∷ k) = is false
 sameHandoffs (registering f ∷ l) (registering g ∷ k) = both (sameRow f g) (sameHandoffs l k)
 
 module _ (M : Limits) (F : Floor) where
-  -- THE WHOLE FLOOR: "An unstarted floor fails it", "the lengths of its lent parts included", "Stations 1 to 16", "Carts 1 to 64"
+  -- THE WHOLE FLOOR: "An unstarted floor fails it", "the lengths of its lent parts included" and their words, "Stations 1 to 16", "Carts 1 to 64"
   abbrev pub floorRule : Claim
   floorRule =
-      both (is (F .started)) (both (is (F .lengthsRight))
-      (both (both (lt 0 (F .stations)) (le (F .stations) (M .stations))) (both (lt 0 (F .carts)) (le (F .carts) (M .carts)))))
+      both (is (F .started)) (both (is (F .lengthsRight)) (both (is (F .wordsRight))
+      (both (both (lt 0 (F .stations)) (le (F .stations) (M .stations))) (both (lt 0 (F .carts)) (le (F .carts) (M .carts))))))
 
   -- EACH STATION s: "last number 65,534"; a station beyond the floor has sent nothing
   abbrev pub stationRule : ℕ → Claim
