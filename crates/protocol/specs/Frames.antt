@@ -20,27 +20,27 @@ pub record Fields : Type 0 where
   pub set : ℕ
 
 -- the number whose octets follow those of n, most significant first
-abbrev pub octets : ℕ → List ℕ → ℕ
-octets n [] = n
-octets n (x ∷ l) = octets (n * 256 + x) l
+unfoldable pub bigEndian : ℕ → List ℕ → ℕ
+bigEndian n [] = n
+bigEndian n (x ∷ l) = bigEndian (n * 256 + x) l
 
 -- the fields: the first five are three octets, zero is the next five, and set the last eight
-abbrev pub fieldsOf : List ℕ → Fields
+unfoldable pub fieldsOf : List ℕ → Fields
 fieldsOf l =
-    let head = octets 0 (take 3 l) in
+    let head = bigEndian 0 (take 3 l) in
     record {
       kind = head / 1048576;
       station = head / 65536 % 16;
       cart = head / 1024 % 64;
       other = head / 64 % 16;
       length = head % 64;
-      zero = octets 0 (take 5 (drop 3 l));
-      set = octets 0 (take 8 (drop 8 l));
+      zero = bigEndian 0 (take 5 (drop 3 l));
+      set = bigEndian 0 (take 8 (drop 8 l));
     }
 
 -- "Kinds: 0 start (station field, cart field), 1 enter (station, cart), 2 send (station, length, set), 3 wire (station = from, other = to),
 -- 4 radio (station, cart), 5 move (cart, other = to). Fields not listed for a kind must be zero": the sum of those
-abbrev pub unlisted : Fields → ℕ
+unfoldable pub unlisted : Fields → ℕ
 unlisted f =
     cond (eqb (f .kind) 2) (f .cart + f .other + f .zero)
     (cond (eqb (f .kind) 3) (f .cart + f .length + f .zero + f .set)
@@ -48,7 +48,7 @@ unlisted f =
     (f .other + f .length + f .zero + f .set)))
 
 -- the event of a kind: "station field = stations − 1, cart field = carts − 1" for a start; a radio step's text buffer holds every text
-abbrev pub eventOf : Limits → Fields → List ℕ → Event
+unfoldable pub eventOf : Limits → Fields → List ℕ → Event
 eventOf M f text =
     cond (eqb (f .kind) 0) (start (suc (f .station)) (suc (f .cart)))
     (cond (eqb (f .kind) 1) (enter (f .station) (f .cart))
@@ -63,15 +63,17 @@ pub data Reading : Type 0 where
   refusedFrame : (number : ℕ) → Reading
   taken : Event → (size : ℕ) → Reading
 
--- the refusal of the frame at the front of these octets, 0 if it is taken apart
-abbrev pub frameRefusal : Limits → List ℕ → ℕ
-frameRefusal M l =
-    let f = fieldsOf l in
-    check 1 (ltb (length l) 16)
-    (check 2 (ltb 5 (f .kind))
+-- the refusal of a frame with these fields and so many octets behind it, 0 if it is taken apart
+unfoldable pub fieldsRefusal : Limits → Fields → ℕ → ℕ
+fieldsRefusal M f behind =
+    check 2 (ltb 5 (f .kind))
     (check 3 (not (eqb (unlisted f) 0))
     (check 4 (ltb (M .text) (f .length))
-    (check 1 (ltb (length l - 16) (f .length)) 0))))
+    (check 1 (ltb behind (f .length)) 0)))
+
+-- the refusal of the frame at the front of these octets
+unfoldable pub frameRefusal : Limits → List ℕ → ℕ
+frameRefusal M l = check 1 (ltb (length l) 16) (fieldsRefusal M (fieldsOf l) (length l - 16))
 
 -- the frame at the front of these octets; "A send is followed by its text"
 unfoldable pub frameOf : Limits → List ℕ → Reading
