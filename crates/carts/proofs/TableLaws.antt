@@ -1,6 +1,6 @@
 -- THE CARTS' TABLE: what a store of words makes of the carts that the table holds.
 use mathlib.Core.Path.{_≡_, refl, sym, ap, ap₂, _∙_}
-use mathlib.Core.Bool.{Bool, cond, _&&_}
+use mathlib.Core.Bool.{Bool, true, cond, _&&_}
 use mathlib.Core.List.{List}
 use Prim.Native.Nat.{ℕ, zero, suc, _+_, _*_, _≤_, _<_}
 use native.Mathlib.Omega.{arith}
@@ -14,9 +14,9 @@ use Rattle.protocol.specs.Floor.{outside, Carts}
 use Rattle.protocol.specs.Handoff.{entryOf}
 use Rattle.protocol.proofs.Tests.{by-test, by-lt, by-eq, same-test, and-intro, and-second-false, both-equal, length-listOf, listOf-at}
 use Rattle.rows.specs.Rows.{cell}
-use Rattle.carts.specs.Words.{HasRow, placeIn, canonical}
-use Rattle.carts.specs.View.{cartsIn, canonicalIn, withPlace, withNext, withRow}
-use Rattle.rows.proofs.RowLaws.{cell-read, cell-beyond, cell-put, update2-column}
+use Rattle.carts.specs.Words.{width, HasRow, placeIn, canonical}
+use Rattle.carts.specs.View.{cartsIn, canonicalIn, noCarts, withPlace, withNext, withRow}
+use Rattle.rows.proofs.RowLaws.{cell-read, cell-beyond, cell-put, cell-zero, update2-column}
 
 -- THE TABLE THROUGH ITS CELLS
 
@@ -205,3 +205,12 @@ module _ (C : Carts) (c : ℕ) (row : List ℕ) where
           by-lt s i
           (λ l. by-test (eqb d c) (λ t. rw (t, lt-ltb s i l)) (λ t. rw t))
           (λ l. by-test (eqb d c) (λ t. rw (t, le-ltb s i l) (narrow d s (omega arith) ∙ sym (List·getD-eq-default row 0 (omega arith)))) (λ t. rw t))
+
+-- A TABLE OF ZEROS
+pub no-carts : (l : List ℕ) → ((k : ℕ) → getD l k 0 ≡ 0) → cartsIn l ≡ noCarts
+unfolding cartsIn
+no-carts l h = rw (cell-zero width l h)
+
+pub no-carts-canonical : (l : List ℕ) → ((k : ℕ) → getD l k 0 ≡ 0) → canonicalIn l ≡ (λ c. true)
+unfolding canonicalIn
+no-carts-canonical l h = ap (λ (W : ℕ → ℕ → ℕ). λ (c : ℕ). canonical (W c 0) (W c 1) (W c 2)) (cell-zero width l h)

@@ -5,7 +5,7 @@ use mathlib.Core.List.{List}
 use Prim.Native.Nat.{ℕ, _+_}
 use lib.Dec.{eqb}
 use Rattle.protocol.specs.Folds.{listOf, update, update2}
-use Rattle.protocol.specs.Floor.{Place, Carts}
+use Rattle.protocol.specs.Floor.{Place, outside, Carts}
 use Rattle.protocol.specs.Handoff.{entryOf}
 use Rattle.carts.specs.declared.Cart.{Cart}
 use Rattle.rows.specs.Rows.{cell}
@@ -23,6 +23,10 @@ cartsIn words =
 -- the rows whose place stands in canonical words
 unfoldable pub canonicalIn : List ℕ → ℕ → Bool
 canonicalIn words c = canonical (cell width words c 0) (cell width words c 1) (cell width words c 2)
+
+-- every cart outside
+abbrev pub noCarts : Carts
+noCarts = record { place = λ c. outside; next = λ c s. 0 }
 
 -- cart c in another place
 abbrev pub withPlace : Carts → ℕ → Place → Carts

@@ -8,7 +8,7 @@ ghost use lib.ListN.{length, getD};
 ghost use Rattle.protocol.specs.Folds.{listOf, update};
 ghost use Rattle.carts.specs.Words.{HasRow, placeIn, canonical};
 ghost use Rattle.carts.specs.Records.{seen, greeted, departed, arrived, received};
-ghost use Rattle.carts.specs.View.{cartsIn, canonicalIn, withPlace, withNext, withRow, withCart, IsCart};
+ghost use Rattle.carts.specs.View.{cartsIn, canonicalIn, noCarts, withPlace, withNext, withRow, withCart, IsCart};
 
 // "A cart is outside, at a station, leaving (it has greeted a new station, the old one has not heard), or travelling (its register is on
 // a line)": leaving the first for the second, travelling from the first to the second.
@@ -222,4 +222,13 @@ pub fn put_cart(carts: &mut [u64], number: CartNumber, cart: Cart)
     let next = cart.next;
     put_place(carts, number, place);
     put_row(carts, number, next);
+}
+
+// "it writes all the rest afresh": every cart is outside, its next numbers are 0.
+pub fn clear_carts(carts: &mut [u64])
+    ensures { λ _. ⌜ cartsIn (now (carts .exit)) ≡ noCarts ⌝ }
+    ensures { λ _. ⌜ canonicalIn (now (carts .exit)) ≡ (λ c. true) ⌝ }
+    ensures { λ _. ⌜ length (now (carts .exit)) ≡ length (now (carts .entry)) ⌝ }
+{
+    rows::clear(carts);
 }

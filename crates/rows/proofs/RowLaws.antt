@@ -6,11 +6,11 @@ use Prim.Native.Nat.{ℕ, _+_, _*_, _≤_, _<_}
 use native.Mathlib.Nat.{mul-le-mul-right, suc-mul}
 use native.Mathlib.Omega.{arith}
 use lib.Dec.{eqb}
-use lib.ListN.{length, getD, set}
+use lib.ListN.{length, getD, set, List·getD-eq-default}
 use lib.Seq.{getD-set-same, getD-set-other}
 use borrow.Author.Tests.{lt-ltb, le-ltb, ne-eqb}
 use Rattle.protocol.specs.Folds.{update2}
-use Rattle.protocol.proofs.Tests.{by-test, by-lt, and-second-false, both-equal, not-both-equal}
+use Rattle.protocol.proofs.Tests.{by-test, by-lt, by-eq, and-second-false, both-equal, not-both-equal}
 use Rattle.rows.specs.Rows.{cell}
 
 -- a row ends before the next begins
@@ -37,6 +37,13 @@ pub cell-beyond : (w : ℕ) (l : List ℕ) (r k : ℕ) → w ≤ k → cell w l 
 unfolding cell
 cell-beyond w l r k h = rw (le-ltb k w h)
 
+-- nor beyond the table
+pub cell-past : (w : ℕ) (l : List ℕ) (r k : ℕ) → length l ≤ r * w → cell w l r k ≡ 0
+cell-past w l r k h =
+    by-lt k w
+    (λ m. sym (cell-read w l r k (r * w + k) m refl) ∙ List·getD-eq-default l 0 (omega arith))
+    (λ m. cell-beyond w l r k m)
+
 module _ (w : ℕ) (l : List ℕ) (r k i v : ℕ) (inside : k < w) (there : i < length l) (e : i ≡ r * w + k) where
   put-same : (s j : ℕ) → s ≡ r → j ≡ k → cell w (set l i v) s j ≡ v
   put-same s j p q =
@@ -61,3 +68,23 @@ module _ (w : ℕ) (l : List ℕ) (r k i v : ℕ) (inside : k < w) (there : i < 
 -- another column of a table with one entry changed
 pub update2-column : (f : ℕ → ℕ → ℕ) (r k v s j : ℕ) → (j ≡ k → ⊥) → update2 f r k v s j ≡ f s j
 update2-column f r k v s j h = ap (λ (b : Bool). cond b v (f s j)) (and-second-false (eqb s r) (eqb j k) (ne-eqb j k h))
+
+-- the first i words are 0
+abbrev pub ZeroTo : List ℕ → ℕ → Type 0
+ZeroTo l i = (k : ℕ) → k < i → getD l k 0 ≡ 0
+
+pub zero-one : (l : List ℕ) (i : ℕ) → i < length l → ZeroTo l i → ZeroTo (set l i 0) (i + 1)
+zero-one l i h before k m =
+    by-eq k i
+    (λ q. ap (λ (n : ℕ). getD (set l i 0) n 0) q ∙ getD-set-same l i 0 0 h)
+    (λ q. getD-set-other l i k 0 0 q ∙ before k (omega arith))
+
+pub zero-all : (l : List ℕ) (i : ℕ) → length l ≤ i → ZeroTo l i → (k : ℕ) → getD l k 0 ≡ 0
+zero-all l i h z k = by-lt k i (λ m. z k m) (λ m. List·getD-eq-default l 0 (omega arith))
+
+-- a table of nothing but 0
+pub cell-zero : (w : ℕ) (l : List ℕ) → ((k : ℕ) → getD l k 0 ≡ 0) → cell w l ≡ (λ r k. 0)
+cell-zero w l h =
+    fun-ext (λ r. fun-ext (λ k. by-lt k w
+    (λ m. sym (cell-read w l r k (r * w + k) m refl) ∙ h (r * w + k))
+    (λ m. cell-beyond w l r k m)))

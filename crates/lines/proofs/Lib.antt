@@ -1,0 +1,13 @@
+-- The laws that the functions' proofs cite.
+pub mod Digits
+pub mod Sums
+pub mod Bitmap
+pub mod Chains
+pub mod Formed
+pub mod Change
+pub mod Push
+pub mod Pop
+pub mod Start
+pub mod Test
+pub mod Examples
+pub mod Visit

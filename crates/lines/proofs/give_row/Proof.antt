@@ -1,0 +1,38 @@
+-- `lines::give_row` meets its contract. One bit of the free rows is set.
+use Rattle.lines.proofs.Bitmap.{give-is}
+use borrow.Author.Needs.{needs}
+use Rattle.lines.proofs.give_row.Statement.{statement}
+use Rattle.lines.proofs.give_row.Tie as tie
+
+mul-with-bit : tie.Need-mul-with-bit
+mul-with-bit c = search needs
+
+slice-read-with-bit : tie.Need-slice-read-with-bit
+slice-read-with-bit c = search needs
+
+with-bit-requires : tie.Need-with-bit-requires
+with-bit-requires c κs = search needs
+
+put-free-requires : tie.Need-put-free-requires
+put-free-requires c κs = search needs
+
+same-length : tie.Need-same-length
+same-length c = search needs
+
+returns : tie.Need-returns
+returns c =
+    let s = c .before .before .before .before .before .before .before in
+    let x = c .before .before .before .before .with-bit in
+    let p = c .before .before .put-free in
+    give-is (s .args .pool .now) (p .last .0) (s .args .row) (x .result) (s .pre .1) (s .pre .2) (x .ensures) (p .ensures)
+
+pub give-row-spec : {M : Type 1} → statement M
+give-row-spec =
+    tie.close
+    (tie.spec
+    mul-with-bit
+    slice-read-with-bit
+    with-bit-requires
+    put-free-requires
+    same-length
+    returns)

@@ -1,0 +1,82 @@
+-- `lines::summary_ok` meets its contract. The invariant: the bits passed are right.
+use native.Mathlib.Omega.{arith}
+use mathlib.Core.Path.{_≡_}
+use mathlib.Core.Bool.{true}
+use Prim.Native.Nat.{_-_, _≤_}
+use Rattle.lines.specs.Form.{every}
+use Rattle.lines.proofs.Sums.{every-none}
+use Rattle.lines.proofs.Test.{summaryTest, summary-fails, summary-more, summary-end}
+use Rattle.lines.proofs.summary_ok.Statement.{statement}
+use Rattle.lines.proofs.summary_ok.Tie as tie
+
+abbrev Inv-loop : tie.InvT-loop
+Inv-loop pool s w₀ w = (w ≤ 49) × (every (summaryTest pool) w ≡ true)
+
+abbrev μ-loop : tie.MeasureT-loop
+μ-loop pool s w₀ w = 49 - w
+
+shared-slice-read-s : tie.Need-shared-slice-read-s Inv-loop μ-loop
+shared-slice-read-s c = omega arith
+
+loop-holds : tie.Need-loop-holds Inv-loop μ-loop
+loop-holds c =
+    let s = c .before .before in
+    (omega arith, every-none (summaryTest (s .args .pool .now)))
+
+digit-of-requires : tie.Need-digit-of-requires Inv-loop μ-loop
+digit-of-requires c κs = omega arith
+
+mul-nonzero : tie.Need-mul-nonzero Inv-loop μ-loop
+mul-nonzero c = omega arith
+
+shared-slice-read-nonzero : tie.Need-shared-slice-read-nonzero Inv-loop μ-loop
+shared-slice-read-nonzero c = omega arith
+
+nonzero-requires : tie.Need-nonzero-requires Inv-loop μ-loop
+nonzero-requires c κs = tt
+
+returns : tie.Need-returns Inv-loop μ-loop
+returns c =
+    let s = c .before .before .before .before .before .before .before .before in
+    let a = c .before .before .before .before .before .loop in
+    let d = c .before .before .before .digit-of in
+    let b = c .before .nonzero in
+    summary-fails (s .args .pool .now) (a .w) (d .result) (b .result) (d .ensures) (b .ensures) (omega arith) (c .if1 .taken)
+
+add-w : tie.Need-add-w Inv-loop μ-loop
+add-w c = omega arith
+
+loop-less : tie.Need-loop-less Inv-loop μ-loop
+loop-less c = omega arith
+
+loop-again : tie.Need-loop-again Inv-loop μ-loop
+loop-again c =
+    let s = c .before .before .before .before .before .before .before .before in
+    let a = c .before .before .before .before .before .loop in
+    let d = c .before .before .before .digit-of in
+    let b = c .before .nonzero in
+    (omega arith, summary-more (s .args .pool .now) (a .w) (d .result) (b .result) (d .ensures) (b .ensures) (a .inv .1) (c .if1 .left))
+
+returns-2 : tie.Need-returns-2 Inv-loop μ-loop
+returns-2 c =
+    let s = c .before .before .before .before in
+    let a = c .before .loop in
+    summary-end (s .args .pool .now) (a .w) (omega arith) (omega arith) (a .inv .1)
+
+pub summary-ok-spec : {M : Type 1} → statement M
+summary-ok-spec =
+    tie.close
+    (tie.spec
+    Inv-loop
+    μ-loop
+    shared-slice-read-s
+    loop-holds
+    digit-of-requires
+    mul-nonzero
+    shared-slice-read-nonzero
+    nonzero-requires
+    returns
+    add-w
+    loop-less
+    loop-again
+    returns-2)

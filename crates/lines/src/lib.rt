@@ -1,0 +1,431 @@
+// First-in-first-out lines between 16 stations, one from each station to each. Their records lie in one pool of words that the caller lends:
+//   words 0 to 48     which rows are free: row r is bit r % 64 of word r / 64, and 1 is free
+//   word 49           the summary: bit w is 1 exactly where word w is not 0
+//   words 50 to 817   line k = i * 16 + j, from station i to j: its head row, its tail row, its length
+//   words 818 and on  the rows: the next row of the line, then the record's word and carts
+// A head and a tail have no meaning where the length is 0, nor has the next row of a tail. A push takes the lowest free row, by the lowest
+// bit of the summary and that of its word, so no free rows need a list, and push and pop cost the same whatever the pool holds.
+ghost use mathlib.Core.Path.{_≡_};
+ghost use mathlib.Core.Bool.{true};
+ghost use mathlib.Core.List.{_∷_};
+ghost use Prim.Native.Nat.{ℕ, _+_, _-_, _*_, _<_, _≤_};
+ghost use lib.ListN.{length, drop};
+ghost use lib.Dec.{eqb, ltb};
+ghost use Rattle.lines.specs.Bits.{digit, bit, bitAt};
+ghost use Rattle.lines.specs.Words.{freeWords, mostRows, lineCount, linesAt, rowsAt, lineAt, rowAt, headOf, tailOf, lengthOf, nextOf, capacity, summaryOf};
+ghost use Rattle.lines.specs.Lines.{recordOf, lineOf, used};
+ghost use Rattle.lines.specs.Form.{form, sized, every, rowsOk, summaryOk};
+ghost use Rattle.lines.specs.Post.{Pushed, Popped, Cleared};
+ghost use Rattle.lines.specs.Parts.{With, Without, Summed, Full, Freed, Taken, Given, AllFree, Emptied, Link, Fits, joined, left, Marked, Walked, Surveyed};
+
+const SUMMARY: usize = 49;
+
+const LINES: usize = 50;
+
+const LINE_COUNT: usize = 256;
+
+const LINE_WORDS: usize = 3;
+
+const ROWS: usize = 818;
+
+const ROW_WORDS: usize = 3;
+
+const MOST_ROWS: usize = 3136;
+
+// A word with every bit.
+const ALL_BITS: u64 = 18446744073709551615;
+
+// The least number with a bit past those of the summary.
+const PAST_SUMMARY: u64 = 562949953421312;
+
+// A record of a line: its word and its carts, whose meaning is the caller's.
+pub struct Record(pub u64, pub u64);
+
+// ---- The words of the pool. The caller may walk a line by these: length_of rows from head_of, each followed by its next_of.
+
+pub fn length_of(pool: &[u64], k: usize) -> usize
+    requires { ⌜ lineAt k + 3 ≤ length (now pool) ⌝ }
+    ensures { λ r. ⌜ r ≡ lengthOf (now (pool .entry)) k ⌝ }
+{
+    pool[LINES + k * LINE_WORDS + 2] as usize
+}
+
+pub fn head_of(pool: &[u64], k: usize) -> usize
+    requires { ⌜ lineAt k + 3 ≤ length (now pool) ⌝ }
+    ensures { λ r. ⌜ r ≡ headOf (now (pool .entry)) k ⌝ }
+{
+    pool[LINES + k * LINE_WORDS] as usize
+}
+
+fn tail_of(pool: &[u64], k: usize) -> usize
+    requires { ⌜ lineAt k + 3 ≤ length (now pool) ⌝ }
+    ensures { λ r. ⌜ r ≡ tailOf (now (pool .entry)) k ⌝ }
+{
+    pool[LINES + k * LINE_WORDS + 1] as usize
+}
+
+pub fn next_of(pool: &[u64], row: usize) -> usize
+    requires { ⌜ rowAt row + 3 ≤ length (now pool) ⌝ }
+    ensures { λ r. ⌜ r ≡ nextOf (now (pool .entry)) row ⌝ }
+{
+    pool[ROWS + row * ROW_WORDS] as usize
+}
+
+pub fn record_of(pool: &[u64], row: usize) -> Record
+    requires { ⌜ rowAt row + 3 ≤ length (now pool) ⌝ }
+    ensures { λ r. ⌜ r ≡ recordOf (now (pool .entry)) row ⌝ }
+{
+    Record(
+        pool[ROWS + row * ROW_WORDS + 1],
+        pool[ROWS + row * ROW_WORDS + 2],
+    )
+}
+
+fn row_count(pool: &[u64]) -> usize
+    requires { ⌜ rowsAt ≤ length (now pool) ⌝ }
+    ensures { λ r. ⌜ r ≡ capacity (now (pool .entry)) ⌝ }
+{
+    (pool.len() - ROWS) / ROW_WORDS
+}
+
+// ---- The bits of a word.
+
+fn digit_of(s: u64, c: usize) -> u64
+    requires { ⌜ c < 64 ⌝ }
+    ensures { λ r. ⌜ r ≡ digit s c ⌝ }
+{
+    (s >> c) & 1
+}
+
+fn with_bit(x: u64, b: usize) -> u64
+    requires { ⌜ b < 64 ⌝ }
+    ensures { λ r. ⌜ With x b r ⌝ }
+{
+    x | (1 << b)
+}
+
+fn without_bit(x: u64, b: usize) -> u64
+    requires { ⌜ b < 64 ⌝ }
+    ensures { λ r. ⌜ Without x b r ⌝ }
+{
+    x ^ (x & (1 << b))
+}
+
+// The place of the lowest bit of x.
+fn lowest(x: u64) -> usize
+    requires { ⌜ 0 < x ⌝ }
+    ensures { λ r. ⌜ (r < 64) × (digit x r ≡ 1) ⌝ }
+{
+    u64::trailing_zeros(x) as usize
+}
+
+// 1 where x is not 0.
+fn nonzero(x: u64) -> u64
+    ensures { λ r. ⌜ r ≡ bit (ltb 0 x) ⌝ }
+{
+    if 0 < x { 1 } else { 0 }
+}
+
+// ---- The free rows.
+
+// The summary s with the bit of word w, which is x now.
+fn summed(s: u64, w: usize, x: u64) -> u64
+    requires { ⌜ w < freeWords ⌝ }
+    ensures { λ r. ⌜ Summed s w x r ⌝ }
+{
+    if 0 < x {
+        with_bit(s, w)
+    } else {
+        without_bit(s, w)
+    }
+}
+
+// Stores a word of the free rows and its bit of the summary.
+fn put_free(pool: &mut [u64], w: usize, x: u64)
+    requires { ⌜ (w < freeWords) × (linesAt ≤ length (now pool)) ⌝ }
+    ensures { λ _. ⌜ Freed (now (pool .entry)) (now (pool .exit)) w x ⌝ }
+{
+    pool[w] = x;
+    pool[SUMMARY] = summed(pool[SUMMARY], w, x);
+}
+
+// The lowest free row, which is free no more.
+fn take_row(pool: &mut [u64]) -> usize
+    requires { ⌜ (linesAt ≤ length (now pool)) × (summaryOk (now pool) ≡ true) × (0 < summaryOf (now pool)) ⌝ }
+    ensures { λ r. ⌜ Taken (now (pool .entry)) (now (pool .exit)) r ⌝ }
+{
+    let w = lowest(pool[SUMMARY]);
+    let word = pool[w];
+    let b = lowest(word);
+    put_free(pool, w, without_bit(word, b));
+    w * 64 + b
+}
+
+fn give_row(pool: &mut [u64], row: usize)
+    requires { ⌜ (linesAt ≤ length (now pool)) × (summaryOk (now pool) ≡ true) × (row < mostRows) ⌝ }
+    ensures { λ _. ⌜ Given (now (pool .entry)) (now (pool .exit)) row ⌝ }
+{
+    let w = row / 64;
+    let word = with_bit(pool[w], row % 64);
+    put_free(pool, w, word);
+}
+
+// Word w of the free rows where all rows are free.
+fn full_word(rows: usize, w: usize) -> u64
+    requires { ⌜ (rows ≤ mostRows) × (w < freeWords) ⌝ }
+    ensures { λ r. ⌜ Full rows w r ⌝ }
+{
+    let first = w * 64;
+    if rows <= first {
+        return 0;
+    }
+    let n = rows - first;
+    if n < 64 {
+        return (1 << n) - 1;
+    }
+    ALL_BITS
+}
+
+// ---- The lines.
+
+// No record is on the line from i to j.
+pub fn is_empty(pool: &[u64], i: usize, j: usize) -> bool
+    requires { ⌜ (i < 16) × (j < 16) × (form (now pool) ≡ true) ⌝ }
+    ensures { λ r. ⌜ r ≡ eqb (length (lineOf (now (pool .entry)) (i * 16 + j))) 0 ⌝ }
+{
+    length_of(pool, i * 16 + j) == 0
+}
+
+// A record can be pushed.
+pub fn has_room(pool: &[u64]) -> bool
+    requires { ⌜ form (now pool) ≡ true ⌝ }
+    ensures { λ r. ⌜ r ≡ ltb (used (now (pool .entry))) (capacity (now (pool .entry))) ⌝ }
+{
+    0 < pool[SUMMARY]
+}
+
+// The record at the head of the line from i to j.
+pub fn front(pool: &[u64], i: usize, j: usize) -> Record
+    requires { ⌜ (i < 16) × (j < 16) × (form (now pool) ≡ true) × (0 < length (lineOf (now pool) (i * 16 + j))) ⌝ }
+    ensures { λ r. ⌜ lineOf (now (pool .entry)) (i * 16 + j) ≡ r ∷ drop 1 (lineOf (now (pool .entry)) (i * 16 + j)) ⌝ }
+{
+    record_of(pool, head_of(pool, i * 16 + j))
+}
+
+// The word that has to name a row that joins line k: the head of an empty line, or the next row of its tail.
+fn link_at(pool: &[u64], k: usize) -> usize
+    requires { ⌜ (lineAt k + 3 ≤ length (now pool)) × (0 < lengthOf (now pool) k → tailOf (now pool) k < mostRows) ⌝ }
+    ensures { λ r. ⌜ Link (now (pool .entry)) k r ⌝ }
+{
+    if length_of(pool, k) == 0 {
+        return LINES + k * LINE_WORDS;
+    }
+    ROWS + tail_of(pool, k) * ROW_WORDS
+}
+
+// The stores of a push: a row with its record, the word that names it, and the line of n rows that it joins.
+fn join(pool: &mut [u64], at: usize, k: usize, row: usize, n: usize, r: Record)
+    requires { ⌜ Fits (now pool) at k row n ⌝ }
+    ensures { λ _. ⌜ now (pool .exit) ≡ joined (now (pool .entry)) at k row n r ⌝ }
+{
+    pool[ROWS + row * ROW_WORDS + 1] = r.0;
+    pool[ROWS + row * ROW_WORDS + 2] = r.1;
+    pool[at] = row as u64;
+    pool[LINES + k * LINE_WORDS + 1] = row as u64;
+    pool[LINES + k * LINE_WORDS + 2] = (n + 1) as u64;
+}
+
+// The record joins the line from i to j at its end.
+pub fn push_back(pool: &mut [u64], i: usize, j: usize, r: Record)
+    requires { ⌜ (i < 16) × (j < 16) × (form (now pool) ≡ true) × (used (now pool) < capacity (now pool)) ⌝ }
+    ensures { λ _. ⌜ Pushed (now (pool .entry)) (now (pool .exit)) (i * 16 + j) r ⌝ }
+{
+    let k = i * 16 + j;
+    let at = link_at(pool, k);
+    let n = length_of(pool, k);
+    let row = take_row(pool);
+    join(pool, at, k, row, n, r);
+}
+
+// The stores of a pop: row is the head of a line of n rows once its head is gone.
+fn leave(pool: &mut [u64], k: usize, row: usize, n: usize)
+    requires { ⌜ (lineAt k + 3 ≤ length (now pool)) × (0 < n) ⌝ }
+    ensures { λ _. ⌜ now (pool .exit) ≡ left (now (pool .entry)) k row (n - 1) ⌝ }
+{
+    pool[LINES + k * LINE_WORDS] = row as u64;
+    pool[LINES + k * LINE_WORDS + 2] = (n - 1) as u64;
+}
+
+// The record at the head of the line from i to j goes.
+pub fn pop_front(pool: &mut [u64], i: usize, j: usize)
+    requires { ⌜ (i < 16) × (j < 16) × (form (now pool) ≡ true) × (0 < length (lineOf (now pool) (i * 16 + j))) ⌝ }
+    ensures { λ _. ⌜ Popped (now (pool .entry)) (now (pool .exit)) (i * 16 + j) ⌝ }
+{
+    let k = i * 16 + j;
+    let row = head_of(pool, k);
+    let n = length_of(pool, k);
+    leave(pool, k, next_of(pool, row), n);
+    give_row(pool, row);
+}
+
+// ---- The start.
+
+fn free_all(pool: &mut [u64])
+    requires { ⌜ sized (now pool) ≡ true ⌝ }
+    ensures { λ _. ⌜ AllFree (now (pool .entry)) (now (pool .exit)) ⌝ }
+{
+    let rows = row_count(pool);
+    pool[SUMMARY] = 0;
+    let mut w: usize = 0;
+    while w < SUMMARY {
+        put_free(pool, w, full_word(rows, w));
+        w += 1;
+    }
+}
+
+fn empty_lines(pool: &mut [u64])
+    requires { ⌜ rowsAt ≤ length (now pool) ⌝ }
+    ensures { λ _. ⌜ Emptied (now (pool .entry)) (now (pool .exit)) ⌝ }
+{
+    let mut k: usize = 0;
+    while k < LINE_COUNT {
+        pool[LINES + k * LINE_WORDS + 2] = 0;
+        k += 1;
+    }
+}
+
+// All lines are empty, and all rows free.
+pub fn clear(pool: &mut [u64])
+    requires { ⌜ sized (now pool) ≡ true ⌝ }
+    ensures { λ _. ⌜ Cleared (now (pool .entry)) (now (pool .exit)) ⌝ }
+{
+    free_all(pool);
+    empty_lines(pool);
+}
+
+// ---- The form test. It walks each line and marks the rows that it sees, so no row is on two lines or twice on one. Then the rows seen
+// and the free rows have to be all the rows of the pool, and none both. It visits the records on the lines, and no other row.
+
+fn is_marked(seen: &[u64], row: usize) -> bool
+    requires { ⌜ row < length (now seen) * 64 ⌝ }
+    ensures { λ r. ⌜ r ≡ eqb (bitAt (now (seen .entry)) row) 1 ⌝ }
+{
+    digit_of(seen[row / 64], row % 64) == 1
+}
+
+fn mark(seen: &mut [u64], row: usize)
+    requires { ⌜ row < length (now seen) * 64 ⌝ }
+    ensures { λ _. ⌜ Marked (now (seen .entry)) (now (seen .exit)) row ⌝ }
+{
+    let w = row / 64;
+    seen[w] = with_bit(seen[w], row % 64);
+}
+
+// Walks line k. Refuses a row that is not in the pool or is seen already, and a tail that is not the last row.
+fn line_ok(pool: &[u64], k: usize, seen: &mut [u64]) -> bool
+    requires { ⌜ (sized (now pool) ≡ true) × (k < lineCount) × (length (now seen) ≡ freeWords) ⌝ }
+    ensures { λ r. ⌜ Walked (now (pool .entry)) k (now (seen .entry)) (now (seen .exit)) r ⌝ }
+{
+    let rows = row_count(pool);
+    let mut left = length_of(pool, k);
+    let mut row = head_of(pool, k);
+    let mut last = tail_of(pool, k);
+    while 0 < left {
+        if rows <= row {
+            return false;
+        }
+        if is_marked(seen, row) {
+            return false;
+        }
+        mark(seen, row);
+        last = row;
+        row = next_of(pool, row);
+        left -= 1;
+    }
+    last == tail_of(pool, k)
+}
+
+// Walks every line, from a start where no row is seen.
+fn lines_ok(pool: &[u64], seen: &mut [u64]) -> bool
+    requires { ⌜ (sized (now pool) ≡ true) × (length (now seen) ≡ freeWords) × ((x : ℕ) → bitAt (now seen) x ≡ 0) ⌝ }
+    ensures { λ r. ⌜ Surveyed (now (pool .entry)) (now (seen .exit)) r ⌝ }
+{
+    let mut k: usize = 0;
+    while k < LINE_COUNT {
+        if !line_ok(pool, k, seen) {
+            return false;
+        }
+        k += 1;
+    }
+    true
+}
+
+// The rows seen and the free rows are the whole word, and none is both.
+fn word_ok(seen: u64, free: u64, whole: u64) -> bool
+    ensures { λ r. ⌜ r ≡ every (λ c. eqb (digit seen c + digit free c) (digit whole c)) 64 ⌝ }
+{
+    if seen | free != whole {
+        return false;
+    }
+    seen & free == 0
+}
+
+fn rows_ok(pool: &[u64], seen: &[u64]) -> bool
+    requires { ⌜ (sized (now pool) ≡ true) × (length (now seen) ≡ freeWords) ⌝ }
+    ensures { λ r. ⌜ r ≡ rowsOk (bitAt (now (seen .entry))) (now (pool .entry)) ⌝ }
+{
+    let rows = row_count(pool);
+    let mut w: usize = 0;
+    while w < SUMMARY {
+        if !word_ok(seen[w], pool[w], full_word(rows, w)) {
+            return false;
+        }
+        w += 1;
+    }
+    true
+}
+
+fn summary_ok(pool: &[u64]) -> bool
+    requires { ⌜ linesAt ≤ length (now pool) ⌝ }
+    ensures { λ r. ⌜ r ≡ summaryOk (now (pool .entry)) ⌝ }
+{
+    let s = pool[SUMMARY];
+    let mut w: usize = 0;
+    while w < SUMMARY {
+        if digit_of(s, w) != nonzero(pool[w]) {
+            return false;
+        }
+        w += 1;
+    }
+    s < PAST_SUMMARY
+}
+
+fn is_sized(pool: &[u64]) -> bool
+    ensures { λ r. ⌜ r ≡ sized (now (pool .entry)) ⌝ }
+{
+    if pool.len() < ROWS {
+        return false;
+    }
+    let rows = row_count(pool);
+    if MOST_ROWS < rows {
+        return false;
+    }
+    pool.len() == ROWS + rows * ROW_WORDS
+}
+
+// The pool is well-formed. Any words, of any number, may be asked about.
+pub fn form_ok(pool: &[u64]) -> bool
+    ensures { λ r. ⌜ r ≡ form (now (pool .entry)) ⌝ }
+{
+    if !is_sized(pool) {
+        return false;
+    }
+    let mut seen = [0u64; 49];
+    if !lines_ok(pool, &mut seen) {
+        return false;
+    }
+    if !rows_ok(pool, &seen) {
+        return false;
+    }
+    summary_ok(pool)
+}

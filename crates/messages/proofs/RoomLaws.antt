@@ -1,0 +1,100 @@
+-- THE MESSAGES' TABLE: what a store of words makes of the rooms.
+use mathlib.Core.Path.{_≡_, ap, _∙_}
+use mathlib.Core.Bool.{cond}
+use mathlib.Core.List.{List}
+use Prim.Native.Nat.{ℕ, _*_, _≤_, _<_}
+use native.Mathlib.Omega.{arith}
+use lib.Dec.{eqb}
+use lib.ListN.{length, getD}
+use Rattle.protocol.specs.Folds.{update2}
+use Rattle.protocol.proofs.Tests.{by-test}
+use Rattle.rows.specs.Rows.{cell}
+use Rattle.rows.proofs.RowLaws.{cell-zero, cell-past, update2-column}
+use Rattle.rows.proofs.ColumnLaws.{word-put}
+use Rattle.messages.specs.View.{width, tableWords, HasRoom, roomsOf, roomsIn, noRooms, withAcked, withWaiting, withMessage}
+
+-- THE WORDS OF A ROW. W m k is word k of room m.
+
+-- one word
+module _ (W : ℕ → ℕ → ℕ) (m v : ℕ) where
+  cells-acked : roomsOf (update2 W m 3 v) ≡ withAcked (roomsOf W) m v
+  cells-acked = λ i. record {
+    initiator = λ k. update2-column W m 3 v k 0 (omega arith) i;
+    number = λ k. update2-column W m 3 v k 1 (omega arith) i;
+    named = λ k. update2-column W m 3 v k 2 (omega arith) i;
+    acked = λ k. word-put W m 3 v k i;
+    waiting = λ k. update2-column W m 3 v k 4 (omega arith) i;
+    length = λ k. update2-column W m 3 v k 5 (omega arith) i;
+  }
+
+  cells-waiting : roomsOf (update2 W m 4 v) ≡ withWaiting (roomsOf W) m v
+  cells-waiting = λ i. record {
+    initiator = λ k. update2-column W m 4 v k 0 (omega arith) i;
+    number = λ k. update2-column W m 4 v k 1 (omega arith) i;
+    named = λ k. update2-column W m 4 v k 2 (omega arith) i;
+    acked = λ k. update2-column W m 4 v k 3 (omega arith) i;
+    waiting = λ k. word-put W m 4 v k i;
+    length = λ k. update2-column W m 4 v k 5 (omega arith) i;
+  }
+
+-- a whole row
+module _ (W : ℕ → ℕ → ℕ) (m s n named waiting octets : ℕ) where
+  abbrev row : ℕ → ℕ → ℕ
+  row = update2 (update2 (update2 (update2 (update2 (update2 W m 0 s) m 1 n) m 2 named) m 3 0) m 4 waiting) m 5 octets
+
+  -- what the six words of a row say
+  six {ℓ} : {A : Type ℓ} (f : ℕ → ℕ → ℕ → ℕ → ℕ → ℕ → A) (k : ℕ)
+      → f (row k 0) (row k 1) (row k 2) (row k 3) (row k 4) (row k 5) ≡ cond (eqb k m) (f s n named 0 waiting octets) (f (W k 0) (W k 1) (W k 2) (W k 3) (W k 4) (W k 5))
+  six f k = by-test (eqb k m) (λ e. rw e) (λ e. rw e)
+
+  cells-message : roomsOf row ≡ withMessage (roomsOf W) m s n named waiting octets
+  cells-message = λ i. record {
+    initiator = λ k. six (λ a b d e f g. a) k i;
+    number = λ k. six (λ a b d e f g. b) k i;
+    named = λ k. six (λ a b d e f g. d) k i;
+    acked = λ k. six (λ a b d e f g. e) k i;
+    waiting = λ k. six (λ a b d e f g. f) k i;
+    length = λ k. six (λ a b d e f g. g) k i;
+  }
+
+-- THE TABLE
+
+-- the whole table has thirty-two rooms
+pub whole-table : (l : List ℕ) → length l ≡ tableWords → (m : ℕ) → m < 32 → HasRoom l m
+whole-table l e m h = omega arith
+
+module _ (l k : List ℕ) (m v : ℕ) where
+  pub acked-put : cell width k ≡ update2 (cell width l) m 3 v → roomsIn k ≡ withAcked (roomsIn l) m v
+  unfolding roomsIn
+  acked-put e = ap roomsOf e ∙ cells-acked (cell width l) m v
+
+  pub waiting-put : cell width k ≡ update2 (cell width l) m 4 v → roomsIn k ≡ withWaiting (roomsIn l) m v
+  unfolding roomsIn
+  waiting-put e = ap roomsOf e ∙ cells-waiting (cell width l) m v
+
+-- the six stores of a new message
+pub message-put : (l l₁ l₂ l₃ l₄ l₅ l₆ : List ℕ) (m s n named waiting octets : ℕ)
+    → cell width l₁ ≡ update2 (cell width l) m 0 s
+    → cell width l₂ ≡ update2 (cell width l₁) m 1 n
+    → cell width l₃ ≡ update2 (cell width l₂) m 2 named
+    → cell width l₄ ≡ update2 (cell width l₃) m 3 0
+    → cell width l₅ ≡ update2 (cell width l₄) m 4 waiting
+    → cell width l₆ ≡ update2 (cell width l₅) m 5 octets
+    → roomsIn l₆ ≡ withMessage (roomsIn l) m s n named waiting octets
+unfolding roomsIn
+message-put l l₁ l₂ l₃ l₄ l₅ l₆ m s n named waiting octets e₁ e₂ e₃ e₄ e₅ e₆ =
+    ap roomsOf (e₆ ∙ then 5 octets (e₅ ∙ then 4 waiting (e₄ ∙ then 3 0 (e₃ ∙ then 2 named (e₂ ∙ then 1 n e₁)))))
+    ∙ cells-message (cell width l) m s n named waiting octets
+  where
+    then : (k v : ℕ) {W X : ℕ → ℕ → ℕ} → W ≡ X → update2 W m k v ≡ update2 X m k v
+    then k v e = ap (λ (Y : ℕ → ℕ → ℕ). update2 Y m k v) e
+
+-- a cleared table
+pub no-rooms : (l : List ℕ) → ((k : ℕ) → getD l k 0 ≡ 0) → roomsIn l ≡ noRooms
+unfolding roomsIn
+no-rooms l h = ap roomsOf (cell-zero width l h)
+
+-- beyond the table no room is taken
+pub waiting-past : (l : List ℕ) (m : ℕ) → length l ≤ m * width → roomsIn l .waiting m ≡ 0
+unfolding roomsIn
+waiting-past l m h = cell-past width l m 4 h

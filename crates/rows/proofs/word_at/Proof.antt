@@ -1,0 +1,28 @@
+-- `rows::word_at` meets its contract.
+use mathlib.Core.Path.{refl}
+use native.Mathlib.Omega.{arith}
+use borrow.Author.Needs.{needs}
+use Rattle.rows.proofs.RowLaws.{cell-read}
+use Rattle.rows.proofs.word_at.Statement.{statement}
+use Rattle.rows.proofs.word_at.Tie as tie
+
+mul-result : tie.Need-mul-result
+mul-result c = search needs
+
+add-result : tie.Need-add-result
+add-result c = search needs
+
+mul-result-2 : tie.Need-mul-result-2
+mul-result-2 c = search needs
+
+shared-slice-read-result : tie.Need-shared-slice-read-result
+shared-slice-read-result c = search needs
+
+returns : tie.Need-returns
+returns c =
+    let a = c .before .args in
+    cell-read (a .width) (a .words .now) (a .row) (a .k) _ (omega arith) refl
+
+pub word-at-spec : {M : Type 1} → statement M
+word-at-spec =
+    tie.close (tie.spec mul-result add-result mul-result-2 shared-slice-read-result returns)

@@ -1,0 +1,27 @@
+-- `stations::put_expected` meets its contract.
+use mathlib.Core.Path.{ap, _∙_}
+use native.Mathlib.Omega.{arith}
+use borrow.Author.Needs.{needs}
+use Rattle.stations.specs.View.{stationsOf, stationsIn, stationWord}
+use Rattle.stations.proofs.TableLaws.{expected-put}
+use Rattle.stations.proofs.put_expected.Statement.{statement}
+use Rattle.stations.proofs.put_expected.Tie as tie
+
+add-put-word : tie.Need-add-put-word
+add-put-word c = search needs
+
+put-word-requires : tie.Need-put-word-requires
+put-word-requires c κs = search needs
+
+same-length : tie.Need-same-length
+same-length c = search needs
+
+returns : tie.Need-returns
+unfolding stationsIn
+returns c =
+    let a = c .before .before .before .before .before .args in
+    let p = c .before .before .put-word .ensures in
+    (ap stationsOf (p .0) ∙ expected-put (stationWord (a .stations .now)) (a .station .0) (a .expected) (a .initiator .0) (omega arith), p .1)
+
+pub put-expected-spec : {M : Type 1} → statement M
+put-expected-spec = tie.close (tie.spec add-put-word put-word-requires same-length returns)

@@ -1,0 +1,208 @@
+// The stations: everything that a station keeps, and the floor's own mark and counts, in one lent table of words.
+use ids::Station;
+ghost use mathlib.Core.Path.{_≡_};
+ghost use Prim.Native.Nat.{ℕ, _<_};
+ghost use lib.ListN.{length, getD};
+ghost use Rattle.protocol.specs.Folds.{update2};
+ghost use Rattle.stations.specs.View.{width, initiators, rooms, HasHead, HasStation, stationWord, head, headIn, stationsIn, noStations, withSent, withExpected, withLocal, withCopy, withAcks, withQueue};
+
+// A row of the table has this many words. Row 0 is the floor's own, row 1 + t is station t's.
+const WIDTH: usize = 114;
+
+// The whole table, for sixteen stations.
+pub const WORDS: usize = 17 * WIDTH;
+
+// The floor's own row: the mark that says started, how many stations, how many carts. The rest is not used.
+const MARK: usize = 0;
+
+const STATIONS: usize = 1;
+
+const CARTS: usize = 2;
+
+// A station's row: how many messages it has sent; what it expects of each of sixteen initiators; its local carts; and three words for each of
+// thirty-two rooms: the copy, the ack list, the queue's entry.
+const SENT: usize = 0;
+
+const EXPECTED: usize = 1;
+
+const LOCAL: usize = 17;
+
+const COPY: usize = 18;
+
+const ACKS: usize = 19;
+
+const QUEUE: usize = 20;
+
+const ROOM: usize = 3;
+
+// Word k of the station's row.
+fn word_of(stations: &[u64], station: Station, k: usize) -> u64
+    requires { ⌜ HasStation (now stations) (station .0) × (k < width) ⌝ }
+    ensures { λ r. ⌜ r ≡ stationWord (now (stations .entry)) (station .0) k ⌝ }
+{
+    rows::word_at(stations, WIDTH, 1 + station.0 as usize, k)
+}
+
+// Another word there; the floor's own row is what it was.
+fn put_word(stations: &mut [u64], station: Station, k: usize, word: u64)
+    requires { ⌜ HasStation (now stations) (station .0) × (k < width) ⌝ }
+    ensures { λ _. ⌜ stationWord (now (stations .exit)) ≡ update2 (stationWord (now (stations .entry))) (station .0) k word ⌝ }
+    ensures { λ _. ⌜ headIn (now (stations .exit)) ≡ headIn (now (stations .entry)) ⌝ }
+    ensures { λ _. ⌜ length (now (stations .exit)) ≡ length (now (stations .entry)) ⌝ }
+{
+    rows::put_word(stations, WIDTH, 1 + station.0 as usize, k, word);
+}
+
+// "the mark that says started"
+pub fn mark_of(stations: &[u64]) -> u64
+    requires { ⌜ HasHead (now stations) ⌝ }
+    ensures { λ r. ⌜ r ≡ headIn (now (stations .entry)) .mark ⌝ }
+{
+    rows::word_at(stations, WIDTH, 0, MARK)
+}
+
+// How many stations the floor has.
+pub fn station_count(stations: &[u64]) -> u64
+    requires { ⌜ HasHead (now stations) ⌝ }
+    ensures { λ r. ⌜ r ≡ headIn (now (stations .entry)) .stations ⌝ }
+{
+    rows::word_at(stations, WIDTH, 0, STATIONS)
+}
+
+// How many carts the floor has.
+pub fn cart_count(stations: &[u64]) -> u64
+    requires { ⌜ HasHead (now stations) ⌝ }
+    ensures { λ r. ⌜ r ≡ headIn (now (stations .entry)) .carts ⌝ }
+{
+    rows::word_at(stations, WIDTH, 0, CARTS)
+}
+
+// The floor has this mark, and so many stations and carts.
+pub fn put_head(stations: &mut [u64], mark: u64, n: u64, k: u64)
+    requires { ⌜ HasHead (now stations) ⌝ }
+    ensures { λ _. ⌜ headIn (now (stations .exit)) ≡ head mark n k ⌝ }
+    ensures { λ _. ⌜ stationsIn (now (stations .exit)) ≡ stationsIn (now (stations .entry)) ⌝ }
+    ensures { λ _. ⌜ length (now (stations .exit)) ≡ length (now (stations .entry)) ⌝ }
+{
+    rows::put_word(stations, WIDTH, 0, MARK, mark);
+    rows::put_word(stations, WIDTH, 0, STATIONS, n);
+    rows::put_word(stations, WIDTH, 0, CARTS, k);
+}
+
+// How many messages the station has sent.
+pub fn sent_of(stations: &[u64], station: Station) -> u64
+    requires { ⌜ HasStation (now stations) (station .0) ⌝ }
+    ensures { λ r. ⌜ r ≡ stationsIn (now (stations .entry)) .sent (station .0) ⌝ }
+{
+    word_of(stations, station, SENT)
+}
+
+// The station has sent so many.
+pub fn put_sent(stations: &mut [u64], station: Station, sent: u64)
+    requires { ⌜ HasStation (now stations) (station .0) ⌝ }
+    ensures { λ _. ⌜ stationsIn (now (stations .exit)) ≡ withSent (stationsIn (now (stations .entry))) (station .0) sent ⌝ }
+    ensures { λ _. ⌜ headIn (now (stations .exit)) ≡ headIn (now (stations .entry)) ⌝ }
+    ensures { λ _. ⌜ length (now (stations .exit)) ≡ length (now (stations .entry)) ⌝ }
+{
+    put_word(stations, station, SENT, sent);
+}
+
+// The number that the station expects of an initiator.
+pub fn expected_of(stations: &[u64], station: Station, initiator: Station) -> u64
+    requires { ⌜ HasStation (now stations) (station .0) × (initiator .0 < initiators) ⌝ }
+    ensures { λ r. ⌜ r ≡ stationsIn (now (stations .entry)) .expected (station .0) (initiator .0) ⌝ }
+{
+    word_of(stations, station, EXPECTED + initiator.0 as usize)
+}
+
+// The station expects another number of an initiator.
+pub fn put_expected(stations: &mut [u64], station: Station, initiator: Station, expected: u64)
+    requires { ⌜ HasStation (now stations) (station .0) × (initiator .0 < initiators) ⌝ }
+    ensures { λ _. ⌜ stationsIn (now (stations .exit)) ≡ withExpected (stationsIn (now (stations .entry))) (station .0) (initiator .0) expected ⌝ }
+    ensures { λ _. ⌜ headIn (now (stations .exit)) ≡ headIn (now (stations .entry)) ⌝ }
+    ensures { λ _. ⌜ length (now (stations .exit)) ≡ length (now (stations .entry)) ⌝ }
+{
+    put_word(stations, station, EXPECTED + initiator.0 as usize, expected);
+}
+
+// The carts that are local to the station.
+pub fn local_of(stations: &[u64], station: Station) -> u64
+    requires { ⌜ HasStation (now stations) (station .0) ⌝ }
+    ensures { λ r. ⌜ r ≡ stationsIn (now (stations .entry)) .local (station .0) ⌝ }
+{
+    word_of(stations, station, LOCAL)
+}
+
+// Other carts are local to the station.
+pub fn put_local(stations: &mut [u64], station: Station, carts: u64)
+    requires { ⌜ HasStation (now stations) (station .0) ⌝ }
+    ensures { λ _. ⌜ stationsIn (now (stations .exit)) ≡ withLocal (stationsIn (now (stations .entry))) (station .0) carts ⌝ }
+    ensures { λ _. ⌜ headIn (now (stations .exit)) ≡ headIn (now (stations .entry)) ⌝ }
+    ensures { λ _. ⌜ length (now (stations .exit)) ≡ length (now (stations .entry)) ⌝ }
+{
+    put_word(stations, station, LOCAL, carts);
+}
+
+// The station's copy of the set of the message in room m.
+pub fn copy_of(stations: &[u64], m: usize, station: Station) -> u64
+    requires { ⌜ HasStation (now stations) (station .0) × (m < rooms) ⌝ }
+    ensures { λ r. ⌜ r ≡ stationsIn (now (stations .entry)) .copy m (station .0) ⌝ }
+{
+    word_of(stations, station, COPY + ROOM * m)
+}
+
+// The station has another copy.
+pub fn put_copy(stations: &mut [u64], m: usize, station: Station, carts: u64)
+    requires { ⌜ HasStation (now stations) (station .0) × (m < rooms) ⌝ }
+    ensures { λ _. ⌜ stationsIn (now (stations .exit)) ≡ withCopy (stationsIn (now (stations .entry))) m (station .0) carts ⌝ }
+    ensures { λ _. ⌜ headIn (now (stations .exit)) ≡ headIn (now (stations .entry)) ⌝ }
+    ensures { λ _. ⌜ length (now (stations .exit)) ≡ length (now (stations .entry)) ⌝ }
+{
+    put_word(stations, station, COPY + ROOM * m, carts);
+}
+
+// "the station's ack list for the message" in room m.
+pub fn acks_of(stations: &[u64], m: usize, station: Station) -> u64
+    requires { ⌜ HasStation (now stations) (station .0) × (m < rooms) ⌝ }
+    ensures { λ r. ⌜ r ≡ stationsIn (now (stations .entry)) .acks m (station .0) ⌝ }
+{
+    word_of(stations, station, ACKS + ROOM * m)
+}
+
+// The station has another ack list for it.
+pub fn put_acks(stations: &mut [u64], m: usize, station: Station, carts: u64)
+    requires { ⌜ HasStation (now stations) (station .0) × (m < rooms) ⌝ }
+    ensures { λ _. ⌜ stationsIn (now (stations .exit)) ≡ withAcks (stationsIn (now (stations .entry))) m (station .0) carts ⌝ }
+    ensures { λ _. ⌜ headIn (now (stations .exit)) ≡ headIn (now (stations .entry)) ⌝ }
+    ensures { λ _. ⌜ length (now (stations .exit)) ≡ length (now (stations .entry)) ⌝ }
+{
+    put_word(stations, station, ACKS + ROOM * m, carts);
+}
+
+// The carts queued at the station for the message in room m.
+pub fn queue_of(stations: &[u64], m: usize, station: Station) -> u64
+    requires { ⌜ HasStation (now stations) (station .0) × (m < rooms) ⌝ }
+    ensures { λ r. ⌜ r ≡ stationsIn (now (stations .entry)) .queue m (station .0) ⌝ }
+{
+    word_of(stations, station, QUEUE + ROOM * m)
+}
+
+// Other carts are queued for it.
+pub fn put_queue(stations: &mut [u64], m: usize, station: Station, carts: u64)
+    requires { ⌜ HasStation (now stations) (station .0) × (m < rooms) ⌝ }
+    ensures { λ _. ⌜ stationsIn (now (stations .exit)) ≡ withQueue (stationsIn (now (stations .entry))) m (station .0) carts ⌝ }
+    ensures { λ _. ⌜ headIn (now (stations .exit)) ≡ headIn (now (stations .entry)) ⌝ }
+    ensures { λ _. ⌜ length (now (stations .exit)) ≡ length (now (stations .entry)) ⌝ }
+{
+    put_word(stations, station, QUEUE + ROOM * m, carts);
+}
+
+// "it writes all the rest afresh": every word is 0, so nothing is at any station, and the floor is not started.
+pub fn clear_stations(stations: &mut [u64])
+    ensures { λ _. ⌜ ((k : ℕ) → getD (now (stations .exit)) k 0 ≡ 0) ⌝ }
+    ensures { λ _. ⌜ stationsIn (now (stations .exit)) ≡ noStations ⌝ }
+    ensures { λ _. ⌜ headIn (now (stations .exit)) ≡ head 0 0 0 ⌝ }
+    ensures { λ _. ⌜ length (now (stations .exit)) ≡ length (now (stations .entry)) ⌝ }
+{
+    rows::clear(stations);
+}

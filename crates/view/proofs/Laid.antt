@@ -1,0 +1,182 @@
+-- HOW THE WORDS LIE: the test of the words as facts, and how each write keeps them.
+use mathlib.Core.Path.{_≡_, refl, sym, ap, _∙_}
+use mathlib.Core.Bool.{Bool, true, false, _&&_, _||_, not}
+use mathlib.Core.List.{List, [], _∷_, _++_}
+use Prim.Native.Nat.{ℕ, _+_, _*_, _≤_, _<_}
+use native.Mathlib.Omega.{arith}
+use lib.Dec.{eqb, leb}
+use lib.ListN.{drop}
+use borrow.Author.Tests.{eqb-true, eq-eqb, ne-eqb, leb-true, le-leb}
+use Rattle.protocol.specs.Folds.{every, update}
+use Rattle.protocol.specs.CartSets.{has, with, without, setOf}
+use Rattle.protocol.specs.Floor.{Place, localTo}
+use Rattle.protocol.proofs.Tests.{and-left, and-right, and-intro, and-false, or-right, by-eq, on-update, every-at, every-all}
+use Rattle.protocol.proofs.SetLaws.{has-with, has-without, has-setOf, setOf-lt, with-lt, without-lt, same-members}
+use Rattle.stations.specs.View.{stationsIn}
+use Rattle.carts.specs.View.{cartsIn, canonicalIn}
+use Rattle.messages.specs.View.{Rooms, roomsIn}
+use Rattle.lines.specs.declared.Record as word
+use Rattle.lines.specs.Lines.{lineOf}
+use Rattle.lines.specs.Form.{form}
+use Rattle.lines.specs.Post.{Pushed, Popped}
+use Rattle.view.specs.Records.{roomRight}
+use Rattle.view.specs.View.{Lent, lent, localRight, everyWord, lineRight, shortText, wordsIn}
+use Rattle.view.proofs.LinesView.{same-line, line-below}
+
+-- the words, fact by fact
+pub record Laid (L : Lent) : Type 0 where
+  pub chains : form (L .lines) ≡ true
+  pub canonical : (c : ℕ) → c < 64 → canonicalIn (L .carts) c ≡ true
+  pub local : (t : ℕ) → t < 16 → stationsIn (L .stations) .local t ≡ setOf 64 (λ c. localTo (cartsIn (L .carts) .place c) t)
+  pub short : (m : ℕ) → m < 32 → roomsIn (L .messages) .length m ≤ 32
+  pub rooms : (i j : ℕ) → i < 16 → j < 16 → everyWord (roomRight (roomsIn (L .messages)) i j) (lineOf (L .lines) (i * 16 + j)) ≡ true
+
+module _ (L : Lent) where
+  abbrev a : Bool
+  a = form (L .lines)
+
+  abbrev b : Bool
+  b = every 64 (canonicalIn (L .carts))
+
+  abbrev c : Bool
+  c = every 16 (localRight L)
+
+  abbrev d : Bool
+  d = every 32 (shortText L)
+
+  abbrev e : Bool
+  e = every 16 (λ i. every 16 (lineRight L i))
+
+  pub laid-of : wordsIn L ≡ true → Laid L
+  unfolding wordsIn localRight lineRight shortText
+  laid-of h =
+      let p = and-right a (b && (c && (d && e))) h in
+      let q = and-right b (c && (d && e)) p in
+      let r = and-right c (d && e) q in
+      record {
+        chains = and-left a (b && (c && (d && e))) h;
+        canonical = every-at 64 (canonicalIn (L .carts)) (and-left b (c && (d && e)) p);
+        local = λ t l. eqb-true (stationsIn (L .stations) .local t) _ (every-at 16 (localRight L) (and-left c (d && e) q) t l);
+        short = λ m l. leb-true (roomsIn (L .messages) .length m) 32 (every-at 32 (shortText L) (and-left d e r) m l);
+        rooms = λ i j li lj. every-at 16 (lineRight L i) (every-at 16 (λ i. every 16 (lineRight L i)) (and-right d e r) i li) j lj;
+      }
+
+  pub words-right : Laid L → wordsIn L ≡ true
+  unfolding wordsIn localRight lineRight shortText
+  words-right X =
+      and-intro a (b && (c && (d && e))) (X .chains)
+      (and-intro b (c && (d && e)) (every-all 64 (canonicalIn (L .carts)) (X .canonical))
+      (and-intro c (d && e) (every-all 16 (localRight L) (λ t l. eq-eqb (stationsIn (L .stations) .local t) _ (X .local t l)))
+      (and-intro d e (every-all 32 (shortText L) (λ m l. le-leb (roomsIn (L .messages) .length m) 32 (X .short m l)))
+      (every-all 16 (λ i. every 16 (lineRight L i)) (λ i li. every-all 16 (lineRight L i) (λ j lj. X .rooms i j li lj))))))
+
+-- RECORDS OF A LINE
+
+-- one more at the end
+words-append : (f : word.Record → Bool) (l : List word.Record) (r : word.Record) → everyWord f l ≡ true → f r ≡ true → everyWord f (l ++ (r ∷ [])) ≡ true
+words-append f [] r h e = and-intro (f r) true e refl
+words-append f (x ∷ l) r h e = and-intro (f x) (everyWord f (l ++ (r ∷ []))) (and-left (f x) (everyWord f l) h) (words-append f l r (and-right (f x) (everyWord f l) h) e)
+
+-- without the head
+words-drop : (f : word.Record → Bool) (l : List word.Record) → everyWord f l ≡ true → everyWord f (drop 1 l) ≡ true
+words-drop f [] h = refl
+words-drop f (x ∷ l) h = and-right (f x) (everyWord f l) h
+
+-- TESTS
+or-nothing : (a : Bool) → (a || false) ≡ a
+or-nothing true = refl
+or-nothing false = refl
+
+and-nothing : (a : Bool) → (a && true) ≡ a
+and-nothing true = refl
+and-nothing false = refl
+
+-- LOCAL CARTS, when cart c's place is another
+module _ (place : ℕ → Place) (c t : ℕ) (p : Place) where
+  abbrev before : ℕ
+  before = setOf 64 (λ d. localTo (place d) t)
+
+  abbrev after : ℕ
+  after = setOf 64 (λ d. localTo (update place c p d) t)
+
+  -- it was local just when it is
+  pub local-stays : localTo p t ≡ localTo (place c) t → before ≡ after
+  local-stays q =
+      same-members 64 before after (setOf-lt 64 (λ d. localTo (place d) t)) (setOf-lt 64 (λ d. localTo (update place c p d) t))
+      (λ d l. has-setOf 64 (λ d. localTo (place d) t) d l ∙ same d ∙ sym (has-setOf 64 (λ d. localTo (update place c p d) t) d l))
+    where
+      same : (d : ℕ) → localTo (place d) t ≡ localTo (update place c p d) t
+      same d = on-update (λ (x : Place). localTo (place d) t ≡ localTo x t) place c p d (λ z. ap (λ (x : ℕ). localTo (place x) t) z ∙ sym q) (λ z. refl)
+
+  -- it is local now
+  pub local-joins : c < 64 → localTo p t ≡ true → with before c ≡ after
+  local-joins lc q =
+      same-members 64 (with before c) after (with-lt 64 before c (setOf-lt 64 (λ d. localTo (place d) t)) lc) (setOf-lt 64 (λ d. localTo (update place c p d) t))
+      (λ d l. has-with before c d ∙ ap (λ (x : Bool). x || eqb c d) (has-setOf 64 (λ d. localTo (place d) t) d l)
+      ∙ joined d ∙ sym (has-setOf 64 (λ d. localTo (update place c p d) t) d l))
+    where
+      joined : (d : ℕ) → (localTo (place d) t || eqb c d) ≡ localTo (update place c p d) t
+      joined d =
+          on-update (λ (x : Place). (localTo (place d) t || eqb c d) ≡ localTo x t) place c p d
+          (λ z. or-right (localTo (place d) t) (eqb c d) (eq-eqb c d (sym z)) ∙ sym q)
+          (λ z. rw (ne-eqb c d (λ y. z (sym y))) (or-nothing (localTo (place d) t)))
+
+  -- it is local no more
+  pub local-leaves : localTo p t ≡ false → without before c ≡ after
+  local-leaves q =
+      same-members 64 (without before c) after (without-lt 64 before c (setOf-lt 64 (λ d. localTo (place d) t))) (setOf-lt 64 (λ d. localTo (update place c p d) t))
+      (λ d l. has-without before c d ∙ ap (λ (x : Bool). x && not (eqb c d)) (has-setOf 64 (λ d. localTo (place d) t) d l)
+      ∙ left d ∙ sym (has-setOf 64 (λ d. localTo (update place c p d) t) d l))
+    where
+      left : (d : ℕ) → (localTo (place d) t && not (eqb c d)) ≡ localTo (update place c p d) t
+      left d =
+          on-update (λ (x : Place). (localTo (place d) t && not (eqb c d)) ≡ localTo x t) place c p d
+          (λ z. rw (eq-eqb c d (sym z)) (and-false (localTo (place d) t) ∙ sym q))
+          (λ z. rw (ne-eqb c d (λ y. z (sym y))) (and-nothing (localTo (place d) t)))
+
+-- WRITES, each of one part; what it leaves is laid again
+module _ (S C M W T : List ℕ) (X : Laid (lent S C M W T)) where
+  -- of the stations, when no local carts change
+  pub laid-stations : (S′ : List ℕ) → ((t : ℕ) → t < 16 → stationsIn S′ .local t ≡ stationsIn S .local t) → Laid (lent S′ C M W T)
+  laid-stations S′ h = record { chains = X .chains; canonical = X .canonical; local = λ t l. h t l ∙ X .local t l; short = X .short; rooms = X .rooms }
+
+  -- of the carts and of the masks of local carts
+  pub laid-carts : (S′ C′ : List ℕ) → ((c : ℕ) → c < 64 → canonicalIn C′ c ≡ true) → ((t : ℕ) → t < 16 → stationsIn S′ .local t ≡ setOf 64 (λ c. localTo (cartsIn C′ .place c) t)) → Laid (lent S′ C′ M W T)
+  laid-carts S′ C′ canonical local = record { chains = X .chains; canonical = canonical; local = local; short = X .short; rooms = X .rooms }
+
+  -- of the texts
+  pub laid-texts : (T′ : List ℕ) → Laid (lent S C M W T′)
+  laid-texts T′ = record { chains = X .chains; canonical = X .canonical; local = X .local; short = X .short; rooms = X .rooms }
+
+  -- of the messages, when the records on the lines are right in the new rooms too
+  pub laid-messages : (M′ : List ℕ) → ((m : ℕ) → m < 32 → roomsIn M′ .length m ≤ 32)
+      → ((i j : ℕ) → i < 16 → j < 16 → everyWord (roomRight (roomsIn M′) i j) (lineOf W (i * 16 + j)) ≡ true) → Laid (lent S C M′ W T)
+  laid-messages M′ short rooms = record { chains = X .chains; canonical = X .canonical; local = X .local; short = short; rooms = rooms }
+
+  -- a record joins a line
+  pub laid-push : (W′ : List ℕ) (a b : ℕ) (r : word.Record) → a < 16 → b < 16 → Pushed W W′ (a * 16 + b) r → roomRight (roomsIn M) a b r ≡ true → Laid (lent S C M W′ T)
+  laid-push W′ a b r la lb p e =
+      record {
+        chains = p .formed;
+        canonical = X .canonical;
+        local = X .local;
+        short = X .short;
+        rooms = λ i j li lj. by-eq (i * 16 + j) (a * 16 + b)
+            (λ q. let z = same-line i j a b lj lb q in
+            rw (z .0, z .1) (rw (p .line) (words-append (roomRight (roomsIn M) a b) (lineOf W (a * 16 + b)) r (X .rooms a b la lb) e)))
+            (λ q. rw (p .others (i * 16 + j) (line-below i j li lj) q) (X .rooms i j li lj));
+      }
+
+  -- the head of a line is taken
+  pub laid-pop : (W′ : List ℕ) (a b : ℕ) → a < 16 → b < 16 → Popped W W′ (a * 16 + b) → Laid (lent S C M W′ T)
+  laid-pop W′ a b la lb p =
+      record {
+        chains = p .formed;
+        canonical = X .canonical;
+        local = X .local;
+        short = X .short;
+        rooms = λ i j li lj. by-eq (i * 16 + j) (a * 16 + b)
+            (λ q. let z = same-line i j a b lj lb q in
+            rw (z .0, z .1) (rw (p .line) (words-drop (roomRight (roomsIn M) a b) (lineOf W (a * 16 + b)) (X .rooms a b la lb))))
+            (λ q. rw (p .others (i * 16 + j) (line-below i j li lj) q) (X .rooms i j li lj));
+      }

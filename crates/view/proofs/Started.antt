@@ -1,0 +1,47 @@
+-- THE FLOOR THAT A START LEAVES: all parts written afresh.
+use mathlib.Core.Path.{_≡_, refl, sym, ap, _∙_}
+use mathlib.Core.Bool.{Bool, true, false}
+use mathlib.Core.List.{List, []}
+use Prim.Native.Nat.{ℕ, _+_, _*_, _≤_, _<_}
+use native.Mathlib.Omega.{arith}
+use Rattle.protocol.specs.CartSets.{setOf}
+use Rattle.protocol.specs.Floor.{Floor, Carts, Record, localTo, outside, justStarted}
+use Rattle.protocol.proofs.Tests.{clash}
+use Rattle.protocol.proofs.SetLaws.{has-zero, has-setOf, setOf-lt, zero-below, same-members}
+use Rattle.stations.specs.View.{Head, Stations, head, headIn, stationsIn, noStations}
+use Rattle.carts.specs.View.{cartsIn, canonicalIn, noCarts}
+use Rattle.messages.specs.View.{Rooms, roomsIn, noRooms}
+use Rattle.messages.specs.Texts.{textIn}
+use Rattle.lines.specs.Post.{Cleared}
+use Rattle.view.specs.Records.{linesIn, roomRight}
+use Rattle.view.specs.View.{Lent, lent, lengthsIn, wordsIn, textsIn, everyWord, floorOf, floorIn}
+use Rattle.view.proofs.LinesView.{line-below, clear-view}
+use Rattle.view.proofs.Lengths.{Lengths, lengths-right}
+use Rattle.view.proofs.Laid.{Laid, words-right}
+
+-- nobody is local anywhere
+nobody : (t : ℕ) → setOf 64 (λ c. localTo outside t) ≡ 0
+nobody t = same-members 64 (setOf 64 (λ c. false)) 0 (setOf-lt 64 (λ c. false)) (zero-below 64) (λ c l. has-setOf 64 (λ c. false) c l ∙ sym (has-zero c))
+
+module _ (S C M W₀ W T : List ℕ) (n k : ℕ)
+    (top : headIn S ≡ head 1 n k) (no-stations : stationsIn S ≡ noStations) (no-carts : cartsIn C ≡ noCarts) (canonical : canonicalIn C ≡ (λ c. true))
+    (no-rooms : roomsIn M ≡ noRooms) (cleared : Cleared W₀ W) (sizes : Lengths (lent S C M W T)) where
+  abbrev L : Lent
+  L = lent S C M W T
+
+  pub laid-start : Laid L
+  laid-start =
+      record {
+        chains = cleared .formed;
+        canonical = λ c l. ap (λ (f : ℕ → Bool). f c) canonical;
+        local = λ t l. ap (λ (X : Stations). X .local t) no-stations ∙ sym (ap (λ (X : Carts). setOf 64 (λ c. localTo (X .place c) t)) no-carts ∙ nobody t);
+        short = λ m l. let z : roomsIn M .length m ≡ 0 = ap (λ (R : Rooms). R .length m) no-rooms in omega arith;
+        rooms = λ i j li lj. rw (cleared .empty (i * 16 + j) (line-below i j li lj)) refl;
+      }
+
+  -- "it writes all the rest afresh"
+  pub start-view : floorIn L ≡ justStarted n k
+  unfolding textIn
+  start-view =
+      (λ i. floorOf (lengthsIn L) (wordsIn L) (top i) (no-stations i) (no-carts i) (no-rooms i) (textsIn T (no-rooms i)) (linesIn (no-carts i .next) W))
+      ∙ (λ i. floorOf (lengths-right L sizes i) (words-right L laid-start i) (head 1 n k) noStations noCarts noRooms (textsIn T noRooms) (clear-view (noCarts .next) W₀ W cleared i))
