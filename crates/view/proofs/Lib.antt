@@ -5,3 +5,5 @@ pub mod Writes
 pub mod Registers
 pub mod Room
 pub mod Started
+pub mod RecordWords
+pub mod Standing

@@ -25,6 +25,10 @@ numberOf w = w / 2048
 abbrev pub wordOf : ℕ → ℕ → ℕ → ℕ
 wordOf kind index number = kind + 8 * index + 2048 * number
 
+-- the two words of a record with these parts, and an ack list's carts
+abbrev pub wordsOf : ℕ → ℕ → ℕ → ℕ → word.Record
+wordsOf kind index number carts = record { 0 = wordOf kind index number; 1 = carts }
+
 -- the record that two words say, with the row of a register's cart
 unfoldable pub recordIn : (ℕ → ℕ → ℕ) → word.Record → Record
 recordIn next r =

@@ -1,0 +1,67 @@
+-- A MOVE OVER THE LENT PARTS IS THE WRITTEN MOVE: the floor that they then say is the floor of the written step.
+use mathlib.Core.Path.{_≡_, refl, sym, ap, _∙_}
+use mathlib.Core.Bool.{Bool, true, false}
+use mathlib.Core.List.{List}
+use Prim.Native.Nat.{ℕ, _+_, _*_, _<_}
+use native.Mathlib.Omega.{arith}
+use Rattle.protocol.specs.Folds.{update}
+use Rattle.protocol.specs.CartSets.{setOf}
+use Rattle.protocol.specs.Floor.{Floor, limits, Place, Carts, at, leaving, Record, deregister, put, between, localTo}
+use Rattle.protocol.specs.Handoff.{onMove}
+use Rattle.protocol.proofs.Tests.{on-update}
+use Rattle.stations.specs.View.{headIn, stationsIn}
+use Rattle.carts.specs.View.{cartsIn, canonicalIn}
+use Rattle.messages.specs.View.{roomsIn}
+use Rattle.lines.specs.Post.{Pushed}
+use Rattle.view.specs.Records.{linesIn, wordsOf, recordIn}
+use Rattle.view.specs.View.{Lent, lent, lengthsIn, wordsIn, textsIn, floorOf, floorIn}
+use Rattle.view.proofs.LinesView.{push-view}
+use Rattle.view.proofs.Lengths.{Lengths, lengths-right}
+use Rattle.view.proofs.Laid.{Laid, words-right, local-stays, laid-carts, laid-push}
+use Rattle.view.proofs.RecordWords.{deregister-is, deregister-right}
+use Rattle.view.proofs.Standing.{Standing}
+use Rattle.handoff.specs.Moved.{Moved}
+
+module _ (S C C′ M W W′ T : List ℕ) (c old to : ℕ) (X : Standing (lent S C M W T))
+    (lc : c < 64) (lo : old < 16) (lt : to < 16) (here : cartsIn C .place c ≡ at old) (moved : Moved C C′ W W′ c old to) where
+  abbrev L : Lent
+  L = lent S C M W T
+
+  abbrev L′ : Lent
+  L′ = lent S C′ M W′ T
+
+  lengths : Lengths L′
+  lengths =
+      record {
+        stations = X .lengths .stations;
+        carts = moved .length ∙ X .lengths .carts;
+        messages = X .lengths .messages;
+        lines = moved .lines .words ∙ X .lengths .lines;
+        texts = X .lengths .texts;
+      }
+
+  -- a leaving cart is local where it was
+  still-local : (t : ℕ) → localTo (leaving old to) t ≡ localTo (cartsIn C .place c) t
+  still-local t = ap (λ (p : Place). localTo p t) (sym here)
+
+  pub laid : Laid L′
+  laid =
+      laid-push S C′ M W T
+      (laid-carts S C M W T (X .laid) S C′
+      (λ d ld. ap (λ (f : ℕ → Bool). f d) (moved .canonical) ∙ on-update (λ (b : Bool). b ≡ true) (canonicalIn C) c true d (λ q. refl) (λ q. X .laid .canonical d ld))
+      (λ t l. X .laid .local t l ∙ local-stays (cartsIn C .place) c t (leaving old to) (still-local t) ∙ ap (λ (K : Carts). setOf 64 (λ d. localTo (K .place d) t)) (sym (moved .carts))))
+      W′ to old (wordsOf 4 c 0 0) lt lo (moved .lines) (deregister-right (roomsIn M) to old c (omega arith))
+
+  lines : linesIn (cartsIn C′ .next) W′ ≡ put (between to old) (deregister c) (linesIn (cartsIn C .next) W)
+  lines =
+      ap (λ (K : Carts). linesIn (K .next) W′) (moved .carts)
+      ∙ push-view (cartsIn C .next) W W′ to old (wordsOf 4 c 0 0) lt lo (moved .lines)
+      ∙ ap (λ (r : Record). put (between to old) r (linesIn (cartsIn C .next) W)) (deregister-is (cartsIn C .next) c (omega arith))
+
+  -- "a deregister goes from to to the old station; the cart is leaving"
+  pub move-is : floorIn L′ ≡ onMove (floorIn L) c to .floor
+  unfolding onMove
+  move-is =
+      rw here
+      (λ i. floorOf ((lengths-right L′ lengths ∙ sym (lengths-right L (X .lengths))) i) ((words-right L′ laid ∙ sym (words-right L (X .laid))) i)
+      (headIn S) (stationsIn S) (moved .carts i) (roomsIn M) (textsIn T (roomsIn M)) (lines i))

@@ -1,0 +1,92 @@
+-- A FLOOR IN LENT PARTS THAT PASSES THE FORM RULE: what follows for its words and its numbers, and that there is room on the lines.
+use mathlib.Core.Path.{_≡_, refl, sym, ap, _∙_}
+use mathlib.Core.Bool.{Bool, true, false, _&&_}
+use mathlib.Core.List.{List, [], _∷_}
+use Prim.Native.Nat.{ℕ, suc, _+_, _-_, _*_, _≤_, _<_}
+use native.Mathlib.Omega.{arith}
+use lib.Dec.{eqb}
+use lib.ListN.{length}
+use Rattle.protocol.specs.Folds.{sum}
+use Rattle.protocol.specs.Floor.{Floor, limits, Record, put, between, onTheLines}
+use Rattle.protocol.specs.Events.{Event}
+use Rattle.protocol.specs.Claims.{All}
+use Rattle.protocol.specs.Form.{passesForm, bit}
+use Rattle.protocol.specs.Step.{step}
+use Rattle.protocol.proofs.Tests.{and-intro, eqb-self}
+use Rattle.protocol.proofs.Counting.{sum-term}
+use Rattle.protocol.proofs.FormFacts.{FormFacts}
+use Rattle.protocol.proofs.FormTest.{clauses-of, form-of, sized-of}
+use Rattle.protocol.proofs.Sized.{Sized, OnFloor, LinesFit}
+use Rattle.protocol.proofs.Theorems.{form-closed, floor-records}
+use Rattle.lines.specs.Lines.{used}
+use Rattle.lines.specs.Words.{capacity}
+use Rattle.carts.specs.View.{cartsIn}
+use Rattle.view.specs.View.{Lent, lengthsIn, wordsIn, floorIn}
+use Rattle.view.proofs.Lengths.{Lengths, lengths-of, nothing-beyond}
+use Rattle.view.proofs.Laid.{Laid, laid-of}
+use Rattle.view.proofs.Room.{used-view, put-counts, fewer-stations}
+
+pub record Standing (L : Lent) : Type 0 where
+  pub passes : passesForm limits (floorIn L) ≡ true
+  pub lengths : Lengths L
+  pub laid : Laid L
+  pub facts : FormFacts limits (floorIn L)
+  pub sized : Sized limits (floorIn L)
+
+pub standing : (L : Lent) → passesForm limits (floorIn L) ≡ true → Standing L
+standing L h =
+    let F = floorIn L in
+    let P = clauses-of limits F h in
+    let lengths = lengths-of L (P .floor .1 .0) in
+    let B = nothing-beyond L lengths in
+    record { passes = h; lengths = lengths; laid = laid-of L (P .floor .1 .1 .0); facts = form-of limits F B P; sized = sized-of limits F B P }
+
+-- the pool of the right length has rooms for 3,136 records
+pub rooms-in-pool : (L : Lent) → Lengths L → capacity (L .lines) ≡ 3136
+unfolding capacity
+rooms-in-pool L h = let z = h .lines in omega arith
+
+-- lines beyond the stations of the floor are empty
+empty-of : (P : Record → Type 0) (l : List Record) → All P l → ((r : Record) → P r → ⊥) → l ≡ []
+empty-of P [] h never = refl
+empty-of P (r ∷ l) h never = absurd (never r (h .0))
+
+module _ (L : Lent) (X : Standing L) where
+  abbrev F : Floor
+  F = floorIn L
+
+  pub no-line-from : (i j : ℕ) → F .stations ≤ i → F .lines i j ≡ []
+  no-line-from i j l = empty-of (OnFloor (F .stations) (F .carts) i j) (F .lines i j) (X .sized .lines i j) (λ r p. let a = p .0 in omega arith)
+
+  pub no-line-to : (i j : ℕ) → F .stations ≤ j → F .lines i j ≡ []
+  no-line-to i j l = empty-of (OnFloor (F .stations) (F .carts) i j) (F .lines i j) (X .sized .lines i j) (λ r p. let a = p .1 .0 in omega arith)
+
+  -- the records in the pool are those on the lines of the floor
+  pub used-on-floor : used (L .lines) ≡ onTheLines (F .stations) (F .lines)
+  used-on-floor =
+      let few = X .sized .counts .stations in
+      let all : F .stations + (16 - F .stations) ≡ 16 = omega arith in
+      used-view (cartsIn (L .carts) .next) (L .lines)
+      ∙ ap (λ (n : ℕ). onTheLines n (F .lines)) (sym all)
+      ∙ fewer-stations (F .stations) (16 - F .stations) (F .lines) no-line-from no-line-to
+
+  -- as many as an event puts on the lines have room: the floor that it leaves passes again, so it has no more than 3,136
+  pub room-after : (e : Event) (on : ℕ → ℕ → Bool) (r : Record) → step limits F e .stations ≡ F .stations → step limits F e .lines ≡ put on r (F .lines)
+      → used (L .lines) + sum (F .stations) (λ i. sum (F .stations) (λ j. bit (on i j))) ≤ capacity (L .lines)
+  room-after e on r same after =
+      let B = nothing-beyond L (X .lengths) in
+      let next = form-closed limits F e B (X .passes) in
+      let bound = floor-records (step limits F e) (next .0) (next .1) in
+      let bound' : onTheLines (F .stations) (put on r (F .lines)) ≤ 3136 = rw (same, after) at bound in
+      let counts = put-counts (F .stations) on r (F .lines) in
+      let a = used-on-floor in
+      let b = rooms-in-pool L (X .lengths) in
+      omega arith
+
+-- one line picked is one
+pub one-line-counts : (n a b : ℕ) → a < n → b < n → 1 ≤ sum n (λ i. sum n (λ j. bit (between a b i j)))
+one-line-counts n a b la lb =
+    let z : bit (between a b a b) ≡ 1 = rw (and-intro (eqb a a) (eqb b b) (eqb-self a) (eqb-self b)) refl in
+    let y = sum-term n (λ j. bit (between a b a j)) b lb in
+    let x = sum-term n (λ i. sum n (λ j. bit (between a b i j))) a la in
+    omega arith
