@@ -1,23 +1,21 @@
 -- The nearest message is where 01's loop stops.
-use mathlib.Core.Path.{_≡_, refl, sym, ap, ap₂, _∙_}
-use mathlib.Core.Bool.{Bool, true, false, _&&_, not}
+use mathlib.Core.Path.{_≡_, refl, sym, ap, _∙_}
+use mathlib.Core.Bool.{true, false, _&&_, not}
 use mathlib.Core.Option.{Option, none, some}
 use Prim.Native.Nat.{ℕ, zero, suc, _+_, _-_, _<_, _≤_}
 use native.Mathlib.Omega.{arith}
 use lib.Dec.{eqb, ltb, leb}
-use borrow.Author.Tests.{ltb-true, ltb-false, leb-true, le-leb, eqb-true, eq-eqb, not-true}
+use borrow.Author.Tests.{ltb-true, ltb-false, leb-true, le-leb, eqb-true, eq-eqb}
 use Rattle.protocol.specs.CartSets.{has}
-use Rattle.protocol.specs.Folds.{first}
 use Rattle.protocol.specs.Floor.{Limits, Floor, isHeld, isBuffered, isMessage}
 use Rattle.protocol.specs.Handoff.{Stop, bufferedFor, catchUpStop}
-use Rattle.protocol.proofs.Tests.{by-test, by-lt, by-eq, by-option, on-cond, clash, and-left, and-right, and-intro, first-none, first-some, first-least}
-use Rattle.protocol.proofs.Invariant.{Held}
-use Rattle.protocol.proofs.CatchUp.{Stops, stops-at, Ascent, catch-up-ascent}
+use Rattle.protocol.proofs.Tests.{by-test, by-lt, by-eq, by-option, on-cond, clash, and-left, and-right, and-intro, first-none, first-least}
+use Rattle.protocol.proofs.CatchUp.{stops-at, catch-up-ascent}
 use Rattle.catchup.specs.Nearest.{wouldStop, nearerWith, nearestAmong, stopBy}
 
 module _ (F : Floor) (t c s x : ℕ) where
   -- the nearest among the first n rooms: no other that would stop the cart has a smaller number, nor the same one in an earlier room
-  abbrev IsNearest : ℕ → Option ℕ → Type 0
+  abbrev pub IsNearest : ℕ → Option ℕ → Type 0
   IsNearest n none = (m : ℕ) → m < n → wouldStop F t c s x m ≡ false
   IsNearest n (some k) = (k < n) × ((wouldStop F t c s x k ≡ true) × ((m : ℕ) → m < n → wouldStop F t c s x m ≡ true → (F .number k ≤ F .number m) × (F .number m ≡ F .number k → k ≤ m)))
 
@@ -51,20 +49,20 @@ module _ (F : Floor) (t c s x : ℕ) where
       near-test : (n k : ℕ) → F .number n < F .number k → ltb (F .number n) (F .number k) ≡ true
       near-test n k q = by-test (ltb (F .number n) (F .number k)) (λ e. e) (λ e. absurd (let z = ltb-false (F .number n) (F .number k) e in omega arith))
 
-  nearest-is : (n : ℕ) → IsNearest n (nearestAmong F t c s x n)
+  pub nearest-is : (n : ℕ) → IsNearest n (nearestAmong F t c s x n)
   unfolding nearestAmong
   nearest-is zero = λ m l. absurd (omega arith)
   nearest-is (suc n) = one-more n (nearestAmong F t c s x n) (nearest-is n)
 
   -- what would stop the cart, in parts
-  record Would (m : ℕ) : Type 0 where
-    held : isHeld F m ≡ true
-    is-initiator : F .initiator m ≡ s
-    buffered : isBuffered F m t ≡ true
-    in-copy : has (F .copy m t) c ≡ true
-    far : x ≤ F .number m
+  pub record Would (m : ℕ) : Type 0 where
+    pub held : isHeld F m ≡ true
+    pub is-initiator : F .initiator m ≡ s
+    pub buffered : isBuffered F m t ≡ true
+    pub in-copy : has (F .copy m t) c ≡ true
+    pub far : x ≤ F .number m
 
-  would : (m : ℕ) → wouldStop F t c s x m ≡ true → Would m
+  pub would : (m : ℕ) → wouldStop F t c s x m ≡ true → Would m
   unfolding wouldStop
   would m e =
       let b = and-right (isHeld F m) (eqb (F .initiator m) s && (isBuffered F m t && (has (F .copy m t) c && leb x (F .number m)))) e in
@@ -78,7 +76,7 @@ module _ (F : Floor) (t c s x : ℕ) where
         far = leb-true x (F .number m) (and-right (has (F .copy m t) c) (leb x (F .number m)) f);
       }
 
-  would-intro : (m : ℕ) → Would m → wouldStop F t c s x m ≡ true
+  pub would-intro : (m : ℕ) → Would m → wouldStop F t c s x m ≡ true
   unfolding wouldStop
   would-intro m w =
       and-intro (isHeld F m) (eqb (F .initiator m) s && (isBuffered F m t && (has (F .copy m t) c && leb x (F .number m)))) (w .held)

@@ -5,7 +5,7 @@ use Prim.Native.Nat.{ℕ, zero, suc, _+_, _-_}
 use lib.Dec.{eqb, ltb, leb}
 use Rattle.protocol.specs.CartSets.{has}
 use Rattle.protocol.specs.Folds.{byOption}
-use Rattle.protocol.specs.Floor.{Limits, Floor, isHeld, isBuffered}
+use Rattle.protocol.specs.Floor.{Floor, isHeld, isBuffered}
 use Rattle.protocol.specs.Handoff.{Stop}
 
 -- would the message in room m stop cart c at station t, on its way up from x among the numbers of initiator s

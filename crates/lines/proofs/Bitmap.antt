@@ -121,6 +121,17 @@ freed-is l w x s hw hl h =
           (subst (λ (t : ℕ). Summed t w x s) (getD-set-other l w 49 x 0 (omega arith)) h);
     }
 
+-- a word that was not 0 and is not 0: its bit of the summary stays
+pub freed-still : (l : List ℕ) (w x : ℕ) → w < 49 → 50 ≤ length l → Summary l → 0 < getD l w 0 → 0 < x → Freed l (set l w x) w x
+freed-still l w x hw hl s was is =
+    let far : 49 ≡ w → ⊥ = omega arith in
+    record {
+      word = getD-set-same l w x 0 (omega arith);
+      others = λ a ha hs. getD-set-other l w a x 0 ha;
+      summary = subst (λ (t : ℕ). Summed (summaryOf l) w x t) (sym (getD-set-other l w 49 x 0 far))
+          (record { here = s .bits w hw ∙ ap bit (lt-ltb 0 (getD l w 0) was ∙ sym (lt-ltb 0 x is)); there = λ c d. refl; small = λ q. q });
+    }
+
 module _ (l l′ : List ℕ) (w x : ℕ) (h : Freed l l′ w x) (hw : w < 49) where
   freed-summary : Summary l → Summary l′
   freed-summary s = record { bits = λ v hv. pick v hv (ℕ-discrete v w); small = h .summary .small (s .small) }

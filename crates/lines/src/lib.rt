@@ -149,6 +149,20 @@ fn put_free(pool: &mut [u64], w: usize, x: u64)
     pool[SUMMARY] = summed(pool[SUMMARY], w, x);
 }
 
+// The same where the summary is right already: it is stored only where the word becomes 0 or was, so that a push need not wait for the last.
+fn change_free(pool: &mut [u64], w: usize, x: u64)
+    requires { ⌜ (w < freeWords) × (50 ≤ length (now pool)) × (summaryOk (now pool) ≡ true) ⌝ }
+    ensures { λ _. ⌜ Freed (now (pool .entry)) (now (pool .exit)) w x ⌝ }
+{
+    if 0 < pool[w] {
+        if 0 < x {
+            pool[w] = x;
+            return;
+        }
+    }
+    put_free(pool, w, x);
+}
+
 // The lowest free row, which is free no more.
 fn take_row(pool: &mut [u64]) -> usize
     requires { ⌜ (linesAt ≤ length (now pool)) × (summaryOk (now pool) ≡ true) × (0 < summaryOf (now pool)) ⌝ }
@@ -157,7 +171,7 @@ fn take_row(pool: &mut [u64]) -> usize
     let w = lowest(pool[SUMMARY]);
     let word = pool[w];
     let b = lowest(word);
-    put_free(pool, w, without_bit(word, b));
+    change_free(pool, w, without_bit(word, b));
     w * 64 + b
 }
 
@@ -167,7 +181,7 @@ fn give_row(pool: &mut [u64], row: usize)
 {
     let w = row / 64;
     let word = with_bit(pool[w], row % 64);
-    put_free(pool, w, word);
+    change_free(pool, w, word);
 }
 
 // Word w of the free rows where all rows are free.

@@ -13,8 +13,8 @@ slice-read-with-bit c = search needs
 with-bit-requires : tie.Need-with-bit-requires
 with-bit-requires c κs = search needs
 
-put-free-requires : tie.Need-put-free-requires
-put-free-requires c κs = search needs
+change-free-requires : tie.Need-change-free-requires
+change-free-requires c κs = search needs
 
 same-length : tie.Need-same-length
 same-length c = search needs
@@ -23,7 +23,7 @@ returns : tie.Need-returns
 returns c =
     let s = c .before .before .before .before .before .before .before in
     let x = c .before .before .before .before .with-bit in
-    let p = c .before .before .put-free in
+    let p = c .before .before .change-free in
     give-is (s .args .pool .now) (p .last .0) (s .args .row) (x .result) (s .pre .1) (s .pre .2) (x .ensures) (p .ensures)
 
 pub give-row-spec : {M : Type 1} → statement M
@@ -33,6 +33,6 @@ give-row-spec =
     mul-with-bit
     slice-read-with-bit
     with-bit-requires
-    put-free-requires
+    change-free-requires
     same-length
     returns)

@@ -29,11 +29,11 @@ lowest-requires-2 c κs =
 without-bit-requires : tie.Need-without-bit-requires
 without-bit-requires c κs = search needs
 
-put-free-requires : tie.Need-put-free-requires
-put-free-requires c κs =
+change-free-requires : tie.Need-change-free-requires
+change-free-requires c κs =
     let s = c .before .before .before .before .before .before .before in
     let w = c .before .before .before .before .lowest in
-    (summary-low (s .args .pool .now) (summary-of (s .args .pool .now) (s .pre .1)) (w .result) (w .ensures .1), omega arith)
+    (summary-low (s .args .pool .now) (summary-of (s .args .pool .now) (s .pre .1)) (w .result) (w .ensures .1), omega arith, s .pre .1)
 
 mul-result : tie.Need-mul-result
 mul-result c = search needs
@@ -50,7 +50,7 @@ returns c =
     let w = c .before .before .before .before .before .before .before .lowest in
     let b = c .before .before .before .before .before .lowest2 in
     let x = c .before .before .before .without-bit in
-    let p = c .before .before .put-free in
+    let p = c .before .before .change-free in
     take-is (s .args .pool .now) (p .last .0) (w .result) (b .result) (x .result) (s .pre .1) (w .ensures .1) (b .ensures .0) (b .ensures .1) (x .ensures) (p .ensures)
 
 pub take-row-spec : {M : Type 1} → statement M
@@ -63,7 +63,7 @@ take-row-spec =
     slice-read-word
     lowest-requires-2
     without-bit-requires
-    put-free-requires
+    change-free-requires
     mul-result
     add-result
     same-length

@@ -1,0 +1,334 @@
+//! Random streams that keep a floor busy.
+//!
+//! The generator runs a floor of its own beside the stream and chooses, most of the time, events
+//! that this floor accepts. Document 01 looks at an ack list in a radio step and nowhere else, so a
+//! message can be held for ever: one cart receives it, and the cart that its station still waits
+//! for rolls away. A stream that lets this happen ends with 32 messages held and every send
+//! refused. Two rules steer around it:
+//!
+//! * a cart that an ack list waits for does not move;
+//! * a message is not handed out while its station would then wait for a cart that is leaving.
+//!
+//! An ack list that is not empty then always waits for a cart that is at the station, stays there,
+//! and will receive the message.
+
+use plain::floor::{carts_of, HELD, LAST_NUMBER, TEXT};
+use plain::frames::{put, Event};
+use plain::{CartNo, Floor, Place, Refusal, StationNo, Step};
+
+use crate::random::Random;
+
+/// What a stream should be like.
+#[derive(Clone, Copy, Debug)]
+pub struct Wishes {
+    pub stations: u8,
+    pub carts: u8,
+    /// Messages held, about.
+    pub held: usize,
+    /// Records on the lines, about.
+    pub lines: usize,
+    /// Percent of random and refused events.
+    pub bad: usize,
+    /// Whether to steer around messages that are held for ever.
+    pub steer: bool,
+}
+
+impl Default for Wishes {
+    fn default() -> Self {
+        Wishes { stations: 16, carts: 64, held: 8, lines: 40, bad: 2, steer: true }
+    }
+}
+
+/// What has been generated.
+#[derive(Clone, Copy, Debug, Default)]
+pub struct Counts {
+    pub frames: u64,
+    pub accepted: u64,
+    pub sends: u64,
+    pub receipts: u64,
+    /// Sums over all frames, for the means.
+    pub held: u64,
+    pub on_lines: u64,
+}
+
+/// Makes a stream, frame by frame.
+pub struct Generator {
+    random: Random,
+    floor: Box<Floor>,
+    wishes: Wishes,
+    started: bool,
+    on_lines: usize,
+    counts: Counts,
+}
+
+impl Generator {
+    pub fn new(seed: u64, wishes: Wishes) -> Self {
+        Generator {
+            random: Random::new(seed),
+            floor: Box::new(Floor::new()),
+            wishes,
+            started: false,
+            on_lines: 0,
+            counts: Counts::default(),
+        }
+    }
+
+    pub fn counts(&self) -> Counts {
+        self.counts
+    }
+
+    /// Chooses the next event, gives it to the floor beside, and writes its frame.
+    pub fn frame(&mut self, out: &mut Vec<u8>) {
+        let mut text = [0; TEXT];
+        let event = self.choose(&mut text);
+        put(&event, out);
+        self.counts.frames += 1;
+        if let Ok(step) = give(&mut self.floor, &event) {
+            self.started = true;
+            self.counts.accepted += 1;
+            self.on_lines += step.w as usize;
+            match event {
+                Event::Wire { .. } => self.on_lines -= 1,
+                Event::Send { .. } => self.counts.sends += 1,
+                Event::Radio { .. } => self.counts.receipts += 1,
+                _ => (),
+            }
+        }
+        self.counts.held += self.floor.held() as u64;
+        self.counts.on_lines += self.on_lines as u64;
+    }
+
+    fn choose<'t>(&mut self, text: &'t mut [u8; TEXT]) -> Event<'t> {
+        if !self.started {
+            return Event::Start { stations: self.wishes.stations, carts: self.wishes.carts };
+        }
+        if self.random.percent(self.wishes.bad) {
+            return self.bad(text);
+        }
+        // Four in five events of a full floor are wire steps; the square holds the number of
+        // records near the wish, whatever the floor's own share is.
+        let (lines, wish) = (self.on_lines, self.wishes.lines.max(1));
+        let pull = 4 * lines * lines;
+        if self.random.below(pull + wish * wish) < pull {
+            if let Some(event) = self.wire() {
+                return event;
+            }
+        }
+        // Most carts come at the beginning, the others late.
+        let outside = self.floor.carts() as usize - self.floor.entered().count_ones() as usize;
+        if outside > 0 {
+            let early = 4 * outside > self.floor.carts() as usize;
+            if self.floor.entered() == 0 || self.random.once_in(if early { 2 } else { 400 }) {
+                return self.enter();
+            }
+        }
+        let sender = self.sender();
+        if let (Some(station), true) = (sender, self.random.once_in(2)) {
+            return self.send(station, text);
+        }
+        if self.random.once_in(8) {
+            if let Some(event) = self.move_cart() {
+                return event;
+            }
+        }
+        if let Some(event) = self.radio() {
+            return event;
+        }
+        if let Some(station) = sender {
+            return self.send(station, text);
+        }
+        // With one station and its numbers used up there is nothing left but to be refused.
+        let idle = Event::Start { stations: self.floor.stations(), carts: self.floor.carts() };
+        self.wire().or_else(|| self.move_cart()).unwrap_or(idle)
+    }
+
+    fn station(&mut self) -> StationNo {
+        StationNo(self.random.below(self.floor.stations() as usize) as u8)
+    }
+
+    fn enter(&mut self) -> Event<'static> {
+        let station = self.station();
+        let outside = !self.floor.entered() & (u64::MAX >> (64 - self.floor.carts() as u32));
+        let cart = CartNo(self.random.bit_of(outside));
+        Event::Enter { station, cart }
+    }
+
+    /// A record of some line that is not empty.
+    fn wire(&mut self) -> Option<Event<'static>> {
+        if self.on_lines == 0 {
+            return None;
+        }
+        let stations = self.floor.stations() as usize;
+        let first = self.random.below(stations * stations);
+        (first..stations * stations)
+            .chain(0..first)
+            .map(|line| (StationNo((line / stations) as u8), StationNo((line % stations) as u8)))
+            .find(|(from, to)| self.floor.on_line(*from, *to) > 0)
+            .map(|(from, to)| Event::Wire { from, to })
+    }
+
+    /// A station that can send, where a message more is wanted.
+    fn sender(&mut self) -> Option<StationNo> {
+        // The wish, more or less: a floor that always holds the same number would be a tame one.
+        let wanted = self.wishes.held / 4 + self.random.below(self.wishes.held + 1);
+        let station = self.station();
+        let room = self.floor.held() < wanted.clamp(1, HELD);
+        (room && self.floor.sent(station) <= LAST_NUMBER).then_some(station)
+    }
+
+    fn send<'t>(&mut self, station: StationNo, text: &'t mut [u8; TEXT]) -> Event<'t> {
+        let entered = self.floor.entered();
+        let set = match self.random.below(16) {
+            0 => entered,
+            1 => entered & self.random.octets() | 1 << self.random.bit_of(entered),
+            _ => (0..1 + self.random.below(5)).fold(0, |s, _| s | 1 << self.random.bit_of(entered)),
+        };
+        Event::Send { station, set, text: self.text(text) }
+    }
+
+    fn text<'t>(&mut self, text: &'t mut [u8; TEXT]) -> &'t [u8] {
+        let text = &mut text[..self.random.below(TEXT + 1)];
+        text.fill_with(|| self.random.octets() as u8);
+        text
+    }
+
+    /// A cart of some queue's head.
+    fn radio(&mut self) -> Option<Event<'static>> {
+        let stations = self.floor.stations();
+        let first = self.station().0;
+        for station in (first..stations).chain(0..first).map(StationNo) {
+            let Some((queued, _)) = self.floor.head(station) else { continue };
+            let ready = carts_of(queued)
+                .filter(|cart| self.floor.place(*cart) == Place::At(station))
+                .filter(|cart| self.steered(&Event::Radio { station, cart: *cart }))
+                .fold(0, |set, cart| set | cart.alone());
+            if ready != 0 {
+                return Some(Event::Radio { station, cart: CartNo(self.random.bit_of(ready)) });
+            }
+        }
+        None
+    }
+
+    /// A cart that is at a station and may leave it.
+    fn move_cart(&mut self) -> Option<Event<'static>> {
+        let (entered, stations) = (self.floor.entered(), self.floor.stations() as usize);
+        if stations == 1 {
+            return None;
+        }
+        for _ in 0..8 {
+            let cart = CartNo(self.random.bit_of(entered));
+            let Place::At(old) = self.floor.place(cart) else { continue };
+            let to = (old.0 as usize + 1 + self.random.below(stations - 1)) % stations;
+            let event = Event::Move { cart, to: StationNo(to as u8) };
+            if self.steered(&event) {
+                return Some(event);
+            }
+        }
+        None
+    }
+
+    /// Whether the event leads to no message that is held for ever. Refused events do not.
+    fn steered(&self, event: &Event) -> bool {
+        if !self.wishes.steer {
+            return true;
+        }
+        match *event {
+            Event::Move { cart, .. } => match self.floor.place(cart) {
+                Place::At(old) => self.floor.waited_for(old) & cart.alone() == 0,
+                _ => true,
+            },
+            Event::Radio { station, cart } => {
+                let waited_for = self.floor.head(station).map_or(0, |(_, waited_for)| waited_for);
+                carts_of(waited_for & !cart.alone())
+                    .all(|other| self.floor.place(other) == Place::At(station))
+            }
+            _ => true,
+        }
+    }
+
+    /// An event that is likely to be refused by the floor, never by the frame.
+    fn bad<'t>(&mut self, text: &'t mut [u8; TEXT]) -> Event<'t> {
+        let (stations, carts) = (self.floor.stations(), self.floor.carts());
+        let (station, entered) = (self.station(), self.floor.entered());
+        let some = match entered {
+            0 => CartNo(0),
+            _ => CartNo(self.random.bit_of(entered)),
+        };
+        match self.random.below(16) {
+            0 => Event::Start { stations, carts },
+            1 if stations < 16 => Event::Wire { from: station, to: StationNo(stations) },
+            2 if stations < 16 => Event::Enter { station: StationNo(stations), cart: some },
+            3 if carts < 64 => Event::Move { cart: CartNo(carts), to: station },
+            4 if carts < 64 => {
+                Event::Send { station, set: entered | 1 << carts, text: self.text(text) }
+            }
+            5 => Event::Enter { station, cart: some },
+            6 => Event::Send { station, set: 0, text: self.text(text) },
+            7 if entered.count_ones() < carts as u32 => {
+                let Event::Enter { cart, .. } = self.enter() else { unreachable!() };
+                Event::Send { station, set: cart.alone() | entered, text: self.text(text) }
+            }
+            8 if self.floor.place(some) != Place::At(station) => {
+                Event::Radio { station, cart: some }
+            }
+            9 => match self.floor.place(some) {
+                Place::At(here) => Event::Move { cart: some, to: here },
+                _ => Event::Move { cart: some, to: station },
+            },
+            _ => self.wild(text),
+        }
+    }
+
+    /// An event with random fields, refused or not.
+    fn wild<'t>(&mut self, text: &'t mut [u8; TEXT]) -> Event<'t> {
+        loop {
+            let (station, to) = (self.near_station(), self.near_station());
+            let cart = CartNo(self.random.below((self.floor.carts() as usize + 1).min(64)) as u8);
+            let event = match self.random.below(16) {
+                0 => Event::Start { stations: station.0 + 1, carts: cart.0 + 1 },
+                1 => Event::Enter { station, cart },
+                2 | 3 => {
+                    let set = self.random.octets() & self.random.octets();
+                    let set = set & self.random.octets();
+                    let set = if self.random.once_in(4) { set } else { set & self.floor.entered() };
+                    return Event::Send { station, set, text: self.text(text) };
+                }
+                4..=8 => Event::Wire { from: station, to },
+                9..=12 => Event::Radio { station, cart },
+                _ => Event::Move { cart, to },
+            };
+            if self.steered(&event) {
+                return event;
+            }
+        }
+    }
+
+    /// A station of the floor or the one behind the last.
+    fn near_station(&mut self) -> StationNo {
+        StationNo(self.random.below((self.floor.stations() as usize + 1).min(16)) as u8)
+    }
+}
+
+/// Gives an event to a floor.
+pub fn give(floor: &mut Floor, event: &Event) -> Result<Step, Refusal> {
+    match *event {
+        Event::Start { stations, carts } => floor.start(stations, carts),
+        Event::Enter { station, cart } => floor.enter(station, cart),
+        Event::Send { station, set, text } => floor.send(station, set, text),
+        Event::Wire { from, to } => floor.wire(from, to),
+        Event::Radio { station, cart } => {
+            floor.radio(station, cart, &mut [0; TEXT]).map(|(step, _)| step)
+        }
+        Event::Move { cart, to } => floor.move_cart(cart, to),
+    }
+}
+
+/// A whole stream.
+pub fn stream(seed: u64, count: usize, wishes: Wishes) -> (Vec<u8>, Counts) {
+    let mut generator = Generator::new(seed, wishes);
+    let mut octets = Vec::new();
+    for _ in 0..count {
+        generator.frame(&mut octets);
+    }
+    (octets, generator.counts())
+}

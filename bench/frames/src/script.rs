@@ -1,0 +1,231 @@
+//! A readable script for frames, one event on a line:
+//!
+//! ```text
+//! # two stations, one cart
+//! start 2 1
+//! enter 0 0          station, cart
+//! send 1 0,3 A1B2    station, carts (- for none), text in hexadecimal (- for none)
+//! wire 1 0           from, to
+//! radio 0 0          station, cart
+//! move 0 1           cart, to
+//! octets 60FF        octets as they stand, for what is no frame of 01
+//! ```
+//!
+//! What follows a `#` is a comment. Script and stream say the same: `show` writes the octets from
+//! a refused frame on as one `octets` line, and `script` gives back the stream that was shown.
+
+use std::fmt::Write;
+
+use plain::floor::{carts_of, TEXT};
+use plain::frames::{put, Event, Reader, Taken};
+use plain::{CartNo, StationNo};
+
+/// What is wrong with a script, and on which line, counted from 1.
+#[derive(Clone, Debug, PartialEq, Eq)]
+pub struct Mistake {
+    pub line: usize,
+    pub what: String,
+}
+
+impl std::fmt::Display for Mistake {
+    fn fmt(&self, f: &mut std::fmt::Formatter) -> std::fmt::Result {
+        write!(f, "line {}: {}", self.line, self.what)
+    }
+}
+
+/// The frames of a script.
+pub fn script(text: &str) -> Result<Vec<u8>, Mistake> {
+    let mut octets = Vec::new();
+    for (index, line) in text.lines().enumerate() {
+        let line = line.split('#').next().unwrap_or_default();
+        let words: Vec<&str> = line.split_whitespace().collect();
+        if !words.is_empty() {
+            one_line(&words, &mut octets).map_err(|what| Mistake { line: index + 1, what })?;
+        }
+    }
+    Ok(octets)
+}
+
+fn one_line(words: &[&str], out: &mut Vec<u8>) -> Result<(), String> {
+    let text;
+    let event = match *words {
+        ["start", stations, carts] => Event::Start {
+            stations: number("stations", stations, 1, 16)?,
+            carts: number("carts", carts, 1, 64)?,
+        },
+        ["enter", at, which] => Event::Enter { station: station(at)?, cart: cart(which)? },
+        ["send", at, carts, octets] => {
+            text = hexadecimal(octets)?;
+            if text.len() > TEXT {
+                return Err(format!("a text of {} octets, longer than {TEXT}", text.len()));
+            }
+            Event::Send { station: station(at)?, set: set(carts)?, text: &text }
+        }
+        ["wire", from, to] => Event::Wire { from: station(from)?, to: station(to)? },
+        ["radio", at, which] => Event::Radio { station: station(at)?, cart: cart(which)? },
+        ["move", which, to] => Event::Move { cart: cart(which)?, to: station(to)? },
+        ["octets", octets] => {
+            out.extend(hexadecimal(octets)?);
+            return Ok(());
+        }
+        ["start", ..] => return Err("wanted: start STATIONS CARTS".into()),
+        ["enter", ..] => return Err("wanted: enter STATION CART".into()),
+        ["send", ..] => return Err("wanted: send STATION CARTS TEXT".into()),
+        ["wire", ..] => return Err("wanted: wire FROM TO".into()),
+        ["radio", ..] => return Err("wanted: radio STATION CART".into()),
+        ["move", ..] => return Err("wanted: move CART TO".into()),
+        ["octets", ..] => return Err("wanted: octets HEXADECIMAL".into()),
+        [word, ..] => return Err(format!("no event is called {word:?}")),
+        [] => return Ok(()),
+    };
+    put(&event, out);
+    Ok(())
+}
+
+fn number(what: &str, word: &str, least: u8, most: u8) -> Result<u8, String> {
+    match word.parse() {
+        Ok(n) if (least..=most).contains(&n) => Ok(n),
+        _ => Err(format!("{what}: {word:?} is not a number from {least} to {most}")),
+    }
+}
+
+fn station(word: &str) -> Result<StationNo, String> {
+    number("station", word, 0, 15).map(StationNo)
+}
+
+fn cart(word: &str) -> Result<CartNo, String> {
+    number("cart", word, 0, 63).map(CartNo)
+}
+
+fn set(word: &str) -> Result<u64, String> {
+    if word == "-" {
+        return Ok(0);
+    }
+    let mut set = 0;
+    for word in word.split(',') {
+        let alone = cart(word)?.alone();
+        if set & alone != 0 {
+            return Err(format!("cart {word} is named twice"));
+        }
+        set |= alone;
+    }
+    Ok(set)
+}
+
+fn hexadecimal(word: &str) -> Result<Vec<u8>, String> {
+    if word == "-" {
+        return Ok(Vec::new());
+    }
+    let digits: Option<Vec<u8>> =
+        word.chars().map(|digit| digit.to_digit(16).map(|value| value as u8)).collect();
+    match digits {
+        Some(digits) if digits.len() % 2 == 0 => {
+            Ok(digits.chunks(2).map(|pair| pair[0] << 4 | pair[1]).collect())
+        }
+        _ => Err(format!("{word:?} is not hexadecimal, two digits for each octet")),
+    }
+}
+
+/// The script of a stream.
+pub fn show(octets: &[u8]) -> String {
+    let mut text = String::new();
+    let mut reader = Reader::new(octets);
+    loop {
+        match reader.take() {
+            Taken::Event(event) => text += &show_event(&event),
+            Taken::End => return text,
+            Taken::Refused(refusal) => {
+                let rest = show_octets(&octets[reader.position()..]);
+                let _ = write!(text, "octets {rest} # refusal {}", refusal.number());
+                text.push('\n');
+                return text;
+            }
+        }
+        text.push('\n');
+    }
+}
+
+/// One event as a script has it.
+pub fn show_event(event: &Event) -> String {
+    match *event {
+        Event::Start { stations, carts } => format!("start {stations} {carts}"),
+        Event::Enter { station, cart } => format!("enter {} {}", station.0, cart.0),
+        Event::Send { station, set, text } => {
+            let carts: Vec<String> = carts_of(set).map(|cart| cart.0.to_string()).collect();
+            let carts = if set == 0 { "-".into() } else { carts.join(",") };
+            format!("send {} {carts} {}", station.0, show_octets(text))
+        }
+        Event::Wire { from, to } => format!("wire {} {}", from.0, to.0),
+        Event::Radio { station, cart } => format!("radio {} {}", station.0, cart.0),
+        Event::Move { cart, to } => format!("move {} {}", cart.0, to.0),
+    }
+}
+
+fn show_octets(octets: &[u8]) -> String {
+    if octets.is_empty() {
+        return "-".into();
+    }
+    octets.iter().fold(String::with_capacity(2 * octets.len()), |mut text, octet| {
+        let _ = write!(text, "{octet:02X}");
+        text
+    })
+}
+
+#[cfg(test)]
+mod tests {
+    use super::*;
+
+    fn mistake(text: &str) -> String {
+        script(text).unwrap_err().to_string()
+    }
+
+    #[test]
+    fn comments_and_blank_lines() {
+        let plain = script("start 2 1\nsend 1 0,3 a1B2\n").unwrap();
+        let loose = script("# a floor\n\n  start 2 1 # two\r\n\t\n send 1 3,0  A1b2").unwrap();
+        assert_eq!(plain, loose);
+        assert_eq!(show(&plain), "start 2 1\nsend 1 0,3 A1B2\n");
+        assert_eq!(script("\n# nothing\n").unwrap(), []);
+    }
+
+    #[test]
+    fn empty_sets_and_texts() {
+        let text = "send 15 - -\nsend 0 63 -\nsend 0 - 00\n";
+        assert_eq!(show(&script(text).unwrap()), text);
+    }
+
+    #[test]
+    fn mistakes_name_the_line() {
+        assert_eq!(mistake("\nwait 1"), "line 2: no event is called \"wait\"");
+        assert_eq!(mistake("start 2"), "line 1: wanted: start STATIONS CARTS");
+        assert_eq!(
+            mistake("start 2 1\nwire 0 16"),
+            "line 2: station: \"16\" is not a number from 0 to 15"
+        );
+        assert_eq!(mistake("start 17 1"), "line 1: stations: \"17\" is not a number from 1 to 16");
+        assert_eq!(mistake("enter 0 64"), "line 1: cart: \"64\" is not a number from 0 to 63");
+        assert_eq!(mistake("enter 0 -1"), "line 1: cart: \"-1\" is not a number from 0 to 63");
+        assert_eq!(mistake("send 0 1,,2 -"), "line 1: cart: \"\" is not a number from 0 to 63");
+        assert_eq!(mistake("send 0 1,1 -"), "line 1: cart 1 is named twice");
+        assert_eq!(
+            mistake("send 0 1 A"),
+            "line 1: \"A\" is not hexadecimal, two digits for each octet"
+        );
+        assert_eq!(
+            mistake("send 0 1 \u{e9}\u{e9}"),
+            "line 1: \"\u{e9}\u{e9}\" is not hexadecimal, two digits for each octet"
+        );
+        let long = format!("send 0 1 {}", "00".repeat(33));
+        assert_eq!(mistake(&long), "line 1: a text of 33 octets, longer than 32");
+    }
+
+    #[test]
+    fn refused_frames_are_kept_as_octets() {
+        for octets in [&[0x60; 40][..], &[1], &[0x20, 0, 33, 0, 0, 0, 0, 0, 0, 0, 0, 0, 0, 0, 0, 1]]
+        {
+            let mut stream = script("start 3 3\nenter 2 2\n").unwrap();
+            stream.extend(octets);
+            assert_eq!(script(&show(&stream)).unwrap(), stream);
+        }
+    }
+}

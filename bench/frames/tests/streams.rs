@@ -1,0 +1,121 @@
+//! Scripts and generated streams.
+
+use std::fs;
+use std::path::Path;
+
+use frames::damage::any_stream;
+use frames::generate::{give, stream, Wishes};
+use frames::random::Random;
+use frames::script::{script, show};
+use plain::frames::{Reader, Taken};
+use plain::Floor;
+
+/// Where the stored runs lie, seen from this package: NAME.frames and NAME.out.
+const RUNS: &str = "../runs";
+
+const K1: &str = "
+# K1: a cart moves to the initiator before it has the message.
+start 2 1
+enter 0 0
+send 1 0 A1
+wire 1 1
+move 0 1
+wire 1 0
+radio 0 0   # 16: the cart is leaving
+wire 1 0
+wire 0 1
+radio 1 0
+wire 1 1
+wire 1 0
+wire 1 1
+";
+
+#[test]
+fn the_script_of_k1_gives_the_stored_frames() {
+    let folder = Path::new(env!("CARGO_MANIFEST_DIR")).join(RUNS);
+    let stored = fs::read(folder.join("k1.frames")).expect("k1.frames among the stored runs");
+    assert_eq!(script(K1).unwrap(), stored);
+}
+
+#[test]
+fn show_then_script_is_the_identity_on_generated_streams() {
+    for seed in 0..20 {
+        let carts = 1 + 3 * seed as u8;
+        let wishes = Wishes { stations: 1 + seed as u8 % 16, carts, bad: 10, ..Wishes::default() };
+        let (octets, _) = stream(seed, 2_000, wishes);
+        assert_eq!(script(&show(&octets)).unwrap(), octets);
+    }
+}
+
+#[test]
+fn show_then_script_is_the_identity_on_damaged_streams() {
+    let mut random = Random::new(1);
+    for _ in 0..300 {
+        let octets = any_stream(&mut random);
+        assert_eq!(script(&show(&octets)).unwrap(), octets);
+    }
+}
+
+/// Gives a stream to a floor; answers the accepted and the refused events, the latter by number,
+/// and the most messages held in the last tenth.
+fn give_all(octets: &[u8], frames: usize) -> (usize, [usize; 22], usize) {
+    let mut floor = Box::new(Floor::new());
+    let mut reader = Reader::new(octets);
+    let (mut accepted, mut refused, mut held) = (0, [0; 22], 0);
+    for index in 0..frames {
+        let Taken::Event(event) = reader.take() else { panic!("frame {index} is refused") };
+        match give(&mut floor, &event) {
+            Ok(_) => accepted += 1,
+            Err(refusal) => refused[refusal.number() as usize] += 1,
+        }
+        if index >= frames - frames / 10 {
+            held = held.max(floor.held());
+        }
+    }
+    assert_eq!(reader.take(), Taken::End);
+    (accepted, refused, held)
+}
+
+#[test]
+fn generated_frames_are_all_taken_apart_and_mostly_accepted() {
+    let (octets, counts) = stream(7, 20_000, Wishes::default());
+    let (accepted, refused, _) = give_all(&octets, 20_000);
+    println!("{accepted} of 20000 accepted");
+    assert_eq!(refused[..5], [0; 5]);
+    assert_eq!(accepted + refused.iter().sum::<usize>(), 20_000);
+    assert_eq!(accepted as u64, counts.accepted);
+    assert!(accepted > 19_500);
+}
+
+#[test]
+fn without_bad_events_all_are_accepted() {
+    for (stations, carts) in [(16, 64), (2, 2), (1, 3), (3, 1), (5, 40)] {
+        let wishes = Wishes { stations, carts, bad: 0, ..Wishes::default() };
+        let (octets, _) = stream(11, 20_000, wishes);
+        assert_eq!(give_all(&octets, 20_000).0, 20_000);
+    }
+}
+
+#[test]
+fn no_message_is_held_for_ever() {
+    for (seed, (stations, carts)) in [(2, 2), (2, 5), (3, 6), (4, 30), (16, 64)].iter().enumerate()
+    {
+        let (stations, carts) = (*stations, *carts);
+        let wishes = Wishes { stations, carts, held: 4, bad: 5, ..Wishes::default() };
+        let (octets, counts) = stream(seed as u64, 100_000, wishes);
+        let (_, refused, held) = give_all(&octets, 100_000);
+        assert!(held < 32, "{stations} stations, {carts} carts: {held} held at the end");
+        assert!(counts.sends > 500);
+        // Random fields meet every refusal that this floor has.
+        for number in [6, 10, 11, 15, 16, 17, 20] {
+            assert!(refused[number] > 0, "{stations} stations, {carts} carts: no {number}");
+        }
+    }
+}
+
+#[test]
+fn the_seed_decides() {
+    let one = stream(1, 3_000, Wishes::default()).0;
+    assert_eq!(one, stream(1, 3_000, Wishes::default()).0);
+    assert_ne!(one, stream(2, 3_000, Wishes::default()).0);
+}

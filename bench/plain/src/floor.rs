@@ -1,0 +1,315 @@
+//! The records of the floor.
+//!
+//! Sets of carts are masks of 64 bits, sets of rooms masks of 32 bits. A *room* is the place that a
+//! held message has on this floor, 0 to 31; a message is named by its initiator and its number, and
+//! the room is only how the records here find it without a search.
+
+use std::collections::VecDeque;
+
+/// Most stations on a floor.
+pub const STATIONS: usize = 16;
+/// Most carts on a floor.
+pub const CARTS: usize = 64;
+/// Most messages held at a time, on the whole floor.
+pub const HELD: usize = 32;
+/// Longest text, in octets.
+pub const TEXT: usize = 32;
+/// The last number that a station gives to a message.
+pub const LAST_NUMBER: u16 = 65_534;
+
+/// Room for a line's first records. A longer line grows once and keeps its length.
+const LINE_ROOM: usize = 4;
+
+/// A station, numbered from 0.
+#[derive(Clone, Copy, Debug, PartialEq, Eq)]
+pub struct StationNo(pub u8);
+
+/// A cart, numbered from 0.
+#[derive(Clone, Copy, Debug, PartialEq, Eq)]
+pub struct CartNo(pub u8);
+
+/// A message's number, given by its initiator.
+#[derive(Clone, Copy, Debug, PartialEq, Eq, PartialOrd, Ord)]
+pub struct MessageNo(pub u16);
+
+/// The room of a held message.
+#[derive(Clone, Copy, Debug, PartialEq, Eq)]
+pub(crate) struct Room(pub u8);
+
+// The events check every number before it is used as an index. The masks below change no checked
+// number; they let the compiler see that the index is in range.
+impl StationNo {
+    #[inline(always)]
+    pub(crate) fn at(self) -> usize {
+        self.0 as usize % STATIONS
+    }
+}
+
+impl CartNo {
+    #[inline(always)]
+    pub(crate) fn at(self) -> usize {
+        self.0 as usize % CARTS
+    }
+
+    /// The set of this cart alone.
+    #[inline(always)]
+    pub fn alone(self) -> u64 {
+        1 << (self.0 % CARTS as u8)
+    }
+}
+
+impl Room {
+    #[inline(always)]
+    pub(crate) fn at(self) -> usize {
+        self.0 as usize % HELD
+    }
+
+    #[inline(always)]
+    pub(crate) fn alone(self) -> u32 {
+        1 << (self.0 % HELD as u8)
+    }
+}
+
+/// The carts of a set, lowest first.
+#[inline(always)]
+pub fn carts_of(mut set: u64) -> impl Iterator<Item = CartNo> {
+    std::iter::from_fn(move || {
+        if set == 0 {
+            return None;
+        }
+        let cart = CartNo(set.trailing_zeros() as u8);
+        set &= set - 1;
+        Some(cart)
+    })
+}
+
+/// The rooms of a set, lowest first.
+#[inline(always)]
+pub(crate) fn rooms_of(mut set: u32) -> impl Iterator<Item = Room> {
+    std::iter::from_fn(move || {
+        if set == 0 {
+            return None;
+        }
+        let room = Room(set.trailing_zeros() as u8);
+        set &= set - 1;
+        Some(room)
+    })
+}
+
+/// Where a cart is.
+#[derive(Clone, Copy, Debug, PartialEq, Eq)]
+pub enum Place {
+    /// Never entered.
+    Outside,
+    /// At a station.
+    At(StationNo),
+    /// It has greeted a new station; this one, the old one, has not heard.
+    Leaving(StationNo),
+    /// Its register is on a line.
+    Travelling,
+}
+
+/// A cart's record. The next numbers stay here while the cart travels: nobody reads or writes
+/// them between its deregister and its register, so the register need not carry the row.
+#[derive(Clone, Copy)]
+pub(crate) struct Cart {
+    pub next: [u16; STATIONS],
+    pub place: Place,
+}
+
+/// What a station keeps for a message. Outside the buffer all three are empty.
+#[derive(Clone, Copy)]
+pub(crate) struct Buffered {
+    /// The station's own copy of the set.
+    pub copy: u64,
+    /// Carts that acknowledged here and have not been reported to the initiator.
+    pub ack_list: u64,
+    /// The queue entry: local carts that the message waits for.
+    pub queued: u64,
+}
+
+/// A station's record.
+#[derive(Clone)]
+pub(crate) struct Station {
+    /// The expected number of each initiator.
+    pub expected: [u16; STATIONS],
+    /// Carts at this station or leaving it.
+    pub local: u64,
+    /// Rooms of the messages buffered here.
+    pub buffer: u32,
+    /// Rooms of the messages that have an entry in the queue here.
+    pub queue: u32,
+    /// The entry at the head of the queue, where there is one.
+    pub head: Room,
+    /// The number of its next own message.
+    pub sent: u16,
+    pub buffered: [Buffered; HELD],
+}
+
+/// A held message.
+#[derive(Clone, Copy)]
+pub(crate) struct Held {
+    /// The set as sent.
+    pub set: u64,
+    /// Carts that the initiator knows to have it.
+    pub acknowledged: u64,
+    /// Its place in a queue: smaller number first, then higher initiator.
+    pub order: u32,
+    pub number: u16,
+    pub initiator: StationNo,
+    /// Stations that have not handled the delete.
+    pub undeleted: u8,
+    pub length: u8,
+    pub text: [u8; TEXT],
+}
+
+/// What travels on a line.
+#[derive(Clone, Copy, Debug)]
+pub(crate) enum Record {
+    Multicast(Room),
+    AckList(Room, u64),
+    Delete(Room),
+    Deregister(CartNo),
+    Register(CartNo),
+}
+
+/// The floor: stations, carts, held messages and lines.
+#[derive(Clone)]
+pub struct Floor {
+    pub(crate) started: bool,
+    pub(crate) stations: u8,
+    pub(crate) carts: u8,
+    /// Carts that have entered.
+    pub(crate) entered: u64,
+    /// Rooms in use.
+    pub(crate) rooms: u32,
+    /// Rooms in use by initiator.
+    pub(crate) rooms_by: [u32; STATIONS],
+    pub(crate) cart: [Cart; CARTS],
+    pub(crate) held: [Held; HELD],
+    pub(crate) station: [Station; STATIONS],
+    pub(crate) lines: [VecDeque<Record>; STATIONS * STATIONS],
+}
+
+/// The index of the line between two stations.
+#[inline(always)]
+pub(crate) fn line(from: StationNo, to: StationNo) -> usize {
+    from.at() * STATIONS + to.at()
+}
+
+impl Default for Floor {
+    fn default() -> Self {
+        Self::new()
+    }
+}
+
+impl Floor {
+    /// A floor that is not started.
+    pub fn new() -> Self {
+        let station = Station {
+            expected: [0; STATIONS],
+            local: 0,
+            buffer: 0,
+            queue: 0,
+            head: Room(0),
+            sent: 0,
+            buffered: [Buffered { copy: 0, ack_list: 0, queued: 0 }; HELD],
+        };
+        let held = Held {
+            set: 0,
+            acknowledged: 0,
+            order: 0,
+            number: 0,
+            initiator: StationNo(0),
+            undeleted: 0,
+            length: 0,
+            text: [0; TEXT],
+        };
+        Floor {
+            started: false,
+            stations: 0,
+            carts: 0,
+            entered: 0,
+            rooms: 0,
+            rooms_by: [0; STATIONS],
+            cart: [Cart { next: [0; STATIONS], place: Place::Outside }; CARTS],
+            held: [held; HELD],
+            station: std::array::from_fn(|_| station.clone()),
+            lines: std::array::from_fn(|_| VecDeque::with_capacity(LINE_ROOM)),
+        }
+    }
+
+    /// The carts that are on this floor, entered or not.
+    #[inline(always)]
+    pub(crate) fn all_carts(&self) -> u64 {
+        match self.carts {
+            0 => 0,
+            n => u64::MAX >> (CARTS as u32 - n as u32),
+        }
+    }
+}
+
+/// Looking at a floor from outside, for programs that choose events. No event is among these.
+impl Floor {
+    pub fn stations(&self) -> u8 {
+        self.stations
+    }
+
+    pub fn carts(&self) -> u8 {
+        self.carts
+    }
+
+    /// Carts that have entered.
+    pub fn entered(&self) -> u64 {
+        self.entered
+    }
+
+    pub fn place(&self, cart: CartNo) -> Place {
+        self.cart[cart.at()].place
+    }
+
+    /// The next number of a cart for an initiator.
+    pub fn next(&self, cart: CartNo, initiator: StationNo) -> u16 {
+        self.cart[cart.at()].next[initiator.at()]
+    }
+
+    /// Carts at a station or leaving it.
+    pub fn local(&self, station: StationNo) -> u64 {
+        self.station[station.at()].local
+    }
+
+    /// How many messages are held.
+    pub fn held(&self) -> usize {
+        self.rooms.count_ones() as usize
+    }
+
+    /// How many messages a station has sent, which is the number of its next one.
+    pub fn sent(&self, station: StationNo) -> u16 {
+        self.station[station.at()].sent
+    }
+
+    /// How many records are on a line.
+    pub fn on_line(&self, from: StationNo, to: StationNo) -> usize {
+        self.lines[line(from, to)].len()
+    }
+
+    /// The entry at the head of a station's queue: its carts, and the carts that are in the
+    /// station's copy of that message, local and not in its ack list.
+    pub fn head(&self, station: StationNo) -> Option<(u64, u64)> {
+        let here = &self.station[station.at()];
+        if here.queue == 0 {
+            return None;
+        }
+        let at = &here.buffered[here.head.at()];
+        Some((at.queued, at.copy & here.local & !at.ack_list))
+    }
+
+    /// Local carts that some ack list of this station waits for.
+    pub fn waited_for(&self, station: StationNo) -> u64 {
+        let here = &self.station[station.at()];
+        rooms_of(here.buffer)
+            .map(|room| &here.buffered[room.at()])
+            .filter(|at| at.ack_list != 0)
+            .fold(0, |set, at| set | (at.copy & here.local & !at.ack_list))
+    }
+}

@@ -1,0 +1,19 @@
+//! The floor controller of document 01, written by hand and without proofs: what the proved
+//! controller is compared with, for its answers and for its speed.
+//!
+//! * [`floor`]: the records of stations, carts and held messages, and the wired lines.
+//! * [`steps`]: the events: start, enter, send, wire, radio, move.
+//! * [`frames`]: frames taken apart into events.
+//! * [`report`]: the printed run.
+//! * [`run`]: frames in, printed run out.
+
+#![forbid(unsafe_code)]
+
+pub mod floor;
+pub mod frames;
+pub mod report;
+pub mod run;
+pub mod steps;
+
+pub use floor::{CartNo, Floor, MessageNo, Place, StationNo};
+pub use steps::{Refusal, Step};

@@ -1,0 +1,448 @@
+//! The events of the floor. Each checks down the table of refusals, the first that applies being
+//! the answer, and changes nothing before the last check has passed.
+
+use crate::floor::{
+    carts_of, line, rooms_of, CartNo, Floor, Held, Place, Record, Room, StationNo, CARTS, HELD,
+    LAST_NUMBER, STATIONS, TEXT,
+};
+
+/// What an accepted event answers.
+#[derive(Clone, Copy, Debug, PartialEq, Eq)]
+pub struct Step {
+    pub a: u16,
+    pub b: u16,
+    /// Numbers passed over: raised without a receipt.
+    pub p: u32,
+    /// Records put on lines.
+    pub w: u8,
+}
+
+/// Why a frame or an event is refused.
+#[derive(Clone, Copy, Debug, PartialEq, Eq)]
+#[repr(u8)]
+pub enum Refusal {
+    CutFrame = 1,
+    UnknownKind = 2,
+    StrayField = 3,
+    LongText = 4,
+    NotStarted = 5,
+    AlreadyStarted = 6,
+    FloorSize = 7,
+    NoSuchStation = 8,
+    NoSuchCart = 9,
+    AlreadyEntered = 10,
+    EmptySet = 11,
+    NamedNeverEntered = 12,
+    NumbersUsedUp = 13,
+    NoRoom = 14,
+    LineEmpty = 15,
+    NotAtStation = 16,
+    NotAtHead = 17,
+    NeverEntered = 18,
+    InHandOff = 19,
+    AlreadyThere = 20,
+    ShortBuffer = 21,
+}
+
+impl Refusal {
+    /// The number in the table.
+    #[inline(always)]
+    pub fn number(self) -> u8 {
+        self as u8
+    }
+
+    /// Refusals of the frame itself end a run: what follows cannot be taken apart.
+    #[inline(always)]
+    pub fn ends_run(self) -> bool {
+        self.number() <= 4
+    }
+}
+
+const MULTICAST: u16 = 1;
+const ACK_LIST: u16 = 2;
+const DELETE: u16 = 3;
+const DEREGISTER: u16 = 4;
+const REGISTER: u16 = 5;
+
+impl Floor {
+    /// Starts the floor with its stations and carts.
+    #[inline]
+    pub fn start(&mut self, stations: u8, carts: u8) -> Result<Step, Refusal> {
+        if self.started {
+            return Err(Refusal::AlreadyStarted);
+        }
+        if !(1..=STATIONS as u8).contains(&stations) || !(1..=CARTS as u8).contains(&carts) {
+            return Err(Refusal::FloorSize);
+        }
+        // A floor is started once, and `new` left everything else empty.
+        self.started = true;
+        self.stations = stations;
+        self.carts = carts;
+        Ok(Step { a: stations as u16, b: carts as u16, p: 0, w: 0 })
+    }
+
+    /// A cart comes onto the floor at a station.
+    #[inline]
+    pub fn enter(&mut self, station: StationNo, cart: CartNo) -> Result<Step, Refusal> {
+        self.check_started()?;
+        self.check_station(station)?;
+        self.check_cart(cart)?;
+        if self.entered & cart.alone() != 0 {
+            return Err(Refusal::AlreadyEntered);
+        }
+        self.entered |= cart.alone();
+        let p = self.register(station, cart);
+        Ok(Step { a: station.0 as u16, b: cart.0 as u16, p, w: 0 })
+    }
+
+    /// A station initiates a message to a set of carts.
+    #[inline]
+    pub fn send(&mut self, station: StationNo, set: u64, text: &[u8]) -> Result<Step, Refusal> {
+        if text.len() > TEXT {
+            return Err(Refusal::LongText);
+        }
+        self.check_started()?;
+        self.check_station(station)?;
+        if set & !self.all_carts() != 0 {
+            return Err(Refusal::NoSuchCart);
+        }
+        if set == 0 {
+            return Err(Refusal::EmptySet);
+        }
+        if set & !self.entered != 0 {
+            return Err(Refusal::NamedNeverEntered);
+        }
+        let number = self.station[station.at()].sent;
+        if number > LAST_NUMBER {
+            return Err(Refusal::NumbersUsedUp);
+        }
+        if self.rooms.count_ones() as usize == HELD {
+            return Err(Refusal::NoRoom);
+        }
+
+        let room = Room(self.rooms.trailing_ones() as u8);
+        self.station[station.at()].sent = number + 1;
+        self.rooms |= room.alone();
+        self.rooms_by[station.at()] |= room.alone();
+        let held = &mut self.held[room.at()];
+        *held = Held {
+            set,
+            acknowledged: 0,
+            order: ((number as u32) << 4) | (STATIONS as u32 - 1 - station.at() as u32),
+            number,
+            initiator: station,
+            undeleted: self.stations,
+            length: text.len() as u8,
+            text: [0; TEXT],
+        };
+        held.text[..text.len()].copy_from_slice(text);
+        let w = self.put_on_all_lines(station, Record::Multicast(room));
+        Ok(Step { a: station.0 as u16, b: number, p: 0, w })
+    }
+
+    /// The head record of a line is handled at its end.
+    #[inline]
+    pub fn wire(&mut self, from: StationNo, to: StationNo) -> Result<Step, Refusal> {
+        self.check_started()?;
+        self.check_station(from)?;
+        self.check_station(to)?;
+        let Some(record) = self.lines[line(from, to)].pop_front() else {
+            return Err(Refusal::LineEmpty);
+        };
+        let (a, b, p, w) = match record {
+            Record::Multicast(room) => {
+                let p = self.multicast(to, room);
+                (MULTICAST, self.held[room.at()].number, p, 0)
+            }
+            Record::AckList(room, carts) => {
+                let w = self.ack_list(to, room, carts);
+                (ACK_LIST, self.held[room.at()].number, 0, w)
+            }
+            Record::Delete(room) => {
+                self.delete(to, room);
+                (DELETE, self.held[room.at()].number, 0, 0)
+            }
+            Record::Deregister(cart) => {
+                self.deregister(from, to, cart);
+                (DEREGISTER, cart.0 as u16, 0, 1)
+            }
+            Record::Register(cart) => {
+                let p = self.register(to, cart);
+                (REGISTER, cart.0 as u16, p, 0)
+            }
+        };
+        Ok(Step { a, b, p, w })
+    }
+
+    /// The head message of a station's queue is handed to a cart, which acknowledges it. The text
+    /// is written at the front of the lent buffer; the answer has its length beside the step.
+    #[inline]
+    pub fn radio(
+        &mut self,
+        station: StationNo,
+        cart: CartNo,
+        buffer: &mut [u8],
+    ) -> Result<(Step, usize), Refusal> {
+        self.check_started()?;
+        self.check_station(station)?;
+        self.check_cart(cart)?;
+        if self.cart[cart.at()].place != Place::At(station) {
+            return Err(Refusal::NotAtStation);
+        }
+        let here = &mut self.station[station.at()];
+        let room = here.head;
+        let buffered = &mut here.buffered[room.at()];
+        if here.queue == 0 || buffered.queued & cart.alone() == 0 {
+            return Err(Refusal::NotAtHead);
+        }
+        let held = &self.held[room.at()];
+        let text = &held.text[..held.length as usize % (TEXT + 1)];
+        let Some(front) = buffer.get_mut(..text.len()) else {
+            return Err(Refusal::ShortBuffer);
+        };
+        front.copy_from_slice(text);
+
+        buffered.queued &= !cart.alone();
+        buffered.ack_list |= cart.alone();
+        let (initiator, number, length) = (held.initiator, held.number, text.len());
+        let mut w = 0;
+        if buffered.copy & here.local & !buffered.ack_list == 0 {
+            let carts = std::mem::take(&mut buffered.ack_list);
+            buffered.copy &= !carts;
+            self.lines[line(station, initiator)].push_back(Record::AckList(room, carts));
+            w = 1;
+        }
+        if buffered.queued == 0 {
+            self.drop_entry(station, room);
+        }
+        self.cart[cart.at()].next[initiator.at()] += 1;
+        let p = self.catch_up(station, cart, initiator);
+        Ok((Step { a: initiator.0 as u16, b: number, p, w }, length))
+    }
+
+    /// A cart greets a new station.
+    #[inline]
+    pub fn move_cart(&mut self, cart: CartNo, to: StationNo) -> Result<Step, Refusal> {
+        self.check_started()?;
+        self.check_station(to)?;
+        self.check_cart(cart)?;
+        let old = match self.cart[cart.at()].place {
+            Place::Outside => return Err(Refusal::NeverEntered),
+            Place::Leaving(_) | Place::Travelling => return Err(Refusal::InHandOff),
+            Place::At(old) if old == to => return Err(Refusal::AlreadyThere),
+            Place::At(old) => old,
+        };
+        self.cart[cart.at()].place = Place::Leaving(old);
+        self.lines[line(to, old)].push_back(Record::Deregister(cart));
+        Ok(Step { a: cart.0 as u16, b: to.0 as u16, p: 0, w: 1 })
+    }
+
+    #[inline(always)]
+    fn check_started(&self) -> Result<(), Refusal> {
+        if self.started {
+            Ok(())
+        } else {
+            Err(Refusal::NotStarted)
+        }
+    }
+
+    #[inline(always)]
+    fn check_station(&self, station: StationNo) -> Result<(), Refusal> {
+        if station.0 < self.stations {
+            Ok(())
+        } else {
+            Err(Refusal::NoSuchStation)
+        }
+    }
+
+    #[inline(always)]
+    fn check_cart(&self, cart: CartNo) -> Result<(), Refusal> {
+        if cart.0 < self.carts {
+            Ok(())
+        } else {
+            Err(Refusal::NoSuchCart)
+        }
+    }
+}
+
+/// What the records do at the station they arrive at. Each answers p or w, where it has one.
+impl Floor {
+    /// A multicast: the message is buffered, and each local cart is queued for it, passes it over,
+    /// or is struck from the copy since it has it from another station.
+    #[inline(always)]
+    fn multicast(&mut self, at: StationNo, room: Room) -> u32 {
+        let Held { initiator, number, set, .. } = self.held[room.at()];
+        let here = &mut self.station[at.at()];
+        here.expected[initiator.at()] = number + 1;
+        here.buffer |= room.alone();
+
+        let (mut copy, mut queued, mut p) = (set, 0, 0);
+        for cart in carts_of(here.local) {
+            let next = &mut self.cart[cart.at()].next[initiator.at()];
+            let named = set & cart.alone();
+            if *next == number {
+                queued |= named;
+                let passed = (named == 0) as u16;
+                *next += passed;
+                p += passed as u32;
+            } else if *next > number {
+                copy &= !named;
+            }
+        }
+        let buffered = &mut here.buffered[room.at()];
+        buffered.copy = copy;
+        if queued != 0 {
+            self.enqueue(at, room, queued);
+        }
+        p
+    }
+
+    /// An ack list at the initiator. The set as sent decides, not the copy that a station strikes
+    /// carts from.
+    #[inline(always)]
+    fn ack_list(&mut self, at: StationNo, room: Room, carts: u64) -> u8 {
+        let held = &mut self.held[room.at()];
+        held.acknowledged |= carts;
+        if held.acknowledged != held.set {
+            return 0;
+        }
+        self.put_on_all_lines(at, Record::Delete(room))
+    }
+
+    /// A delete: the message leaves the buffer, and with the last one its room is free. Nobody is
+    /// queued for it: every cart it names has it.
+    #[inline(always)]
+    fn delete(&mut self, at: StationNo, room: Room) {
+        let here = &mut self.station[at.at()];
+        here.buffer &= !room.alone();
+        here.buffered[room.at()].copy = 0;
+        let held = &mut self.held[room.at()];
+        held.undeleted -= 1;
+        if held.undeleted == 0 {
+            self.rooms &= !room.alone();
+            self.rooms_by[held.initiator.at()] &= !room.alone();
+        }
+    }
+
+    /// A deregister at the old station. Until now the cart was local here, so what was queued for
+    /// it meanwhile leaves with it. It stays in the ack lists.
+    #[inline(always)]
+    fn deregister(&mut self, new: StationNo, old: StationNo, cart: CartNo) {
+        let here = &mut self.station[old.at()];
+        here.local &= !cart.alone();
+        let mut emptied = 0;
+        for room in rooms_of(here.queue) {
+            let queued = &mut here.buffered[room.at()].queued;
+            *queued &= !cart.alone();
+            if *queued == 0 {
+                emptied |= room.alone();
+            }
+        }
+        for room in rooms_of(emptied) {
+            self.drop_entry(old, room);
+        }
+        self.cart[cart.at()].place = Place::Travelling;
+        self.lines[line(old, new)].push_back(Record::Register(cart));
+    }
+
+    /// A register, or an entry: strikes the cart from the copies of what it has, then catches up
+    /// with every initiator at once. Where a buffered copy names the cart, its number is where
+    /// catch-up stops; else it runs to the expected number.
+    #[inline(always)]
+    fn register(&mut self, at: StationNo, cart: CartNo) -> u32 {
+        let here = &mut self.station[at.at()];
+        let row = &mut self.cart[cart.at()].next;
+        let mut stop = here.expected;
+        let mut ahead = 0;
+        for room in rooms_of(here.buffer) {
+            let copy = &mut here.buffered[room.at()].copy;
+            if *copy & cart.alone() == 0 {
+                continue;
+            }
+            let Held { initiator, number, .. } = self.held[room.at()];
+            if number < row[initiator.at()] {
+                *copy &= !cart.alone();
+            } else {
+                ahead |= room.alone();
+                let first = &mut stop[initiator.at()];
+                *first = number.min(*first);
+            }
+        }
+        let mut p = 0;
+        for (next, stop) in row.iter_mut().zip(stop) {
+            let passed = stop.saturating_sub(*next);
+            *next += passed;
+            p += passed as u32;
+        }
+        here.local |= cart.alone();
+        self.cart[cart.at()].place = Place::At(at);
+        for room in rooms_of(ahead) {
+            let Held { initiator, number, .. } = self.held[room.at()];
+            if number == stop[initiator.at()] {
+                self.enqueue(at, room, cart.alone());
+            }
+        }
+        p
+    }
+
+    /// Catch-up with one initiator: to the first buffered message whose copy names the cart, for
+    /// which it is then queued, or else to the expected number. Answers how far.
+    #[inline(always)]
+    fn catch_up(&mut self, at: StationNo, cart: CartNo, initiator: StationNo) -> u32 {
+        let here = &self.station[at.at()];
+        let next = self.cart[cart.at()].next[initiator.at()];
+        let mut stop = here.expected[initiator.at()];
+        if next >= stop {
+            return 0;
+        }
+        let mut found = None;
+        for room in rooms_of(here.buffer & self.rooms_by[initiator.at()]) {
+            let number = self.held[room.at()].number;
+            let named = here.buffered[room.at()].copy & cart.alone() != 0;
+            if named && next <= number && number < stop {
+                stop = number;
+                found = Some(room);
+            }
+        }
+        self.cart[cart.at()].next[initiator.at()] = stop;
+        if let Some(room) = found {
+            self.enqueue(at, room, cart.alone());
+        }
+        (stop - next) as u32
+    }
+
+    /// Puts carts in a message's queue entry, which may become the head.
+    #[inline(always)]
+    fn enqueue(&mut self, at: StationNo, room: Room, carts: u64) {
+        let here = &mut self.station[at.at()];
+        here.buffered[room.at()].queued |= carts;
+        if here.queue == 0 || self.held[room.at()].order < self.held[here.head.at()].order {
+            here.head = room;
+        }
+        here.queue |= room.alone();
+    }
+
+    /// Takes an emptied entry out of the queue. If it was the head, the next in order is.
+    #[inline(always)]
+    fn drop_entry(&mut self, at: StationNo, room: Room) {
+        let here = &mut self.station[at.at()];
+        here.queue &= !room.alone();
+        if here.head == room {
+            let next = rooms_of(here.queue).min_by_key(|room| self.held[room.at()].order);
+            here.head = next.unwrap_or(Room(0));
+        }
+    }
+
+    /// Puts a record on the line to every station, itself included, and answers how many.
+    #[inline(always)]
+    fn put_on_all_lines(&mut self, from: StationNo, record: Record) -> u8 {
+        let first = line(from, StationNo(0));
+        for line in self.lines[first..].iter_mut().take(self.stations as usize) {
+            line.push_back(record);
+        }
+        self.stations
+    }
+}
+
+#[cfg(test)]
+mod tests;

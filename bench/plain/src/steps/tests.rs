@@ -1,0 +1,566 @@
+use super::*;
+
+fn floor(stations: u8, carts: u8) -> Floor {
+    let mut floor = Floor::new();
+    floor.start(stations, carts).unwrap();
+    floor
+}
+
+fn answer(step: Result<Step, Refusal>) -> (u16, u16, u32, u8) {
+    let Step { a, b, p, w } = step.unwrap();
+    (a, b, p, w)
+}
+
+fn refusal<T: std::fmt::Debug>(answer: Result<T, Refusal>) -> u8 {
+    answer.unwrap_err().number()
+}
+
+fn s(station: u8) -> StationNo {
+    StationNo(station)
+}
+
+fn c(cart: u8) -> CartNo {
+    CartNo(cart)
+}
+
+impl Floor {
+    /// A radio step whose text does not matter.
+    fn hand(&mut self, station: u8, cart: u8) -> Result<Step, Refusal> {
+        self.radio(s(station), c(cart), &mut [0; TEXT]).map(|(step, _)| step)
+    }
+}
+
+#[test]
+fn k1_a_cart_moves_before_it_has_the_message() {
+    let mut f = Floor::new();
+    let mut text = [0xEE; TEXT];
+    assert_eq!(answer(f.start(2, 1)), (2, 1, 0, 0));
+    assert_eq!(answer(f.enter(s(0), c(0))), (0, 0, 0, 0));
+    assert_eq!(answer(f.send(s(1), 1, &[0xA1])), (1, 0, 0, 2));
+    assert_eq!(answer(f.wire(s(1), s(1))), (1, 0, 0, 0));
+    assert_eq!(answer(f.move_cart(c(0), s(1))), (0, 1, 0, 1));
+    assert_eq!(answer(f.wire(s(1), s(0))), (1, 0, 0, 0));
+    assert_eq!(f.radio(s(0), c(0), &mut text), Err(Refusal::NotAtStation));
+    assert_eq!(answer(f.wire(s(1), s(0))), (4, 0, 0, 1));
+    assert_eq!(answer(f.wire(s(0), s(1))), (5, 0, 0, 0));
+    let received = f.radio(s(1), c(0), &mut text);
+    assert_eq!(received, Ok((Step { a: 1, b: 0, p: 0, w: 1 }, 1)));
+    assert_eq!((text[0], text[1]), (0xA1, 0xEE));
+    assert_eq!(answer(f.wire(s(1), s(1))), (2, 0, 0, 2));
+    assert_eq!(f.held(), 1);
+    assert_eq!(answer(f.wire(s(1), s(0))), (3, 0, 0, 0));
+    assert_eq!(answer(f.wire(s(1), s(1))), (3, 0, 0, 0));
+    assert_eq!(f.held(), 0);
+}
+
+#[test]
+fn k2_a_late_cart_passes_over_what_does_not_name_it() {
+    let mut f = floor(1, 2);
+    f.enter(s(0), c(0)).unwrap();
+    for _ in 0..3 {
+        f.send(s(0), 0b01, &[]).unwrap();
+    }
+    for _ in 0..3 {
+        f.wire(s(0), s(0)).unwrap();
+    }
+    assert_eq!(answer(f.enter(s(0), c(1))), (0, 1, 3, 0));
+}
+
+#[test]
+fn k3_a_local_cart_that_is_not_named_passes_over() {
+    let mut f = floor(1, 2);
+    f.enter(s(0), c(0)).unwrap();
+    f.enter(s(0), c(1)).unwrap();
+    f.send(s(0), 0b01, &[]).unwrap();
+    assert_eq!(answer(f.wire(s(0), s(0))), (1, 0, 1, 0));
+}
+
+#[test]
+fn k4_between_equal_numbers_the_higher_initiator_is_head() {
+    for order in [[0, 1], [1, 0]] {
+        let mut f = floor(2, 1);
+        f.enter(s(0), c(0)).unwrap();
+        f.send(s(0), 1, &[]).unwrap();
+        f.send(s(1), 1, &[]).unwrap();
+        for initiator in order {
+            f.wire(s(initiator), s(0)).unwrap();
+        }
+        assert_eq!(answer(f.hand(0, 0)), (1, 0, 0, 1));
+        assert_eq!(answer(f.hand(0, 0)), (0, 0, 0, 1));
+    }
+}
+
+#[test]
+fn a_smaller_number_takes_the_heads_place() {
+    let mut f = floor(2, 2);
+    f.enter(s(0), c(0)).unwrap();
+    f.enter(s(0), c(1)).unwrap();
+    f.send(s(1), 0b01, &[]).unwrap();
+    f.send(s(1), 0b10, &[]).unwrap();
+    f.wire(s(1), s(0)).unwrap();
+    f.wire(s(1), s(0)).unwrap();
+    assert_eq!(refusal(f.hand(0, 1)), 17);
+    assert_eq!(answer(f.hand(0, 0)), (1, 0, 1, 1));
+    f.send(s(0), 0b10, &[]).unwrap();
+    f.wire(s(0), s(0)).unwrap();
+    assert_eq!(answer(f.hand(0, 1)), (0, 0, 0, 1));
+    assert_eq!(answer(f.hand(0, 1)), (1, 1, 0, 1));
+}
+
+#[test]
+fn k5_the_longest_text() {
+    let mut f = floor(1, 1);
+    f.enter(s(0), c(0)).unwrap();
+    assert_eq!(refusal(f.send(s(0), 1, &[7; 33])), 4);
+    assert_eq!(answer(f.send(s(0), 1, &[7; 32])), (0, 0, 0, 1));
+    f.wire(s(0), s(0)).unwrap();
+    // A buffer shorter than the text is refused and not touched; an exact one serves.
+    let mut text = [0; 32];
+    assert_eq!(refusal(f.radio(s(0), c(0), &mut text[..31])), 21);
+    assert_eq!(text, [0; 32]);
+    assert_eq!(f.radio(s(0), c(0), &mut text).unwrap().1, 32);
+    assert_eq!(text, [7; 32]);
+}
+
+#[test]
+fn k6_the_last_number() {
+    let mut f = floor(2, 1);
+    f.enter(s(0), c(0)).unwrap();
+    // As if 65,534 messages of station 1 had come and gone.
+    f.station[1].sent = LAST_NUMBER;
+    f.station[0].expected[1] = LAST_NUMBER;
+    f.station[1].expected[1] = LAST_NUMBER;
+    f.cart[0].next[1] = LAST_NUMBER;
+    assert_eq!(answer(f.send(s(1), 1, &[])), (1, 65_534, 0, 2));
+    assert_eq!(refusal(f.send(s(1), 1, &[])), 13);
+    assert_eq!(answer(f.wire(s(1), s(0))), (1, 65_534, 0, 0));
+    assert_eq!(answer(f.hand(0, 0)), (1, 65_534, 0, 1));
+    assert_eq!(f.next(c(0), s(1)), 65_535);
+    assert_eq!(answer(f.wire(s(1), s(1))), (1, 65_534, 0, 0));
+    assert_eq!(answer(f.wire(s(0), s(1))), (2, 65_534, 0, 2));
+    assert_eq!(refusal(f.send(s(1), 1, &[])), 13);
+    assert_eq!(refusal(f.send(s(1), 0, &[])), 11);
+}
+
+#[test]
+fn k7_and_k8_thirty_two_held() {
+    let mut f = floor(2, 1);
+    f.enter(s(0), c(0)).unwrap();
+    for number in 0..32 {
+        assert_eq!(answer(f.send(s(0), 1, &[])), (0, number, 0, 2));
+    }
+    assert_eq!(refusal(f.send(s(0), 1, &[])), 14);
+    assert_eq!(refusal(f.send(s(1), 1, &[])), 14);
+    assert_eq!(refusal(f.send(s(0), 0, &[])), 11);
+    f.wire(s(0), s(0)).unwrap();
+    f.hand(0, 0).unwrap();
+    // Behind the multicasts, an ack list and then the deletes.
+    for _ in 1..32 {
+        assert_eq!(f.wire(s(0), s(0)).unwrap().a, 1);
+    }
+    assert_eq!(answer(f.wire(s(0), s(0))), (2, 0, 0, 2));
+    assert_eq!(answer(f.wire(s(0), s(0))), (3, 0, 0, 0));
+    assert_eq!(refusal(f.send(s(0), 1, &[])), 14);
+    for _ in 0..32 {
+        assert_eq!(f.wire(s(0), s(1)).unwrap().a, 1);
+    }
+    assert_eq!(answer(f.wire(s(0), s(1))), (3, 0, 0, 0));
+    assert_eq!(answer(f.send(s(1), 1, &[])), (1, 0, 0, 2));
+}
+
+#[test]
+fn k9_moves_that_are_refused() {
+    let mut f = floor(3, 1);
+    assert_eq!(refusal(f.move_cart(c(0), s(0))), 18);
+    f.enter(s(0), c(0)).unwrap();
+    assert_eq!(refusal(f.move_cart(c(0), s(0))), 20);
+    f.move_cart(c(0), s(1)).unwrap();
+    for to in 0..3 {
+        assert_eq!(refusal(f.move_cart(c(0), s(to))), 19);
+    }
+    f.wire(s(1), s(0)).unwrap();
+    assert_eq!(refusal(f.move_cart(c(0), s(1))), 19);
+    f.wire(s(0), s(1)).unwrap();
+    assert_eq!(refusal(f.move_cart(c(0), s(1))), 20);
+    assert_eq!(answer(f.move_cart(c(0), s(2))), (0, 2, 0, 1));
+}
+
+#[test]
+fn k10_sizes_of_a_floor() {
+    let mut f = Floor::new();
+    for (stations, carts) in [(0, 1), (17, 1), (1, 0), (1, 65), (255, 255)] {
+        assert_eq!(refusal(f.start(stations, carts)), 7);
+        assert_eq!(refusal(f.wire(s(0), s(0))), 5);
+    }
+    f.start(16, 64).unwrap();
+    assert_eq!(refusal(f.start(16, 64)), 6);
+    assert_eq!(refusal(f.start(0, 0)), 6);
+}
+
+#[test]
+fn nothing_before_a_start() {
+    let mut f = Floor::new();
+    assert_eq!(refusal(f.send(s(99), 0, &[0; 33])), 4);
+    assert_eq!(refusal(f.send(s(99), 0, &[])), 5);
+    assert_eq!(refusal(f.enter(s(99), c(99))), 5);
+    assert_eq!(refusal(f.wire(s(99), s(99))), 5);
+    assert_eq!(refusal(f.radio(s(99), c(99), &mut [])), 5);
+    assert_eq!(refusal(f.move_cart(c(99), s(99))), 5);
+}
+
+#[test]
+fn stations_are_looked_at_before_carts() {
+    let mut f = floor(2, 3);
+    assert_eq!(refusal(f.enter(s(2), c(3))), 8);
+    assert_eq!(refusal(f.enter(s(1), c(3))), 9);
+    assert_eq!(refusal(f.send(s(2), 0b1000, &[])), 8);
+    assert_eq!(refusal(f.send(s(1), 0b1000, &[])), 9);
+    assert_eq!(refusal(f.send(s(1), 0b0100, &[])), 12);
+    assert_eq!(refusal(f.send(s(1), 0, &[])), 11);
+    assert_eq!(refusal(f.wire(s(0), s(2))), 8);
+    assert_eq!(refusal(f.wire(s(2), s(0))), 8);
+    assert_eq!(refusal(f.wire(s(1), s(0))), 15);
+    assert_eq!(refusal(f.radio(s(2), c(3), &mut [])), 8);
+    assert_eq!(refusal(f.radio(s(1), c(3), &mut [])), 9);
+    assert_eq!(refusal(f.radio(s(1), c(2), &mut [])), 16);
+    assert_eq!(refusal(f.move_cart(c(3), s(2))), 8);
+    assert_eq!(refusal(f.move_cart(c(3), s(1))), 9);
+    assert_eq!(refusal(f.move_cart(c(2), s(1))), 18);
+    f.enter(s(1), c(2)).unwrap();
+    assert_eq!(refusal(f.enter(s(0), c(2))), 10);
+    assert_eq!(refusal(f.radio(s(0), c(2), &mut [])), 16);
+    assert_eq!(refusal(f.radio(s(1), c(2), &mut [])), 17);
+}
+
+#[test]
+fn a_full_floor_of_64_carts() {
+    let mut f = floor(16, 64);
+    for cart in 0..64 {
+        f.enter(s(cart % 16), c(cart)).unwrap();
+    }
+    assert_eq!(answer(f.send(s(15), u64::MAX, &[])), (15, 0, 0, 16));
+    for to in 0..16 {
+        assert_eq!(answer(f.wire(s(15), s(to))), (1, 0, 0, 0));
+    }
+    for cart in 0..64 {
+        // The last of the four carts of a station sends the list off.
+        assert_eq!(answer(f.hand(cart % 16, cart)), (15, 0, 0, (cart >= 48) as u8));
+    }
+    for from in 0..15 {
+        assert_eq!(answer(f.wire(s(from), s(15))), (2, 0, 0, 0));
+    }
+    assert_eq!(answer(f.wire(s(15), s(15))), (2, 0, 0, 16));
+    for to in 0..16 {
+        assert_eq!(f.held(), 1);
+        assert_eq!(answer(f.wire(s(15), s(to))), (3, 0, 0, 0));
+    }
+    assert_eq!(f.held(), 0);
+}
+
+/// The steps again as document 01 words them, one number at a time and with no mask, no cached
+/// head and no closed form, to compare with on random events.
+mod as_worded {
+    #[derive(Clone, Copy, PartialEq)]
+    struct Message {
+        initiator: u8,
+        number: u16,
+    }
+
+    #[derive(Clone)]
+    enum Travelling {
+        Multicast(Message, Vec<u8>),
+        AckList(Message, Vec<u8>),
+        Delete(Message),
+        Deregister(u8),
+        Register(u8, [u16; 16]),
+    }
+
+    #[derive(Clone, Default)]
+    struct Post {
+        local: Vec<u8>,
+        expected: [u16; 16],
+        sent: u16,
+        buffer: Vec<(Message, Vec<u8>, Vec<u8>)>,
+        queue: Vec<(Message, Vec<u8>)>,
+    }
+
+    pub struct Worded {
+        posts: Vec<Post>,
+        rows: Vec<Option<[u16; 16]>>,
+        /// 0 outside, 1 at, 2 leaving, 3 travelling
+        places: Vec<(u8, u8)>,
+        held: Vec<(Message, Vec<u8>, Vec<u8>, usize)>,
+        lines: Vec<Vec<Travelling>>,
+        pub sum: u64,
+    }
+
+    impl Worded {
+        pub fn new(stations: u8, carts: u8) -> Self {
+            Worded {
+                posts: vec![Post::default(); stations as usize],
+                rows: vec![None; carts as usize],
+                places: vec![(0, 0); carts as usize],
+                held: Vec::new(),
+                lines: vec![Vec::new(); 256],
+                sum: 0,
+            }
+        }
+
+        fn put(&mut self, from: u8, to: u8, record: Travelling) {
+            self.lines[from as usize * 16 + to as usize].push(record);
+        }
+
+        fn all(&mut self, from: u8, record: Travelling) -> u8 {
+            for to in 0..self.posts.len() as u8 {
+                self.put(from, to, record.clone());
+            }
+            self.posts.len() as u8
+        }
+
+        fn queue(&mut self, station: u8, message: Message, cart: u8) {
+            let queue = &mut self.posts[station as usize].queue;
+            match queue.iter_mut().find(|(m, _)| *m == message) {
+                Some((_, carts)) => carts.push(cart),
+                None => queue.push((message, vec![cart])),
+            }
+            queue.sort_by_key(|(m, _)| (m.number, 16 - m.initiator));
+        }
+
+        fn catch_up(&mut self, station: u8, cart: u8, initiator: u8, row: &mut [u16; 16]) -> u32 {
+            let mut p = 0;
+            let next = &mut row[initiator as usize];
+            while *next < self.posts[station as usize].expected[initiator as usize] {
+                let message = Message { initiator, number: *next };
+                let buffer = &self.posts[station as usize].buffer;
+                if buffer.iter().any(|(m, copy, _)| *m == message && copy.contains(&cart)) {
+                    self.queue(station, message, cart);
+                    break;
+                }
+                *next += 1;
+                p += 1;
+            }
+            p
+        }
+
+        fn register(&mut self, station: u8, cart: u8, mut row: [u16; 16]) -> u32 {
+            for (message, copy, _) in &mut self.posts[station as usize].buffer {
+                if message.number < row[message.initiator as usize] {
+                    copy.retain(|c| *c != cart);
+                }
+            }
+            let mut p = 0;
+            for initiator in 0..self.posts.len() as u8 {
+                p += self.catch_up(station, cart, initiator, &mut row);
+            }
+            self.rows[cart as usize] = Some(row);
+            self.places[cart as usize] = (1, station);
+            self.posts[station as usize].local.push(cart);
+            p
+        }
+
+        fn station(&self, station: u8) -> Result<(), u8> {
+            if (station as usize) < self.posts.len() {
+                Ok(())
+            } else {
+                Err(8)
+            }
+        }
+
+        fn cart(&self, cart: u8) -> Result<(), u8> {
+            if (cart as usize) < self.rows.len() {
+                Ok(())
+            } else {
+                Err(9)
+            }
+        }
+
+        pub fn enter(&mut self, station: u8, cart: u8) -> Result<[u32; 4], u8> {
+            self.station(station)?;
+            self.cart(cart)?;
+            if self.places[cart as usize].0 != 0 {
+                return Err(10);
+            }
+            let p = self.register(station, cart, [0; 16]);
+            Ok([station as u32, cart as u32, p, 0])
+        }
+
+        pub fn send(&mut self, station: u8, set: u64) -> Result<[u32; 4], u8> {
+            self.station(station)?;
+            let carts: Vec<u8> = (0..64).filter(|c| set >> c & 1 == 1).collect();
+            carts.iter().try_for_each(|c| self.cart(*c))?;
+            if carts.is_empty() {
+                return Err(11);
+            }
+            if carts.iter().any(|c| self.places[*c as usize].0 == 0) {
+                return Err(12);
+            }
+            if self.held.len() == 32 {
+                return Err(14);
+            }
+            let message = Message { initiator: station, number: self.posts[station as usize].sent };
+            self.posts[station as usize].sent += 1;
+            self.held.push((message, carts.clone(), Vec::new(), self.posts.len()));
+            let w = self.all(station, Travelling::Multicast(message, carts));
+            Ok([station as u32, message.number as u32, 0, w as u32])
+        }
+
+        pub fn wire(&mut self, from: u8, to: u8) -> Result<[u32; 4], u8> {
+            self.station(from)?;
+            self.station(to)?;
+            let line = &mut self.lines[from as usize * 16 + to as usize];
+            if line.is_empty() {
+                return Err(15);
+            }
+            match line.remove(0) {
+                Travelling::Multicast(message, mut copy) => {
+                    let mut p = 0;
+                    let i = message.initiator as usize;
+                    self.posts[to as usize].expected[i] += 1;
+                    let named = copy.clone();
+                    for cart in self.posts[to as usize].local.clone() {
+                        let next = &mut self.rows[cart as usize].as_mut().unwrap()[i];
+                        if *next == message.number && named.contains(&cart) {
+                            self.queue(to, message, cart);
+                        } else if *next == message.number {
+                            *next += 1;
+                            p += 1;
+                        } else if *next > message.number && named.contains(&cart) {
+                            copy.retain(|c| *c != cart);
+                        }
+                    }
+                    self.posts[to as usize].buffer.push((message, copy, Vec::new()));
+                    Ok([1, message.number as u32, p, 0])
+                }
+                Travelling::AckList(message, carts) => {
+                    let at = self.held.iter().position(|h| h.0 == message).unwrap();
+                    let held = &mut self.held[at];
+                    held.2.extend(carts);
+                    let whole = held.1.iter().all(|c| held.2.contains(c));
+                    let w = if whole { self.all(to, Travelling::Delete(message)) } else { 0 };
+                    Ok([2, message.number as u32, 0, w as u32])
+                }
+                Travelling::Delete(message) => {
+                    self.posts[to as usize].buffer.retain(|(m, _, _)| *m != message);
+                    let at = self.held.iter().position(|h| h.0 == message).unwrap();
+                    self.held[at].3 -= 1;
+                    if self.held[at].3 == 0 {
+                        self.held.remove(at);
+                    }
+                    Ok([3, message.number as u32, 0, 0])
+                }
+                Travelling::Deregister(cart) => {
+                    let here = &mut self.posts[to as usize];
+                    here.queue.iter_mut().for_each(|(_, carts)| carts.retain(|c| *c != cart));
+                    here.queue.retain(|(_, carts)| !carts.is_empty());
+                    here.local.retain(|c| *c != cart);
+                    self.places[cart as usize] = (3, 0);
+                    let row = self.rows[cart as usize].take().unwrap();
+                    self.put(to, from, Travelling::Register(cart, row));
+                    Ok([4, cart as u32, 0, 1])
+                }
+                Travelling::Register(cart, row) => {
+                    let p = self.register(to, cart, row);
+                    Ok([5, cart as u32, p, 0])
+                }
+            }
+        }
+
+        pub fn radio(&mut self, station: u8, cart: u8) -> Result<[u32; 4], u8> {
+            self.station(station)?;
+            self.cart(cart)?;
+            if self.places[cart as usize] != (1, station) {
+                return Err(16);
+            }
+            let here = &mut self.posts[station as usize];
+            let Some((message, carts)) = here.queue.first_mut() else { return Err(17) };
+            let (message, i) = (*message, message.initiator as usize);
+            if !carts.contains(&cart) {
+                return Err(17);
+            }
+            carts.retain(|c| *c != cart);
+            here.queue.retain(|(_, carts)| !carts.is_empty());
+            let (_, copy, list) = here.buffer.iter_mut().find(|(m, _, _)| *m == message).unwrap();
+            list.push(cart);
+            let mut row = self.rows[cart as usize].unwrap();
+            assert_eq!(row[i], message.number);
+            row[i] += 1;
+            let mut w = 0;
+            if copy.iter().all(|c| !here.local.contains(c) || list.contains(c)) {
+                let list = std::mem::take(list);
+                copy.retain(|c| !list.contains(c));
+                self.put(station, message.initiator, Travelling::AckList(message, list));
+                w = 1;
+            }
+            let p = self.catch_up(station, cart, message.initiator, &mut row);
+            self.rows[cart as usize] = Some(row);
+            self.sum += 1;
+            Ok([i as u32, message.number as u32, p, w])
+        }
+
+        pub fn move_cart(&mut self, cart: u8, to: u8) -> Result<[u32; 4], u8> {
+            self.station(to)?;
+            self.cart(cart)?;
+            match self.places[cart as usize] {
+                (0, _) => Err(18),
+                (2 | 3, _) => Err(19),
+                (_, old) if old == to => Err(20),
+                (_, old) => {
+                    self.places[cart as usize] = (2, old);
+                    self.put(to, old, Travelling::Deregister(cart));
+                    Ok([cart as u32, to as u32, 0, 1])
+                }
+            }
+        }
+    }
+}
+
+#[test]
+fn the_same_as_the_worded_steps() {
+    let mut state = 0x9E37_79B9_7F4A_7C15_u64;
+    let mut below = move |n: u64| {
+        state ^= state << 13;
+        state ^= state >> 7;
+        state ^= state << 17;
+        (state >> 11) % n
+    };
+    for (stations, carts) in [(1, 1), (1, 5), (2, 2), (2, 3), (3, 6), (5, 20), (16, 64)] {
+        for _ in 0..20 {
+            let mut floor = floor(stations, carts);
+            let mut worded = as_worded::Worded::new(stations, carts);
+            for _ in 0..3_000 {
+                // One beyond the floor now and then, so that 8 and 9 are met too.
+                let beyond = (below(40) == 0) as u64;
+                let station = below(stations as u64 + beyond) as u8;
+                let other = below(stations as u64 + beyond) as u8;
+                let cart = below(carts as u64 + beyond) as u8;
+                let (ours, theirs) = match below(20) {
+                    0 => (floor.enter(s(station), c(cart)), worded.enter(station, cart)),
+                    1 | 2 => {
+                        let mut half = || below(1 << 32);
+                        let random = (half() << 32 | half()) & (half() << 32 | half());
+                        let one = if half() % 50 == 0 { 0 } else { 1 << (cart % 64) };
+                        let set = (random & floor.entered) | one;
+                        (floor.send(s(station), set, &[1]), worded.send(station, set))
+                    }
+                    3 => (floor.move_cart(c(cart), s(other)), worded.move_cart(cart, other)),
+                    4..=9 => {
+                        // The head's carts are hard to meet by chance.
+                        let (carts, _) = floor.head(s(station)).unwrap_or((0, 0));
+                        let cart = carts_of(carts).next().map_or(cart, |cart| cart.0);
+                        (floor.hand(station, cart), worded.radio(station, cart))
+                    }
+                    _ => (floor.wire(s(station), s(other)), worded.wire(station, other)),
+                };
+                let ours = ours.map_err(Refusal::number);
+                let ours = ours.map(|t| [t.a as u32, t.b as u32, t.p, t.w as u32]);
+                assert_eq!(ours, theirs);
+                if let Ok([_, _, p, _]) = ours {
+                    worded.sum += p as u64;
+                }
+            }
+            // The sum rule: next numbers are receipts and numbers passed over.
+            let next = floor.cart.iter().flat_map(|cart| cart.next).map(u64::from);
+            assert_eq!(next.sum::<u64>(), worded.sum);
+        }
+    }
+}

@@ -1,0 +1,93 @@
+-- What the code does for sixteen initiators is the protocol's catch-up for all of them at once.
+use mathlib.Core.Path.{_≡_, refl, sym, ap, ap₂, _∙_}
+use mathlib.Core.Bool.{Bool, true, false, _&&_, _||_}
+use mathlib.Core.List.{List}
+use mathlib.Core.Option.{Option, none, some}
+use Prim.Native.Nat.{ℕ, zero, suc, _+_, _-_, _<_, _≤_}
+use native.Mathlib.Omega.{arith}
+use lib.Dec.{eqb, ltb}
+use lib.ListN.{getD}
+use borrow.Author.Tests.{eqb-true, eq-eqb, lt-ltb, le-ltb}
+use Rattle.protocol.specs.Folds.{sum}
+use Rattle.protocol.specs.Floor.{Floor, limits}
+use Rattle.protocol.specs.Handoff.{Stop, catchUpStop}
+use Rattle.protocol.proofs.Tests.{by-test, by-lt, by-eq, same-test, clash}
+use Rattle.protocol.proofs.CatchUp.{foundIs}
+use Rattle.queue.specs.Rooms.{tablesFloor, roomIn}
+use Rattle.catchup.specs.Nearest.{nearestAmong}
+use Rattle.catchup.specs.Arrival.{nearestRow, stopIn, risen, isFound, occurs}
+use Rattle.catchup.proofs.ClosedForm.{IsNearest, nearest-is, would}
+use Rattle.catchup.proofs.RowLaws.{entry-says}
+use Rattle.catchup.proofs.Stops.{Agree, row-stops-there, stop-found}
+
+same-found : (o : Option ℕ) (m : ℕ) → isFound o m ≡ foundIs o m
+same-found none m = refl
+same-found (some k) m =
+    same-test (eqb m k) (eqb k m) (λ e. eq-eqb k m (sym (eqb-true m k e))) (λ e. eq-eqb m k (sym (eqb-true k m e)))
+
+-- A MESSAGE IS FOUND FOR ITS OWN INITIATOR ALONE
+
+module _ (F : Floor) (t c : ℕ) (row nearest : List ℕ) (is-nearest : nearest ≡ nearestRow F t c row 32) where
+  own-initiator : (s : ℕ) → s < 16 → (m : ℕ) → isFound (roomIn (getD nearest s 0)) m ≡ true → F .initiator m ≡ s
+  own-initiator s h m e =
+      found (nearestAmong F t c s (getD row s 0) 32) (nearest-is F t c s (getD row s 0) 32)
+      (ap (λ (o : Option ℕ). isFound o m) (sym (entry-says F t c row nearest is-nearest s h)) ∙ e)
+    where
+      found : (o : Option ℕ) → IsNearest F t c s (getD row s 0) 32 o → isFound o m ≡ true → F .initiator m ≡ s
+      found none n f = clash false f refl
+      found (some k) n f = rw (eqb-true m k f) (would F t c s (getD row s 0) k (n .1 .0) .is-initiator)
+
+  -- so the words of the others do not say its room
+  pub occurs-once : (n : ℕ) → n ≤ 16 → (m : ℕ) → occurs nearest n m ≡ (ltb (F .initiator m) n && isFound (roomIn (getD nearest (F .initiator m) 0)) m)
+  unfolding occurs
+  occurs-once zero h m = rw (le-ltb (F .initiator m) 0 (omega arith))
+  occurs-once (suc n) h m =
+      by-eq (F .initiator m) n
+      (λ z. rw (occurs-once n (omega arith) m, z, le-ltb n n (omega arith), lt-ltb n (suc n) (omega arith)))
+      (λ z. let no : isFound (roomIn (getD nearest n 0)) m ≡ false =
+      by-test (isFound (roomIn (getD nearest n 0)) m) (λ e. absurd (z (own-initiator n (omega arith) m e))) (λ e. e) in
+      ap₂ _||_ (occurs-once n (omega arith) m) no ∙ or-no (ltb (F .initiator m) n && isFound (roomIn (getD nearest (F .initiator m) 0)) m)
+      ∙ ap (λ (b : Bool). b && isFound (roomIn (getD nearest (F .initiator m) 0)) m) (one-more (F .initiator m) n z))
+    where
+      or-no : (a : Bool) → a || false ≡ a
+      or-no true = refl
+      or-no false = refl
+
+      one-more : (i n : ℕ) → (i ≡ n → ⊥) → ltb i n ≡ ltb i (suc n)
+      one-more i n d =
+          by-lt i n (λ l. lt-ltb i n l ∙ sym (lt-ltb i (suc n) (omega arith))) (λ l. le-ltb i n l ∙ sym (le-ltb i (suc n) (by-eq i n (λ q. absurd (d q)) (λ q. omega arith))))
+
+sum-same : (n : ℕ) (f g : ℕ → ℕ) → ((k : ℕ) → k < n → f k ≡ g k) → sum n f ≡ sum n g
+unfolding sum
+sum-same zero f g h = refl
+sum-same (suc n) f g h = ap₂ _+_ (sum-same n f g (λ k l. h k (omega arith))) (h n (omega arith))
+
+-- ON EVERY FLOOR WHOSE STATIONS AND MESSAGES ARE THE TWO TABLES, for a cart with that row of next numbers
+
+module _ (F : Floor) (stations messages : List ℕ) (agree : Agree F (tablesFloor stations messages)) (t c : ℕ) (row nearest : List ℕ)
+    (is-nearest : nearest ≡ nearestRow (tablesFloor stations messages) t c row 32) (is-row : (s : ℕ) → s < 16 → getD row s 0 ≡ F .next c s) where
+  -- each next number goes where the protocol's goes
+  pub all-raised : (s : ℕ) → s < 16 → stopIn (tablesFloor stations messages) t row nearest s ≡ catchUpStop limits F t c s .upto
+  all-raised s h = ap (λ (r : Stop). r .upto) (row-stops-there F stations messages agree t c s row nearest is-nearest h (is-row s h))
+
+  -- the count of the numbers passed over is the protocol's
+  pub all-passed : risen (tablesFloor stations messages) t row nearest 16 ≡ sum 16 (λ s. catchUpStop limits F t c s .upto - F .next c s)
+  all-passed =
+      sum-same 16 (λ s. stopIn (tablesFloor stations messages) t row nearest s - getD row s 0) (λ s. catchUpStop limits F t c s .upto - F .next c s)
+      (λ s h. ap₂ _-_ (all-raised s h) (is-row s h))
+
+  -- the cart is queued for what the protocol's stops find
+  pub all-queued : (m : ℕ) → occurs nearest 16 m ≡ (ltb (F .initiator m) 16 && foundIs (catchUpStop limits F t c (F .initiator m) .found) m)
+  all-queued m =
+      occurs-once (tablesFloor stations messages) t c row nearest is-nearest 16 (omega arith) m
+      ∙ ap (λ (f : ℕ → ℕ). ltb (f m) 16 && isFound (roomIn (getD nearest (f m) 0)) m) (sym (agree .initiator))
+      ∙ by-lt (F .initiator m) 16
+      (λ l. ap (λ (b : Bool). ltb (F .initiator m) 16 && b) (found (F .initiator m) l))
+      (λ l. rw (le-ltb (F .initiator m) 16 l))
+    where
+      found : (s : ℕ) → s < 16 → isFound (roomIn (getD nearest s 0)) m ≡ foundIs (catchUpStop limits F t c s .found) m
+      found s l =
+          same-found (roomIn (getD nearest s 0)) m
+          ∙ ap (λ (o : Option ℕ). foundIs o m)
+          (sym (stop-found (tablesFloor stations messages) t s (getD row s 0) (roomIn (getD nearest s 0)))
+          ∙ ap (λ (r : Stop). r .found) (row-stops-there F stations messages agree t c s row nearest is-nearest l (is-row s l)))

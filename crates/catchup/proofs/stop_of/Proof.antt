@@ -1,0 +1,36 @@
+-- `catchup::stop_of` meets its contract.
+use Rattle.queue.specs.Rooms.{tablesFloor}
+use Rattle.catchup.proofs.RowLaws.{at-message, at-expected, past-expected}
+use borrow.Author.Needs.{needs}
+use Rattle.catchup.proofs.stop_of.Statement.{statement}
+use Rattle.catchup.proofs.stop_of.Tie as tie
+
+number-of-requires : tie.Need-number-of-requires
+number-of-requires c κs = search needs
+
+returns : tie.Need-returns
+returns c =
+    let a = c .before .before .before .before .args in
+    let F = tablesFloor (a .stations .now) (a .messages .now) in
+    at-message F (a .station .0) (a .initiator .0) (a .next) (a .nearest) (c .number-of .result .0) (c .before .if1 .taken) (c .number-of .ensures)
+
+expected-of-requires : tie.Need-expected-of-requires
+expected-of-requires c κs = search needs
+
+returns-2 : tie.Need-returns-2
+returns-2 c =
+    let a = c .before .before .before .before .before .args in
+    let F = tablesFloor (a .stations .now) (a .messages .now) in
+    at-expected F (a .station .0) (a .initiator .0) (a .next) (a .nearest) (c .before .expected-of .result) (c .before .before .if1 .left)
+    (c .before .expected-of .ensures) (c .if2 .taken)
+
+returns-3 : tie.Need-returns-3
+returns-3 c =
+    let a = c .before .before .before .before .before .args in
+    let F = tablesFloor (a .stations .now) (a .messages .now) in
+    past-expected F (a .station .0) (a .initiator .0) (a .next) (a .nearest) (c .before .expected-of .result) (c .before .before .if1 .left)
+    (c .before .expected-of .ensures) (c .if2 .left)
+
+pub stop-of-spec : {M : Type 1} → statement M
+stop-of-spec =
+    tie.close (tie.spec number-of-requires returns expected-of-requires returns-2 returns-3)

@@ -1,0 +1,23 @@
+-- `frames::size_of` meets its contract.
+use mathlib.Core.Path.{sym, ap}
+use native.Mathlib.Omega.{arith}
+use Rattle.frames.specs.Decoded.{sizeOf}
+use Rattle.frames.proofs.Values.{other-size}
+use borrow.Author.Needs.{needs}
+use Rattle.frames.proofs.size_of.Statement.{statement}
+use Rattle.frames.proofs.size_of.Tie as tie
+
+enum-known-e : tie.Need-enum-known-e
+enum-known-e c = search needs
+
+add-result : tie.Need-add-result
+add-result c = omega (arith, ap (λ x. sizeOf x) (c .before .e .given .1))
+
+returns : tie.Need-returns
+returns c = sym (ap (λ x. sizeOf x) (c .before .e .given .1))
+
+returns-2 : tie.Need-returns-2
+returns-2 c = other-size (c .before .args .e) (c .match .keys2)
+
+pub size-of-spec : {M : Type 1} → statement M
+size-of-spec = tie.close (tie.spec enum-known-e add-result returns returns-2)

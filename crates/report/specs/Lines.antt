@@ -1,0 +1,41 @@
+-- Lines written into lent octets.
+use mathlib.Core.Path.{_≡_}
+use mathlib.Core.List.{List, [], _∷_, _++_}
+use Prim.Native.Nat.{ℕ, zero, suc, _+_, _*_, _/_, _%_, _≤_}
+use lib.ListN.{length, take, drop}
+use Rattle.protocol.specs.Events as events
+use Rattle.protocol.specs.Printed.{digitChar}
+use Rattle.report.specs.declared.Report.{Report}
+
+-- WRITING
+
+-- the octets l with a line written from a position on: what stands before it and behind it stays
+unfoldable pub written : List ℕ → ℕ → List ℕ → List ℕ
+written l at line = take at l ++ line ++ drop (at + length line) l
+
+-- the line was written into l from `at` on, which gives l′, and `next` is the position behind it; it has at most so many octets, and
+-- l′ is as long as l
+pub record Wrote (most : ℕ) (line l l′ : List ℕ) (at next : ℕ) : Type 0 where
+  pub octets : l′ ≡ written l at line
+  pub behind : next ≡ at + length line
+  pub few : next ≤ at + most
+  pub kept : length l′ ≡ length l
+
+-- LINES
+
+-- what an event reports, with the text of a radio step: "index from 0, kind, a, b, p, w"
+abbrev pub reportIn : Report → List ℕ → events.Report
+reportIn r text = record { kind = r .kind; a = r .a; b = r .b; p = r .p; w = r .w; text = text }
+
+-- the longest line: a number has at most 20 digits, and a text at most 32 octets
+abbrev pub longestLine : ℕ
+longestLine = 20 + 5 * 21 + 65 + 1
+
+-- the longest line of a refusal
+abbrev pub longestRefusal : ℕ
+longestRefusal = 20 + 3 + 21 + 1
+
+-- the last k decimal digits of n
+unfoldable pub lastDigits : ℕ → ℕ → List ℕ
+lastDigits zero n = []
+lastDigits (suc k) n = lastDigits k (n / 10) ++ (digitChar (n % 10) ∷ [])
