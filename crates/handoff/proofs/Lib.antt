@@ -1,1 +1,9 @@
+pub mod RoomByRoom
+pub mod PassedLaws
+pub mod LeaveLaws
+pub mod RiseLaws
 pub mod MoveIs
+pub mod DeregisterIs
+pub mod ArriveIs
+pub mod EnterIs
+pub mod RegisterIs

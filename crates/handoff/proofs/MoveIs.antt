@@ -1,20 +1,18 @@
 -- A MOVE OVER THE LENT PARTS IS THE WRITTEN MOVE: the floor that they then say is the floor of the written step.
 use mathlib.Core.Path.{_≡_, refl, sym, ap, _∙_}
-use mathlib.Core.Bool.{Bool, true, false}
+use mathlib.Core.Bool.{Bool, true}
 use mathlib.Core.List.{List}
-use Prim.Native.Nat.{ℕ, _+_, _*_, _<_}
+use Prim.Native.Nat.{ℕ, _<_}
 use native.Mathlib.Omega.{arith}
-use Rattle.protocol.specs.Folds.{update}
 use Rattle.protocol.specs.CartSets.{setOf}
-use Rattle.protocol.specs.Floor.{Floor, limits, Place, Carts, at, leaving, Record, deregister, put, between, localTo}
+use Rattle.protocol.specs.Floor.{Place, Carts, at, leaving, Record, deregister, put, between, localTo}
 use Rattle.protocol.specs.Handoff.{onMove}
 use Rattle.protocol.proofs.Tests.{on-update}
 use Rattle.stations.specs.View.{headIn, stationsIn}
 use Rattle.carts.specs.View.{cartsIn, canonicalIn}
 use Rattle.messages.specs.View.{roomsIn}
-use Rattle.lines.specs.Post.{Pushed}
-use Rattle.view.specs.Records.{linesIn, wordsOf, recordIn}
-use Rattle.view.specs.View.{Lent, lent, lengthsIn, wordsIn, textsIn, floorOf, floorIn}
+use Rattle.view.specs.Records.{linesIn, wordsOf}
+use Rattle.view.specs.View.{Lent, lent, textsIn, floorOf, floorIn}
 use Rattle.view.proofs.LinesView.{push-view}
 use Rattle.view.proofs.Lengths.{Lengths, lengths-right}
 use Rattle.view.proofs.Laid.{Laid, words-right, local-stays, laid-carts, laid-push}

@@ -1,1 +1,4 @@
 pub mod Moved
+pub mod Left
+pub mod Struck
+pub mod Arrived

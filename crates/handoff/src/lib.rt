@@ -1,17 +1,29 @@
 // THE HAND-OFF MODULE over the lent parts: move, deregister, register, enter.
+use catchup::Caught;
 use ids::CartNumber;
 use ids::Station;
 ghost use mathlib.Core.Path.{_≡_};
 ghost use mathlib.Core.Bool.{true};
-ghost use Prim.Native.Nat.{_<_};
+ghost use Prim.Native.Nat.{ℕ, _<_, _≤_};
 ghost use lib.ListN.{length};
+ghost use Rattle.protocol.specs.Folds.{listOf};
 ghost use Rattle.protocol.specs.Floor.{at, leaving};
+ghost use Rattle.stations.specs.View.{HasStation, stationsIn, headIn};
 ghost use Rattle.carts.specs.View.{cartsIn};
 ghost use Rattle.carts.specs.Words.{HasRow};
+ghost use Rattle.messages.specs.View.{roomsIn};
 ghost use Rattle.lines.specs.Form.{form};
 ghost use Rattle.lines.specs.Lines.{used};
 ghost use Rattle.lines.specs.Words.{capacity};
+ghost use Rattle.queue.specs.Rooms.{tablesFloor, HasRooms};
+ghost use Rattle.catchup.specs.Arrival.{stopIn, Rises, risen};
 ghost use Rattle.handoff.specs.Moved.{Moved};
+ghost use Rattle.handoff.specs.Left.{unqueued, left, Left};
+ghost use Rattle.handoff.specs.Struck.{isPassed, struckCopy, struckFrom};
+ghost use Rattle.handoff.specs.Arrived.{allZero, Small, joined, Docked, Arrived};
+
+// "Stations 1 to 16": as many initiators.
+const INITIATORS: usize = 16;
 
 // "Move (cart, to): a deregister goes from to to the old station; the cart is leaving."
 pub fn on_move(carts: &mut [u64], lines: &mut [u64], number: CartNumber, old: Station, to: Station)
@@ -27,4 +39,233 @@ pub fn on_move(carts: &mut [u64], lines: &mut [u64], number: CartNumber, old: St
         old.0 as usize,
         view::deregister(number),
     );
+}
+
+// "the cart leaves every queue entry here (emptied entries go)"
+fn unqueue(stations: &mut [u64], number: CartNumber, station: Station)
+    requires { ⌜ HasStation (now stations) (station .0) × (number .0 < 64) ⌝ }
+    ensures { λ _. ⌜ stationsIn (now (stations .exit)) ≡ unqueued (stationsIn (now (stations .entry))) (station .0) (number .0) ⌝ }
+    ensures { λ _. ⌜ headIn (now (stations .exit)) ≡ headIn (now (stations .entry)) ⌝ }
+    ensures { λ _. ⌜ length (now (stations .exit)) ≡ length (now (stations .entry)) ⌝ }
+{
+    let mut m: usize = 0;
+    while m < queue::ROOMS {
+        let carts = cartset::without_cart(stations::queue_of(stations, m, station), number.0);
+        stations::put_queue(stations, m, station, carts);
+        m += 1;
+    }
+}
+
+// "the cart leaves every queue entry here (emptied entries go) and the local list"
+fn leave(stations: &mut [u64], number: CartNumber, station: Station)
+    requires { ⌜ HasStation (now stations) (station .0) × (number .0 < 64) ⌝ }
+    ensures { λ _. ⌜ stationsIn (now (stations .exit)) ≡ left (stationsIn (now (stations .entry))) (station .0) (number .0) ⌝ }
+    ensures { λ _. ⌜ headIn (now (stations .exit)) ≡ headIn (now (stations .entry)) ⌝ }
+    ensures { λ _. ⌜ length (now (stations .exit)) ≡ length (now (stations .entry)) ⌝ }
+{
+    unqueue(stations, number, station);
+    let local = cartset::without_cart(stations::local_of(stations, station), number.0);
+    stations::put_local(stations, station, local);
+}
+
+// "Deregister: the cart leaves every queue entry here (emptied entries go) and the local list. A register goes to the new station": come
+// from the new station, handled at the old one.
+pub fn on_deregister(
+    stations: &mut [u64],
+    carts: &mut [u64],
+    lines: &mut [u64],
+    number: CartNumber,
+    station: Station,
+    from: Station,
+)
+    requires { ⌜ HasStation (now stations) (station .0) × HasRow (now carts) (number .0) × (number .0 < 64) × (cartsIn (now carts) .place (number .0) ≡ leaving (station .0) (from .0)) ⌝ }
+    requires { ⌜ (form (now lines) ≡ true) × (used (now lines) < capacity (now lines)) × (station .0 < 16) × (from .0 < 16) ⌝ }
+    ensures { λ _. ⌜ Left (now (stations .entry)) (now (stations .exit)) (now (carts .entry)) (now (carts .exit)) (now (lines .entry)) (now (lines .exit)) (number .0) (station .0) (from .0) ⌝ }
+{
+    leave(stations, number, station);
+    let cart = carts::cart_at(carts, number);
+    carts::put_cart(carts, number, cart.depart());
+    lines::push_back(
+        lines,
+        station.0 as usize,
+        from.0 as usize,
+        view::register(number),
+    );
+}
+
+// Is the message in room m buffered at the station, "with a number below the cart's next number"?
+fn is_passed(stations: &[u64], messages: &[u64], station: Station, row: [u64; 16], m: usize) -> bool
+    requires { ⌜ HasStation (now stations) (station .0) × HasRooms (now messages) × (station .0 < 16) × (m < 32) ⌝ }
+    ensures { λ r. ⌜ r ≡ isPassed (stationsIn (now (stations .entry))) (roomsIn (now (messages .entry))) (station .0) row m ⌝ }
+{
+    let initiator = messages::initiator_of(messages, m);
+    let s = initiator.0 as usize;
+    if INITIATORS <= s {
+        return false;
+    }
+    if !cartset::has(messages::waiting_of(messages, m), station.0) {
+        return false;
+    }
+    let number = messages::number_of(messages, m).0;
+    if stations::expected_of(stations, station, initiator) <= number {
+        return false;
+    }
+    number < row[s]
+}
+
+// The station's copy of the set of the message in room m, from which the cart is struck if it is past that message.
+fn struck_copy(
+    stations: &[u64],
+    messages: &[u64],
+    station: Station,
+    cart: CartNumber,
+    row: [u64; 16],
+    m: usize,
+) -> u64
+    requires { ⌜ HasStation (now stations) (station .0) × HasRooms (now messages) × (station .0 < 16) × (cart .0 < 64) × (m < 32) ⌝ }
+    ensures { λ r. ⌜ r ≡ struckCopy (stationsIn (now (stations .entry))) (roomsIn (now (messages .entry))) (station .0) (cart .0) row m (stationsIn (now (stations .entry)) .copy m (station .0)) ⌝ }
+{
+    let copy = stations::copy_of(stations, m, station);
+    if is_passed(stations, messages, station, row, m) {
+        return cartset::without_cart(copy, cart.0);
+    }
+    copy
+}
+
+// "from each buffered copy naming the cart with a number below the cart's next number, the cart is struck"
+fn strike(
+    stations: &mut [u64],
+    messages: &[u64],
+    station: Station,
+    cart: CartNumber,
+    row: [u64; 16],
+)
+    requires { ⌜ HasStation (now stations) (station .0) × HasRooms (now messages) × (station .0 < 16) × (cart .0 < 64) ⌝ }
+    ensures { λ _. ⌜ stationsIn (now (stations .exit)) ≡ struckFrom (stationsIn (now (stations .entry))) (roomsIn (now (messages .entry))) (station .0) (cart .0) row ⌝ }
+    ensures { λ _. ⌜ headIn (now (stations .exit)) ≡ headIn (now (stations .entry)) ⌝ }
+    ensures { λ _. ⌜ length (now (stations .exit)) ≡ length (now (stations .entry)) ⌝ }
+{
+    let mut m: usize = 0;
+    while m < queue::ROOMS {
+        let copy = struck_copy(stations, messages, station, cart, row, m);
+        stations::put_copy(stations, m, station, copy);
+        m += 1;
+    }
+}
+
+// The row of next numbers, each raised to where it stops, and "the numbers passed over in this step".
+fn raise(
+    stations: &[u64],
+    messages: &[u64],
+    station: Station,
+    row: [u64; 16],
+    nearest: [usize; 16],
+) -> Caught
+    requires { ⌜ HasStation (now stations) (station .0) × HasRooms (now messages) ⌝ }
+    requires { ⌜ Rises (tablesFloor (now stations) (now messages)) (station .0) row nearest ⌝ }
+    requires { ⌜ Small (tablesFloor (now stations) (now messages)) (station .0) row nearest ⌝ }
+    ensures { λ r. ⌜ r .row ≡ listOf 16 (stopIn (tablesFloor (now (stations .entry)) (now (messages .entry))) (station .0) row nearest) ⌝ }
+    ensures { λ r. ⌜ r .passed ≡ risen (tablesFloor (now (stations .entry)) (now (messages .entry))) (station .0) row nearest 16 ⌝ }
+{
+    let mut upto = row;
+    let mut passed: u64 = 0;
+    let mut s: usize = 0;
+    while s < INITIATORS {
+        let stop = catchup::stop_of(
+            stations,
+            messages,
+            station,
+            Station(s as u64),
+            row[s],
+            nearest[s],
+        );
+        passed += stop - row[s];
+        upto[s] = stop;
+        s += 1;
+    }
+    Caught { row: upto, passed }
+}
+
+// The cart is queued for each nearest message, and is on the station's local list.
+fn join(stations: &mut [u64], station: Station, cart: CartNumber, nearest: [usize; 16])
+    requires { ⌜ HasStation (now stations) (station .0) × (cart .0 < 64) ⌝ }
+    ensures { λ _. ⌜ stationsIn (now (stations .exit)) ≡ joined (stationsIn (now (stations .entry))) (station .0) (cart .0) nearest ⌝ }
+    ensures { λ _. ⌜ headIn (now (stations .exit)) ≡ headIn (now (stations .entry)) ⌝ }
+    ensures { λ _. ⌜ length (now (stations .exit)) ≡ length (now (stations .entry)) ⌝ }
+{
+    catchup::enqueue_all(stations, station, cart, nearest);
+    let local = cartset::with_cart(stations::local_of(stations, station), cart.0);
+    stations::put_local(stations, station, local);
+}
+
+// "the cart is struck. Then catch-up for every initiator in rising order"
+fn dock(
+    stations: &mut [u64],
+    messages: &[u64],
+    station: Station,
+    cart: CartNumber,
+    row: [u64; 16],
+) -> Caught
+    requires { ⌜ HasStation (now stations) (station .0) × HasRooms (now messages) × (station .0 < 16) × (cart .0 < 64) ⌝ }
+    requires { ⌜ ((s : ℕ) → s < 16 → stationsIn (now stations) .expected (station .0) s ≤ 65535) ⌝ }
+    ensures { λ r. ⌜ Docked (now (stations .entry)) (now (stations .exit)) (now (messages .entry)) (station .0) (cart .0) row (r .row) (r .passed) ⌝ }
+{
+    strike(stations, messages, station, cart, row);
+    let nearest = catchup::nearest_of_all(stations, messages, station, cart, row);
+    let caught = raise(stations, messages, station, row, nearest);
+    join(stations, station, cart, nearest);
+    caught
+}
+
+// "the cart is struck. Then catch-up for every initiator in rising order, and the cart is at this station": with that row of next numbers.
+// Answers how many numbers were passed over.
+fn on_arrive(
+    stations: &mut [u64],
+    carts: &mut [u64],
+    messages: &[u64],
+    station: Station,
+    number: CartNumber,
+    row: [u64; 16],
+) -> u64
+    requires { ⌜ HasStation (now stations) (station .0) × HasRow (now carts) (number .0) × HasRooms (now messages) × (station .0 < 16) × (number .0 < 64) ⌝ }
+    requires { ⌜ ((s : ℕ) → s < 16 → stationsIn (now stations) .expected (station .0) s ≤ 65535) ⌝ }
+    ensures { λ r. ⌜ Arrived (now (stations .entry)) (now (stations .exit)) (now (carts .entry)) (now (carts .exit)) (now (messages .entry)) (station .0) (number .0) row r ⌝ }
+{
+    let caught = dock(stations, messages, station, number, row);
+    let upto = caught.row;
+    let cart = carts::cart_at(carts, number);
+    carts::put_cart(carts, number, cart.arrive(station, upto));
+    caught.passed
+}
+
+// "Register": of a cart, handled at the station that it greeted. Its row of next numbers is in the carts' table.
+pub fn on_register(
+    stations: &mut [u64],
+    carts: &mut [u64],
+    messages: &[u64],
+    station: Station,
+    number: CartNumber,
+) -> u64
+    requires { ⌜ HasStation (now stations) (station .0) × HasRow (now carts) (number .0) × HasRooms (now messages) × (station .0 < 16) × (number .0 < 64) ⌝ }
+    requires { ⌜ ((s : ℕ) → s < 16 → stationsIn (now stations) .expected (station .0) s ≤ 65535) ⌝ }
+    ensures { λ r. ⌜ Arrived (now (stations .entry)) (now (stations .exit)) (now (carts .entry)) (now (carts .exit)) (now (messages .entry)) (station .0) (number .0) (listOf 16 (cartsIn (now (carts .entry)) .next (number .0))) r ⌝ }
+{
+    let row = carts::row_of(carts, number);
+    on_arrive(stations, carts, messages, station, number, row)
+}
+
+// "Enter (station, cart): as a register with all next numbers 0, handled at once"
+pub fn on_enter(
+    stations: &mut [u64],
+    carts: &mut [u64],
+    messages: &[u64],
+    station: Station,
+    number: CartNumber,
+) -> u64
+    requires { ⌜ HasStation (now stations) (station .0) × HasRow (now carts) (number .0) × HasRooms (now messages) × (station .0 < 16) × (number .0 < 64) ⌝ }
+    requires { ⌜ ((s : ℕ) → s < 16 → stationsIn (now stations) .expected (station .0) s ≤ 65535) ⌝ }
+    ensures { λ r. ⌜ Arrived (now (stations .entry)) (now (stations .exit)) (now (carts .entry)) (now (carts .exit)) (now (messages .entry)) (station .0) (number .0) allZero r ⌝ }
+{
+    let row = [0u64; 16];
+    on_arrive(stations, carts, messages, station, number, row)
 }

@@ -1,0 +1,644 @@
+// The form test of the three tables: the clauses of the form rule that look at no record on a line. "a written yes-or-no test of the floor
+// alone": each function answers the test of its clause, and ends at the first failure.
+use carts::Place;
+use ids::CartNumber;
+use ids::Station;
+ghost use mathlib.Core.Path.{_≡_};
+ghost use mathlib.Core.Bool.{true, not};
+ghost use mathlib.Core.List.{[]};
+ghost use Prim.Native.Nat.{ℕ, _<_};
+ghost use lib.ListN.{length, getD};
+ghost use Rattle.protocol.specs.Floor.{Floor, limits, localTo, entered, isMessage};
+ghost use Rattle.protocol.specs.CartSets.{has, setOf};
+ghost use Rattle.protocol.specs.Claims.{test, all, is, both, when, lt, le, eq};
+ghost use Rattle.protocol.specs.Form.{stationRule, placeInside, cartRule, entryRule};
+ghost use Rattle.stations.specs.View.{headIn, stationsIn};
+ghost use Rattle.carts.specs.Words.{HasRow};
+ghost use Rattle.carts.specs.Records.{seen};
+ghost use Rattle.carts.specs.View.{cartsIn, canonicalIn};
+ghost use Rattle.messages.specs.View.{HasRoom};
+ghost use Rattle.view.specs.View.{lent, localRight, shortText};
+ghost use Rattle.form.specs.Tables.{tables, Sized, Home, mostOf, countsRule, roomSets, heldBefore, heldNames, queued, copySets, copiesRule, tablesRule};
+
+// "An unstarted floor fails it", "Stations 1 to 16", "Carts 1 to 64".
+fn counts_ok(stations: &[u64]) -> bool
+    requires { ⌜ length (now stations) ≡ 1938 ⌝ }
+    ensures { λ r. ⌜ r ≡ test (countsRule (tables (now (stations .entry)) [] [])) ⌝ }
+{
+    if stations::mark_of(stations) != 1 {
+        return false;
+    }
+    let n = stations::station_count(stations);
+    if n == 0 {
+        return false;
+    }
+    if 16 < n {
+        return false;
+    }
+    let k = stations::cart_count(stations);
+    if k == 0 {
+        return false;
+    }
+    if 64 < k {
+        return false;
+    }
+    true
+}
+
+// "last number 65,534": no station has sent more, and one beyond the floor has sent nothing.
+fn station_ok(stations: &[u64], s: Station) -> bool
+    requires { ⌜ (length (now stations) ≡ 1938) × (s .0 < 16) ⌝ }
+    ensures { λ r. ⌜ r ≡ test (stationRule limits (tables (now (stations .entry)) [] []) (s .0)) ⌝ }
+{
+    let sent = stations::sent_of(stations, s);
+    if 65535 < sent {
+        return false;
+    }
+    if 0 < sent {
+        if stations::station_count(stations) <= s.0 {
+            return false;
+        }
+    }
+    true
+}
+
+// The same of each of the sixteen.
+fn stations_ok(stations: &[u64]) -> bool
+    requires { ⌜ length (now stations) ≡ 1938 ⌝ }
+    ensures { λ r. ⌜ r ≡ test (all 16 (stationRule limits (tables (now (stations .entry)) [] []))) ⌝ }
+{
+    let mut s: u64 = 0;
+    while s < 16 {
+        if !station_ok(stations, Station(s)) {
+            return false;
+        }
+        s += 1;
+    }
+    true
+}
+
+// "A cart is outside, at a station, leaving .. or travelling": the place of each cart stands in the words that it is written in.
+fn places_ok(carts: &[u64]) -> bool
+    requires { ⌜ length (now carts) ≡ 1216 ⌝ }
+    ensures { λ r. ⌜ r ≡ test (all 64 (λ c. is (canonicalIn (now (carts .entry)) c))) ⌝ }
+{
+    let mut number: u64 = 0;
+    while number < 64 {
+        if !carts::is_canonical(carts, CartNumber(number)) {
+            return false;
+        }
+        number += 1;
+    }
+    true
+}
+
+// "text 0 to 32 octets": no text is longer than its part.
+fn texts_ok(messages: &[u64]) -> bool
+    requires { ⌜ length (now messages) ≡ 192 ⌝ }
+    ensures { λ r. ⌜ r ≡ test (all 32 (λ m. is (shortText (lent [] [] (now (messages .entry)) [] []) m))) ⌝ }
+{
+    let mut m: usize = 0;
+    while m < 32 {
+        if 32 < messages::length_of(messages, m) {
+            return false;
+        }
+        m += 1;
+    }
+    true
+}
+
+// "It is local to a station when at it or leaving it": the one of the sixteen stations that the cart is local to, or 16 where there is none.
+fn home_of(carts: &[u64], number: CartNumber) -> u64
+    requires { ⌜ HasRow (now carts) (number .0) ⌝ }
+    ensures { λ r. ⌜ Home (cartsIn (now (carts .entry)) .place (number .0)) r ⌝ }
+{
+    let place = carts::place_of(carts, number);
+    match place {
+        Place::Outside => 16,
+        Place::At(s) => s.0,
+        Place::Leaving(s, _) => s.0,
+        Place::Travelling(_, _) => 16,
+    }
+}
+
+// The local carts of each station, by one pass over the carts.
+fn locals_of(carts: &[u64]) -> [u64; 16]
+    requires { ⌜ length (now carts) ≡ 1216 ⌝ }
+    ensures { λ r. ⌜ ((t : ℕ) → t < 16 → getD r t 0 ≡ setOf 64 (λ c. localTo (cartsIn (now (carts .entry)) .place c) t)) ⌝ }
+{
+    let mut locals = [0u64; 16];
+    let mut number: u64 = 0;
+    while number < 64 {
+        let home = home_of(carts, CartNumber(number));
+        if home < 16 {
+            let s = home as usize;
+            locals[s] = cartset::with_cart(locals[s], number);
+        }
+        number += 1;
+    }
+    locals
+}
+
+// The masks of local carts are right.
+fn locals_ok(stations: &[u64], carts: &[u64]) -> bool
+    requires { ⌜ (length (now stations) ≡ 1938) × (length (now carts) ≡ 1216) ⌝ }
+    ensures { λ r. ⌜ r ≡ test (all 16 (λ t. is (localRight (lent (now (stations .entry)) (now (carts .entry)) [] [] []) t))) ⌝ }
+{
+    let locals = locals_of(carts);
+    let mut t: usize = 0;
+    while t < 16 {
+        if stations::local_of(stations, Station(t as u64)) != locals[t] {
+            return false;
+        }
+        t += 1;
+    }
+    true
+}
+
+// Both stations are among the first n.
+fn are_below(s: u64, t: u64, n: u64) -> bool
+    ensures { λ r. ⌜ r ≡ test (both (lt s n) (lt t n)) ⌝ }
+{
+    if n <= s {
+        return false;
+    }
+    if n <= t {
+        return false;
+    }
+    true
+}
+
+// "a place at, or between, stations of the floor", which are n.
+fn place_ok(place: Place, n: u64) -> bool
+    ensures { λ r. ⌜ ((F : Floor) → F .stations ≡ n → r ≡ test (placeInside limits F (seen place))) ⌝ }
+{
+    match place {
+        Place::Outside => true,
+        Place::At(s) => s.0 < n,
+        Place::Leaving(s, t) => are_below(s.0, t.0, n),
+        Place::Travelling(s, t) => are_below(s.0, t.0, n),
+    }
+}
+
+// The cart has entered: it is at a station, leaving or travelling.
+fn has_entered(place: Place) -> bool
+    ensures { λ r. ⌜ r ≡ entered (seen place) ⌝ }
+{
+    match place {
+        Place::Outside => false,
+        Place::At(_) => true,
+        Place::Leaving(_, _) => true,
+        Place::Travelling(_, _) => true,
+    }
+}
+
+// A cart that has not entered: its next numbers are 0.
+fn row_blank(carts: &[u64], number: CartNumber) -> bool
+    requires { ⌜ HasRow (now carts) (number .0) ⌝ }
+    ensures { λ r. ⌜ r ≡ test (all 16 (λ s. eq (cartsIn (now (carts .entry)) .next (number .0) s) 0)) ⌝ }
+{
+    let mut s: u64 = 0;
+    while s < 16 {
+        if 0 < carts::next_of(carts, number, Station(s)) {
+            return false;
+        }
+        s += 1;
+    }
+    true
+}
+
+// No next number of the cart is above what was sent.
+fn row_sent(stations: &[u64], carts: &[u64], number: CartNumber) -> bool
+    requires { ⌜ (length (now stations) ≡ 1938) × HasRow (now carts) (number .0) ⌝ }
+    ensures { λ r. ⌜ r ≡ test (all 16 (λ s. le (cartsIn (now (carts .entry)) .next (number .0) s) (stationsIn (now (stations .entry)) .sent s))) ⌝ }
+{
+    let mut s: u64 = 0;
+    while s < 16 {
+        if stations::sent_of(stations, Station(s)) < carts::next_of(carts, number, Station(s)) {
+            return false;
+        }
+        s += 1;
+    }
+    true
+}
+
+// "its place is on the floor; if it has entered, so is the cart, and if not its next numbers are 0; no next number is above what was sent",
+// which is so of a row of zeros.
+fn cart_ok(stations: &[u64], carts: &[u64], number: CartNumber) -> bool
+    requires { ⌜ (length (now stations) ≡ 1938) × (length (now carts) ≡ 1216) × (number .0 < 64) ⌝ }
+    ensures { λ r. ⌜ r ≡ test (cartRule limits (tables (now (stations .entry)) (now (carts .entry)) []) (number .0)) ⌝ }
+{
+    let place = carts::place_of(carts, number);
+    if !has_entered(place) {
+        return row_blank(carts, number);
+    }
+    if stations::cart_count(stations) <= number.0 {
+        return false;
+    }
+    if !place_ok(place, stations::station_count(stations)) {
+        return false;
+    }
+    row_sent(stations, carts, number)
+}
+
+// The same of each of the sixty-four.
+fn carts_ok(stations: &[u64], carts: &[u64]) -> bool
+    requires { ⌜ (length (now stations) ≡ 1938) × (length (now carts) ≡ 1216) ⌝ }
+    ensures { λ r. ⌜ r ≡ test (all 64 (cartRule limits (tables (now (stations .entry)) (now (carts .entry)) []))) ⌝ }
+{
+    let mut number: u64 = 0;
+    while number < 64 {
+        if !cart_ok(stations, carts, CartNumber(number)) {
+            return false;
+        }
+        number += 1;
+    }
+    true
+}
+
+// The greatest set of the first n: all words, where n is more than a word has digits.
+fn most_of(n: u64) -> u64
+    ensures { λ r. ⌜ r ≡ mostOf n ⌝ }
+{
+    if n < 64 {
+        return cartset::all_below(n);
+    }
+    cartset::all_below(64)
+}
+
+// "its sets are of the floor": those of the message in room m.
+fn room_ok(stations: &[u64], messages: &[u64], m: usize) -> bool
+    requires { ⌜ (length (now stations) ≡ 1938) × (length (now messages) ≡ 192) × (m < 32) ⌝ }
+    ensures { λ r. ⌜ r ≡ test (roomSets (tables (now (stations .entry)) [] (now (messages .entry))) m) ⌝ }
+{
+    let most = most_of(stations::cart_count(stations));
+    if most < messages::named_of(messages, m) {
+        return false;
+    }
+    if most < messages::acked_of(messages, m) {
+        return false;
+    }
+    if most_of(stations::station_count(stations)) < messages::waiting_of(messages, m) {
+        return false;
+    }
+    true
+}
+
+// The same of each of the thirty-two rooms.
+fn rooms_ok(stations: &[u64], messages: &[u64]) -> bool
+    requires { ⌜ (length (now stations) ≡ 1938) × (length (now messages) ≡ 192) ⌝ }
+    ensures { λ r. ⌜ r ≡ test (all 32 (roomSets (tables (now (stations .entry)) [] (now (messages .entry))))) ⌝ }
+{
+    let mut m: usize = 0;
+    while m < 32 {
+        if !room_ok(stations, messages, m) {
+            return false;
+        }
+        m += 1;
+    }
+    true
+}
+
+// How many messages station s has sent: none, where there is no such station.
+fn sent_by(stations: &[u64], s: u64) -> u64
+    requires { ⌜ length (now stations) ≡ 1938 ⌝ }
+    ensures { λ r. ⌜ r ≡ stationsIn (now (stations .entry)) .sent s ⌝ }
+{
+    if s < 16 {
+        return stations::sent_of(stations, Station(s));
+    }
+    0
+}
+
+// The number that station t expects of initiator s: 0, where there is no such initiator.
+fn expected_by(stations: &[u64], t: Station, s: u64) -> u64
+    requires { ⌜ (length (now stations) ≡ 1938) × (t .0 < 16) ⌝ }
+    ensures { λ r. ⌜ r ≡ stationsIn (now (stations .entry)) .expected (t .0) s ⌝ }
+{
+    if s < 16 {
+        return stations::expected_of(stations, t, Station(s));
+    }
+    0
+}
+
+// The cart's next number for initiator s: 0, where there is no such initiator.
+fn next_by(carts: &[u64], number: CartNumber, s: u64) -> u64
+    requires { ⌜ HasRow (now carts) (number .0) ⌝ }
+    ensures { λ r. ⌜ r ≡ cartsIn (now (carts .entry)) .next (number .0) s ⌝ }
+{
+    if s < 16 {
+        return carts::next_of(carts, number, Station(s));
+    }
+    0
+}
+
+// "A message is named by its initiator and its number": message n of s is in room m. Most rooms have another number, so that is asked first.
+fn is_message(messages: &[u64], m: usize, s: u64, n: u64) -> bool
+    requires { ⌜ HasRoom (now messages) m ⌝ }
+    ensures { λ r. ⌜ r ≡ isMessage (tables [] [] (now (messages .entry))) s n m ⌝ }
+{
+    let number = messages::number_of(messages, m);
+    if number.0 != n {
+        return false;
+    }
+    let initiator = messages::initiator_of(messages, m);
+    if initiator.0 != s {
+        return false;
+    }
+    if messages::waiting_of(messages, m) == 0 {
+        return false;
+    }
+    true
+}
+
+// "no other held message has its name": no room before m has message n of s. A later room with it finds m.
+fn is_alone(messages: &[u64], m: usize, s: u64, n: u64) -> bool
+    requires { ⌜ (length (now messages) ≡ 192) × (m < 32) ⌝ }
+    ensures { λ r. ⌜ r ≡ test (all m (λ k. is (not (isMessage (tables [] [] (now (messages .entry))) s n k)))) ⌝ }
+{
+    let mut k: usize = 0;
+    while k < m {
+        if is_message(messages, k, s, n) {
+            return false;
+        }
+        k += 1;
+    }
+    true
+}
+
+// "where a station has handled its delete, the whole set has acknowledged": all n stations wait, or acked is the set. No word has a member
+// beyond 64, so more stations than that do not all wait.
+fn delete_ok(n: u64, waiting: u64, acked: u64, named: u64) -> bool
+    ensures { λ r. ⌜ r ≡ test (all n (λ t. when (is (not (has waiting t))) (eq acked named))) ⌝ }
+{
+    if acked == named {
+        return true;
+    }
+    if 64 < n {
+        return false;
+    }
+    cartset::is_within(cartset::all_below(n), waiting)
+}
+
+// "its initiator has given its number; no other held message has its name; where a station has handled its delete, the whole set has
+// acknowledged": the message in room m and the rooms before it.
+fn held_ok(stations: &[u64], messages: &[u64], m: usize) -> bool
+    requires { ⌜ (length (now stations) ≡ 1938) × (length (now messages) ≡ 192) × (m < 32) ⌝ }
+    ensures { λ r. ⌜ r ≡ test (heldBefore (tables (now (stations .entry)) [] (now (messages .entry))) m) ⌝ }
+{
+    let waiting = messages::waiting_of(messages, m);
+    if waiting == 0 {
+        return true;
+    }
+    let s = messages::initiator_of(messages, m);
+    let n = messages::number_of(messages, m);
+    if sent_by(stations, s.0) <= n.0 {
+        return false;
+    }
+    if !is_alone(messages, m, s.0, n.0) {
+        return false;
+    }
+    delete_ok(
+        stations::station_count(stations),
+        waiting,
+        messages::acked_of(messages, m),
+        messages::named_of(messages, m),
+    )
+}
+
+// The same of each room, and so of every two rooms.
+fn messages_ok(stations: &[u64], messages: &[u64]) -> bool
+    requires { ⌜ (length (now stations) ≡ 1938) × (length (now messages) ≡ 192) ⌝ }
+    ensures { λ r. ⌜ r ≡ test (all 32 (heldNames (tables (now (stations .entry)) [] (now (messages .entry))))) ⌝ }
+{
+    let mut m: usize = 0;
+    while m < 32 {
+        if !held_ok(stations, messages, m) {
+            return false;
+        }
+        m += 1;
+    }
+    true
+}
+
+// "is its next": n is the next number for initiator s of every cart in the set, which are walked from the least on.
+fn all_next(carts: &[u64], set: u64, s: u64, n: u64) -> bool
+    requires { ⌜ length (now carts) ≡ 1216 ⌝ }
+    ensures { λ r. ⌜ r ≡ test (all 64 (λ c. when (is (has set c)) (eq (cartsIn (now (carts .entry)) .next c s) n))) ⌝ }
+{
+    let mut rest = set;
+    while 0 < rest {
+        let number = cartset::first(rest);
+        if next_by(carts, CartNumber(number), s) != n {
+            return false;
+        }
+        rest = cartset::without_cart(rest, number);
+    }
+    true
+}
+
+// "a queued cart is local, the message is held, names it, and is its next": the carts queued at station t for the message in room m. The
+// mask of the station's local carts is right, so it says which are local.
+fn queue_ok(stations: &[u64], carts: &[u64], messages: &[u64], m: usize, t: Station) -> bool
+    requires { ⌜ Sized (now stations) (now carts) (now messages) × (m < 32) × (t .0 < 16) × (localRight (lent (now stations) (now carts) [] [] []) (t .0) ≡ true) ⌝ }
+    ensures { λ r. ⌜ r ≡ test (all 64 (queued (tables (now (stations .entry)) (now (carts .entry)) (now (messages .entry))) m (t .0))) ⌝ }
+{
+    let queue = stations::queue_of(stations, m, t);
+    if queue == 0 {
+        return true;
+    }
+    if messages::waiting_of(messages, m) == 0 {
+        return false;
+    }
+    if !cartset::is_within(queue, stations::local_of(stations, t)) {
+        return false;
+    }
+    if !cartset::is_within(queue, messages::named_of(messages, m)) {
+        return false;
+    }
+    let s = messages::initiator_of(messages, m);
+    let n = messages::number_of(messages, m);
+    all_next(carts, queue, s.0, n.0)
+}
+
+// "its sets are of the floor", with the greatest such set given; and the queue.
+fn entry_ok(
+    stations: &[u64],
+    carts: &[u64],
+    messages: &[u64],
+    m: usize,
+    t: Station,
+    most: u64,
+) -> bool
+    requires { ⌜ Sized (now stations) (now carts) (now messages) × (m < 32) × (t .0 < 16) × (localRight (lent (now stations) (now carts) [] [] []) (t .0) ≡ true) × (most ≡ mostOf (headIn (now stations) .carts)) ⌝ }
+    ensures { λ r. ⌜ r ≡ test (entryRule limits (tables (now (stations .entry)) (now (carts .entry)) (now (messages .entry))) m (t .0)) ⌝ }
+{
+    if most < stations::copy_of(stations, m, t) {
+        return false;
+    }
+    if most < stations::acks_of(stations, m, t) {
+        return false;
+    }
+    if most < stations::queue_of(stations, m, t) {
+        return false;
+    }
+    queue_ok(stations, carts, messages, m, t)
+}
+
+// The entries of every room at station t, which stand side by side.
+fn entries_at(stations: &[u64], carts: &[u64], messages: &[u64], t: Station, most: u64) -> bool
+    requires { ⌜ Sized (now stations) (now carts) (now messages) × (t .0 < 16) × (localRight (lent (now stations) (now carts) [] [] []) (t .0) ≡ true) × (most ≡ mostOf (headIn (now stations) .carts)) ⌝ }
+    ensures { λ r. ⌜ r ≡ test (all 32 (λ m. entryRule limits (tables (now (stations .entry)) (now (carts .entry)) (now (messages .entry))) m (t .0))) ⌝ }
+{
+    let mut m: usize = 0;
+    while m < 32 {
+        if !entry_ok(stations, carts, messages, m, t, most) {
+            return false;
+        }
+        m += 1;
+    }
+    true
+}
+
+// The entries of every room at every station.
+fn entries_ok(stations: &[u64], carts: &[u64], messages: &[u64]) -> bool
+    requires { ⌜ Sized (now stations) (now carts) (now messages) × ((t : ℕ) → t < 16 → localRight (lent (now stations) (now carts) [] [] []) t ≡ true) ⌝ }
+    ensures { λ r. ⌜ r ≡ test (all 32 (λ m. all 16 (entryRule limits (tables (now (stations .entry)) (now (carts .entry)) (now (messages .entry))) m))) ⌝ }
+{
+    let most = most_of(stations::cart_count(stations));
+    let mut t: u64 = 0;
+    while t < 16 {
+        if !entries_at(stations, carts, messages, Station(t), most) {
+            return false;
+        }
+        t += 1;
+    }
+    true
+}
+
+// None of the first k is in the set: none at all is, or the least is beyond them.
+fn none_below(set: u64, k: u64) -> bool
+    ensures { λ r. ⌜ r ≡ test (all k (λ c. is (not (has set c)))) ⌝ }
+{
+    if set == 0 {
+        return true;
+    }
+    if cartset::first(set) < k {
+        return false;
+    }
+    true
+}
+
+// Of the first k, every cart in the set has received message n of s: its next number is above. They are walked from the least on.
+fn all_past(carts: &[u64], set: u64, k: u64, s: u64, n: u64) -> bool
+    requires { ⌜ length (now carts) ≡ 1216 ⌝ }
+    ensures { λ r. ⌜ r ≡ test (all k (λ c. when (is (has set c)) (lt n (cartsIn (now (carts .entry)) .next c s)))) ⌝ }
+{
+    let mut rest = set;
+    while 0 < rest {
+        let number = cartset::first(rest);
+        if k <= number {
+            return true;
+        }
+        if next_by(carts, CartNumber(number), s) <= n {
+            return false;
+        }
+        rest = cartset::without_cart(rest, number);
+    }
+    true
+}
+
+// "the copy has only named carts; where the message has come, it has every named cart that has yet to receive it": so of the named carts
+// that the copy does not have, all have received it.
+fn copy_ok(stations: &[u64], carts: &[u64], messages: &[u64], m: usize, t: Station) -> bool
+    requires { ⌜ Sized (now stations) (now carts) (now messages) × (m < 32) × (t .0 < 16) ⌝ }
+    ensures { λ r. ⌜ r ≡ test (copySets (tables (now (stations .entry)) (now (carts .entry)) (now (messages .entry))) m (t .0)) ⌝ }
+{
+    let k = stations::cart_count(stations);
+    let named = messages::named_of(messages, m);
+    let copy = stations::copy_of(stations, m, t);
+    if !none_below(cartset::minus(copy, named), k) {
+        return false;
+    }
+    let s = messages::initiator_of(messages, m);
+    let n = messages::number_of(messages, m);
+    if expected_by(stations, t, s.0) <= n.0 {
+        return true;
+    }
+    all_past(carts, cartset::minus(named, copy), k, s.0, n.0)
+}
+
+// The copies of the message in room m, if it is held, at the stations of the floor. Beyond sixteen there is no copy, and nothing has come.
+fn copies_of(stations: &[u64], carts: &[u64], messages: &[u64], m: usize) -> bool
+    requires { ⌜ Sized (now stations) (now carts) (now messages) × (m < 32) ⌝ }
+    ensures { λ r. ⌜ r ≡ test (copiesRule (tables (now (stations .entry)) (now (carts .entry)) (now (messages .entry))) m) ⌝ }
+{
+    if messages::waiting_of(messages, m) == 0 {
+        return true;
+    }
+    let n = stations::station_count(stations);
+    let mut t: u64 = 0;
+    while t < 16 {
+        if n <= t {
+            return true;
+        }
+        if !copy_ok(stations, carts, messages, m, Station(t)) {
+            return false;
+        }
+        t += 1;
+    }
+    true
+}
+
+// The copies of every held message.
+fn copies_ok(stations: &[u64], carts: &[u64], messages: &[u64]) -> bool
+    requires { ⌜ Sized (now stations) (now carts) (now messages) ⌝ }
+    ensures { λ r. ⌜ r ≡ test (all 32 (copiesRule (tables (now (stations .entry)) (now (carts .entry)) (now (messages .entry))))) ⌝ }
+{
+    let mut m: usize = 0;
+    while m < 32 {
+        if !copies_of(stations, carts, messages, m) {
+            return false;
+        }
+        m += 1;
+    }
+    true
+}
+
+// THE FORM TEST OF THE TABLES: all of the above. The masks of local carts are tested before the queues, which go by them.
+pub fn tables_pass(stations: &[u64], carts: &[u64], messages: &[u64]) -> bool
+    requires { ⌜ Sized (now stations) (now carts) (now messages) ⌝ }
+    ensures { λ r. ⌜ r ≡ test (tablesRule (now (stations .entry)) (now (carts .entry)) (now (messages .entry))) ⌝ }
+{
+    if !counts_ok(stations) {
+        return false;
+    }
+    if !stations_ok(stations) {
+        return false;
+    }
+    if !places_ok(carts) {
+        return false;
+    }
+    if !texts_ok(messages) {
+        return false;
+    }
+    if !locals_ok(stations, carts) {
+        return false;
+    }
+    if !carts_ok(stations, carts) {
+        return false;
+    }
+    if !rooms_ok(stations, messages) {
+        return false;
+    }
+    if !messages_ok(stations, messages) {
+        return false;
+    }
+    if !entries_ok(stations, carts, messages) {
+        return false;
+    }
+    if !copies_ok(stations, carts, messages) {
+        return false;
+    }
+    true
+}

@@ -1,0 +1,13 @@
+pub mod Walks
+pub mod Split
+pub mod Reading
+pub mod Tallies
+pub mod Lines
+pub mod Totals
+pub mod Order
+pub mod Gathered
+pub mod Handoffs
+pub mod Clauses
+pub mod RecordRule
+pub mod Middle
+pub mod Theorem

@@ -1,0 +1,1 @@
+// THE FORM TEST OF THE LINES, over the lent parts.

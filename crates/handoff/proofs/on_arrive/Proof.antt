@@ -1,0 +1,51 @@
+-- `handoff::on_arrive` meets its contract.
+use mathlib.Core.Path.{ap, _∙_}
+use Rattle.carts.specs.declared.Cart.{Cart}
+use Rattle.carts.specs.View.{cartsIn, withCart}
+use borrow.Author.Needs.{needs}
+use Rattle.handoff.proofs.on_arrive.Statement.{statement}
+use Rattle.handoff.proofs.on_arrive.Tie as tie
+
+dock-requires : tie.Need-dock-requires
+dock-requires c κs = search needs
+
+cart-at-requires : tie.Need-cart-at-requires
+cart-at-requires c κs = search needs
+
+arrive-requires : tie.Need-arrive-requires
+arrive-requires c κs = search needs
+
+put-cart-requires : tie.Need-put-cart-requires
+put-cart-requires c κs = search needs
+
+same-length : tie.Need-same-length
+same-length c = search needs
+
+same-length-2 : tie.Need-same-length-2
+same-length-2 c = search needs
+
+returns : tie.Need-returns
+returns c =
+    let a = c .before .before .before .before .before .before .before .before .before .before .before .before .before .before .before .args in
+    let d = c .before .before .before .before .before .before .before .before .before .before .dock in
+    let k = c .before .before .before .arrive in
+    let kept = c .before .before .put-cart .ensures in
+    record {
+      upto = d .result .row;
+      docked = d .ensures;
+      carts = kept .0 ∙ ap (λ (x : Cart). withCart (cartsIn (a .carts .now)) (a .number .0) x) (k .ensures);
+      canonical = kept .1 .0;
+      length = kept .1 .1;
+    }
+
+pub on-arrive-spec : {M : Type 1} → statement M
+on-arrive-spec =
+    tie.close
+    (tie.spec
+    dock-requires
+    cart-at-requires
+    arrive-requires
+    put-cart-requires
+    same-length
+    same-length-2
+    returns)

@@ -1,0 +1,49 @@
+-- WHAT AN ARRIVAL LEAVES at the stations (S, then S′) and in the carts (C, then C′); M has the messages.
+use mathlib.Core.Path.{_≡_}
+use mathlib.Core.Bool.{true}
+use mathlib.Core.List.{List}
+use Prim.Native.Nat.{ℕ, _-_, _<_, _≤_}
+use lib.ListN.{length, getD}
+use Rattle.protocol.specs.Folds.{listOf, update}
+use Rattle.protocol.specs.CartSets.{with}
+use Rattle.protocol.specs.Floor.{Floor, at}
+use Rattle.stations.specs.View.{Stations, stationsIn, headIn, withLocal}
+use Rattle.carts.specs.View.{cartsIn, canonicalIn, withPlace, withRow}
+use Rattle.messages.specs.View.{roomsIn}
+use Rattle.queue.specs.Rooms.{tablesFloor}
+use Rattle.catchup.specs.Arrival.{nearestRow, stopIn, risen, occurs, queuedFor}
+use Rattle.handoff.specs.Struck.{struckFrom}
+
+-- "all next numbers 0"
+abbrev pub allZero : List ℕ
+allZero = listOf 16 (λ s. 0)
+
+-- "last number 65,534": no next number rises by more than can be sent
+abbrev pub Small : Floor → ℕ → List ℕ → List ℕ → Type 0
+Small F t row nearest = (s : ℕ) → s < 16 → stopIn F t row nearest s - getD row s 0 ≤ 65535
+
+-- cart c is queued at station t for each nearest message, and is on the local list
+abbrev pub joined : Stations → ℕ → ℕ → List ℕ → Stations
+joined S t c nearest = withLocal (queuedFor S t c (occurs nearest 16)) t (with (S .local t) c)
+
+-- cart c, with that row of next numbers, is struck at station t from what it has passed, has caught up to the next numbers `upto`, and is local
+pub record Docked (S S′ M : List ℕ) (t c : ℕ) (row upto : List ℕ) (passed : ℕ) : Type 0 where
+  -- the words of the stations once it is struck
+  pub struck : List ℕ
+  pub is-struck : stationsIn struck ≡ struckFrom (stationsIn S) (roomsIn M) t c row
+  -- the nearest message of each initiator there
+  pub nearest : List ℕ
+  pub is-nearest : nearest ≡ nearestRow (tablesFloor struck M) t c row 32
+  pub stations : stationsIn S′ ≡ joined (stationsIn struck) t c nearest
+  pub head : headIn S′ ≡ headIn S
+  pub table : length S′ ≡ length S
+  pub caught-up : upto ≡ listOf 16 (stopIn (tablesFloor struck M) t row nearest)
+  pub count : passed ≡ risen (tablesFloor struck M) t row nearest 16
+
+-- "and the cart is at this station"; so many numbers were passed over
+pub record Arrived (S S′ C C′ M : List ℕ) (t c : ℕ) (row : List ℕ) (passed : ℕ) : Type 0 where
+  pub upto : List ℕ
+  pub docked : Docked S S′ M t c row upto passed
+  pub carts : cartsIn C′ ≡ withRow (withPlace (cartsIn C) c (at t)) c upto
+  pub canonical : canonicalIn C′ ≡ update (canonicalIn C) c true
+  pub length : length C′ ≡ length C

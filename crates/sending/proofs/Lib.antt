@@ -1,0 +1,5 @@
+pub mod RoomLaws
+pub mod CopyLaws
+pub mod StartIs
+pub mod SendIs
+pub mod SendRoom

@@ -1,0 +1,54 @@
+-- A START OVER THE LENT PARTS IS THE WRITTEN START: the floor that they then say is the floor that an accepted start leaves.
+use mathlib.Core.Path.{_≡_, _∙_}
+use mathlib.Core.Bool.{true}
+use mathlib.Core.List.{List}
+use Prim.Native.Nat.{ℕ, _+_, _*_, _-_, _/_}
+use native.Mathlib.Omega.{arith}
+use lib.Dec.{eqb, leb}
+use lib.ListN.{length}
+use borrow.Author.Tests.{eq-eqb, le-leb}
+use Rattle.protocol.specs.Floor.{Floor, limits, justStarted}
+use Rattle.protocol.specs.Events.{start}
+use Rattle.protocol.specs.Step.{accept}
+use Rattle.protocol.proofs.Tests.{and-intro}
+use Rattle.lines.specs.Form.{sized}
+use Rattle.lines.specs.Words.{capacity}
+use Rattle.view.specs.View.{Lent, lent, floorIn}
+use Rattle.view.proofs.Lengths.{Lengths}
+use Rattle.view.proofs.Laid.{Laid}
+use Rattle.view.proofs.Started.{laid-start, start-view}
+use Rattle.sending.specs.Begun.{Begun}
+
+-- a pool of the right length is sized
+pub pool-sized : (l : List ℕ) → length l ≡ 10226 → sized l ≡ true
+unfolding sized capacity
+pool-sized l h =
+    and-intro (eqb (length l) (818 + (length l - 818) / 3 * 3)) (leb ((length l - 818) / 3) 3136)
+    (eq-eqb (length l) (818 + (length l - 818) / 3 * 3) (omega arith))
+    (le-leb ((length l - 818) / 3) 3136 (omega arith))
+
+module _ (S S′ C C′ M M′ W W′ T : List ℕ) (n k : ℕ) (sizes : Lengths (lent S C M W T)) (begun : Begun S S′ C C′ M M′ W W′ n k) where
+  abbrev L′ : Lent
+  L′ = lent S′ C′ M′ W′ T
+
+  lengths : Lengths L′
+  lengths =
+      record {
+        stations = begun .station-words ∙ sizes .stations;
+        carts = begun .cart-words ∙ sizes .carts;
+        messages = begun .room-words ∙ sizes .messages;
+        lines = begun .lines .words ∙ sizes .lines;
+        texts = sizes .texts;
+      }
+
+  pub laid : Laid L′
+  laid = laid-start S′ C′ M′ W W′ T n k (begun .top) (begun .stations) (begun .carts) (begun .canonical) (begun .rooms) (begun .lines) lengths
+
+  -- "it writes all the rest afresh"
+  pub start-is : floorIn L′ ≡ justStarted n k
+  start-is = start-view S′ C′ M′ W W′ T n k (begun .top) (begun .stations) (begun .carts) (begun .canonical) (begun .rooms) (begun .lines) lengths
+
+  -- so of an accepted start on any floor
+  pub accepted-start : (F : Floor) → floorIn L′ ≡ accept limits F (start n k) .floor
+  unfolding accept
+  accepted-start F = start-is

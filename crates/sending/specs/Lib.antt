@@ -1,0 +1,4 @@
+pub mod Rooms
+pub mod Copies
+pub mod Begun
+pub mod Sent

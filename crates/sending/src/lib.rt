@@ -1,0 +1,135 @@
+// START, AND SEND (of the wired module) over the lent parts.
+use ids::MessageNumber;
+use ids::Station;
+ghost use mathlib.Core.Path.{_≡_};
+ghost use mathlib.Core.Bool.{true};
+ghost use Prim.Native.Nat.{_+_, _<_, _≤_};
+ghost use lib.ListN.{length};
+ghost use Rattle.lines.specs.Form.{form};
+ghost use Rattle.lines.specs.Lines.{used};
+ghost use Rattle.lines.specs.Words.{capacity};
+ghost use Rattle.stations.specs.View.{HasStation, headIn, stationsIn};
+ghost use Rattle.sending.specs.Rooms.{firstFree};
+ghost use Rattle.sending.specs.Copies.{withoutCopy, withoutCopies};
+ghost use Rattle.sending.specs.Begun.{Begun};
+ghost use Rattle.sending.specs.Sent.{Kept, Sent};
+
+// How many rooms there are for held messages, and how many rows for stations.
+const ROOMS: usize = 32;
+
+const STATIONS: u64 = 16;
+
+// The mark that says started.
+const STARTED: u64 = 1;
+
+// "Its room is then used again": the first room whose message no station waits for any more; 32 where every room is taken.
+pub fn free_room(messages: &[u64]) -> usize
+    requires { ⌜ length (now messages) ≡ 192 ⌝ }
+    ensures { λ r. ⌜ r ≡ firstFree (now (messages .entry)) ⌝ }
+{
+    let mut m: usize = 0;
+    while m < ROOMS {
+        if messages::waiting_of(messages, m) == 0 {
+            return m;
+        }
+        m += 1;
+    }
+    m
+}
+
+// One station has no copy of the message in room m, no ack list and no entry for it.
+fn clear_copy(stations: &mut [u64], m: usize, station: Station)
+    requires { ⌜ HasStation (now stations) (station .0) × (m < 32) ⌝ }
+    ensures { λ _. ⌜ stationsIn (now (stations .exit)) ≡ withoutCopy (stationsIn (now (stations .entry))) m (station .0) ⌝ }
+    ensures { λ _. ⌜ headIn (now (stations .exit)) ≡ headIn (now (stations .entry)) ⌝ }
+    ensures { λ _. ⌜ length (now (stations .exit)) ≡ length (now (stations .entry)) ⌝ }
+{
+    stations::put_copy(stations, m, station, 0);
+    stations::put_acks(stations, m, station, 0);
+    stations::put_queue(stations, m, station, 0);
+}
+
+// No station has a copy of the message in room m yet, an ack list or an entry for it.
+pub fn clear_copies(stations: &mut [u64], m: usize)
+    requires { ⌜ (length (now stations) ≡ 1938) × (m < 32) ⌝ }
+    ensures { λ _. ⌜ stationsIn (now (stations .exit)) ≡ withoutCopies (stationsIn (now (stations .entry))) m ⌝ }
+    ensures { λ _. ⌜ headIn (now (stations .exit)) ≡ headIn (now (stations .entry)) ⌝ }
+    ensures { λ _. ⌜ length (now (stations .exit)) ≡ length (now (stations .entry)) ⌝ }
+{
+    let mut t: u64 = 0;
+    while t < STATIONS {
+        clear_copy(stations, m, Station(t));
+        t += 1;
+    }
+}
+
+// "it writes all the rest afresh": a floor of n stations and k carts, with nothing on it but its mark. Texts have no length, so none is there.
+pub fn start_floor(
+    stations: &mut [u64],
+    carts: &mut [u64],
+    messages: &mut [u64],
+    lines: &mut [u64],
+    n: u64,
+    k: u64,
+)
+    requires { ⌜ (length (now stations) ≡ 1938) × (length (now lines) ≡ 10226) ⌝ }
+    ensures { λ _. ⌜ Begun (now (stations .entry)) (now (stations .exit)) (now (carts .entry)) (now (carts .exit)) (now (messages .entry)) (now (messages .exit)) (now (lines .entry)) (now (lines .exit)) n k ⌝ }
+{
+    stations::clear_stations(stations);
+    stations::put_head(stations, STARTED, n, k);
+    carts::clear_carts(carts);
+    messages::clear_messages(messages);
+    lines::clear(lines);
+}
+
+// The message and its text, into room m: "The initiator keeps the set as sent"; nobody has acknowledged it, and none of n stations has handled its
+// delete.
+fn keep_message(
+    messages: &mut [u64],
+    texts: &mut [u8],
+    m: usize,
+    s: Station,
+    n: u64,
+    number: MessageNumber,
+    set: u64,
+    text: &[u8],
+)
+    requires { ⌜ (length (now messages) ≡ 192) × (length (now texts) ≡ 1024) × (length (now text) ≤ 32) × (m < 32) × (n ≤ 16) ⌝ }
+    ensures { λ _. ⌜ Kept (now (messages .entry)) (now (messages .exit)) (now (texts .entry)) (now (texts .exit)) m (s .0) n (number .0) set (now (text .entry)) ⌝ }
+{
+    messages::put_message(
+        messages,
+        m,
+        s,
+        number,
+        set,
+        cartset::all_below(n),
+        text.len() as u64,
+    );
+    messages::put_text(texts, m, text);
+}
+
+// "Send (station, set, text): the message takes the station's number; a multicast goes on the line to every station", into room m, on a floor of
+// n stations.
+pub fn on_send(
+    stations: &mut [u64],
+    messages: &mut [u64],
+    lines: &mut [u64],
+    texts: &mut [u8],
+    m: usize,
+    s: Station,
+    n: u64,
+    number: MessageNumber,
+    set: u64,
+    text: &[u8],
+)
+    requires { ⌜ (length (now stations) ≡ 1938) × (length (now messages) ≡ 192) × (length (now texts) ≡ 1024) × (length (now text) ≤ 32) ⌝ }
+    requires { ⌜ (m < 32) × (s .0 < 16) × (n ≤ 16) × (number .0 < 65536) ⌝ }
+    requires { ⌜ (form (now lines) ≡ true) × (used (now lines) + n ≤ capacity (now lines)) ⌝ }
+    ensures { λ _. ⌜ Sent (now (stations .entry)) (now (stations .exit)) (now (messages .entry)) (now (messages .exit)) (now (lines .entry)) (now (lines .exit)) (now (texts .entry)) (now (texts .exit)) m (s .0) n (number .0) set (now (text .entry)) ⌝ }
+{
+    keep_message(messages, texts, m, s, n, number, set, text);
+    clear_copies(stations, m);
+    stations::put_sent(stations, s, number.next().0);
+    everyline::push_to_every(lines, s, n, view::multicast(m, number));
+}

@@ -1,0 +1,10 @@
+pub mod Walk
+pub mod Stores
+pub mod LaidAgain
+pub mod Head
+pub mod DeleteIs
+pub mod RoomFor
+pub mod AckListIs
+pub mod QuietCarts
+pub mod MulticastSets
+pub mod MulticastIs

@@ -1,0 +1,143 @@
+// THE WIRED MODULE over the lent parts: the records of a message, handled at a station once they are off their line.
+use ids::CartNumber;
+use ids::MessageNumber;
+use ids::Station;
+use lines::Record;
+ghost use mathlib.Core.Path.{_≡_};
+ghost use mathlib.Core.Bool.{true, cond};
+ghost use Prim.Native.Nat.{_+_, _<_, _≤_};
+ghost use lib.ListN.{length};
+ghost use Rattle.protocol.specs.CartSets.{union, with};
+ghost use Rattle.stations.specs.View.{HasStation, stationsIn};
+ghost use Rattle.carts.specs.View.{cartsIn};
+ghost use Rattle.messages.specs.View.{HasRoom, roomsIn};
+ghost use Rattle.lines.specs.Form.{form};
+ghost use Rattle.lines.specs.Lines.{used};
+ghost use Rattle.lines.specs.Words.{capacity};
+ghost use Rattle.view.specs.Records.{indexOf, numberOf};
+ghost use Rattle.wired.specs.Handled.{dueAmong, pastAmong, Raised, Stored, Buffered, Deleted, Acknowledged};
+
+// The carts of a set as a message comes: those whose next number is its number, and those whose next number is greater.
+struct Met(u64, u64);
+
+// The set, and the cart if it joins.
+fn with_if(set: u64, cart: u64, joins: bool) -> u64
+    requires { ⌜ cart < 64 ⌝ }
+    ensures { λ r. ⌜ r ≡ cond joins (with set cart) set ⌝ }
+{
+    if joins {
+        cartset::with_cart(set, cart)
+    } else {
+        set
+    }
+}
+
+// "For each local cart: next number equal ..; greater ..".
+fn meet(carts: &[u64], local: u64, initiator: Station, number: u64) -> Met
+    requires { ⌜ (length (now carts) ≡ 1216) × (initiator .0 < 16) ⌝ }
+    ensures { λ r. ⌜ r .0 ≡ dueAmong (cartsIn (now (carts .entry))) local (initiator .0) number ⌝ }
+    ensures { λ r. ⌜ r .1 ≡ pastAmong (cartsIn (now (carts .entry))) local (initiator .0) number ⌝ }
+{
+    let mut due: u64 = 0;
+    let mut past: u64 = 0;
+    let mut left = local;
+    while 0 < left {
+        let cart = cartset::first(left);
+        left = cartset::without_cart(left, cart);
+        let next = carts::next_of(carts, CartNumber(cart), initiator);
+        due = with_if(due, cart, next == number);
+        past = with_if(past, cart, number < next);
+    }
+    Met(due, past)
+}
+
+// "its next number rises": that of each cart of the set.
+fn raise(carts: &mut [u64], over: u64, initiator: Station, number: u64)
+    requires { ⌜ (length (now carts) ≡ 1216) × (initiator .0 < 16) ⌝ }
+    ensures { λ _. ⌜ Raised (now (carts .entry)) (now (carts .exit)) over (initiator .0) number ⌝ }
+{
+    let mut left = over;
+    while 0 < left {
+        let cart = cartset::first(left);
+        left = cartset::without_cart(left, cart);
+        carts::put_next(carts, CartNumber(cart), initiator, number);
+    }
+}
+
+// The copy and the queue's entry of the message in room m; "the expected number rises by one".
+fn store(stations: &mut [u64], m: usize, initiator: Station, to: Station, copy: u64, queue: u64)
+    requires { ⌜ HasStation (now stations) (to .0) × (m < 32) × (initiator .0 < 16) × (stationsIn (now stations) .expected (to .0) (initiator .0) < 65536) ⌝ }
+    ensures { λ _. ⌜ Stored (now (stations .entry)) (now (stations .exit)) m (initiator .0) (to .0) copy queue ⌝ }
+{
+    let expected = stations::expected_of(stations, to, initiator);
+    stations::put_copy(stations, m, to, copy);
+    stations::put_queue(stations, m, to, queue);
+    stations::put_expected(stations, to, initiator, expected + 1);
+}
+
+// "Multicast: the message is buffered with its own copy of the set. For each local cart: next number equal and cart named, it is queued for that
+// message; equal and not named, its next number rises; greater and named, it is struck from the copy." Answers how many numbers rise.
+pub fn on_multicast(
+    stations: &mut [u64],
+    carts: &mut [u64],
+    messages: &[u64],
+    said: Record,
+    initiator: Station,
+    to: Station,
+) -> u64
+    requires { ⌜ HasStation (now stations) (to .0) × (initiator .0 < 16) × (stationsIn (now stations) .expected (to .0) (initiator .0) < 65536) ⌝ }
+    requires { ⌜ (length (now carts) ≡ 1216) × HasRoom (now messages) (indexOf (said .0)) × (indexOf (said .0) < 32) × (numberOf (said .0) < 65536) ⌝ }
+    ensures { λ r. ⌜ Buffered (now (stations .entry)) (now (stations .exit)) (now (carts .entry)) (now (carts .exit)) (now (messages .entry)) (indexOf (said .0)) (numberOf (said .0)) (initiator .0) (to .0) r ⌝ }
+{
+    let m = view::index_of(said) as usize;
+    let number = view::number_of(said);
+    let named = messages::named_of(messages, m);
+    let met = meet(carts, stations::local_of(stations, to), initiator, number);
+    let over = cartset::minus(met.0, named);
+    raise(carts, over, initiator, number + 1);
+    store(
+        stations,
+        m,
+        initiator,
+        to,
+        cartset::minus(named, met.1),
+        cartset::minus(met.0, over),
+    );
+    cartset::count(over)
+}
+
+// "Delete: the message leaves this station's buffer."
+pub fn on_delete(messages: &mut [u64], said: Record, to: Station)
+    requires { ⌜ HasRoom (now messages) (indexOf (said .0)) × (to .0 < 16) ⌝ }
+    ensures { λ _. ⌜ Deleted (now (messages .entry)) (now (messages .exit)) (indexOf (said .0)) (to .0) ⌝ }
+{
+    let m = view::index_of(said) as usize;
+    let waiting = messages::waiting_of(messages, m);
+    messages::put_waiting(messages, m, cartset::without_cart(waiting, to.0));
+}
+
+// "Ack list: the initiator adds its carts. When they make up the whole set, a delete goes to every station": to the first n, and so many
+// records go on lines.
+pub fn on_ack_list(
+    messages: &mut [u64],
+    lines: &mut [u64],
+    said: Record,
+    initiator: Station,
+    n: u64,
+) -> u64
+    requires { ⌜ HasRoom (now messages) (indexOf (said .0)) × (indexOf (said .0) < 32) × (numberOf (said .0) < 65536) ⌝ }
+    requires { ⌜ (initiator .0 < 16) × (n ≤ 16) × (form (now lines) ≡ true) ⌝ }
+    requires { ⌜ (union (roomsIn (now messages) .acked (indexOf (said .0))) (said .1) ≡ roomsIn (now messages) .named (indexOf (said .0)) → used (now lines) + n ≤ capacity (now lines)) ⌝ }
+    ensures { λ r. ⌜ Acknowledged (now (messages .entry)) (now (messages .exit)) (now (lines .entry)) (now (lines .exit)) (indexOf (said .0)) (numberOf (said .0)) (said .1) (initiator .0) n r ⌝ }
+{
+    let m = view::index_of(said) as usize;
+    let known = cartset::union(messages::acked_of(messages, m), said.1);
+    let named = messages::named_of(messages, m);
+    messages::put_acked(messages, m, known);
+    if known != named {
+        return 0;
+    }
+    let number = MessageNumber(view::number_of(said));
+    everyline::push_to_every(lines, initiator, n, view::delete(m, number));
+    n
+}

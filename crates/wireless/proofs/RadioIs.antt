@@ -1,0 +1,327 @@
+-- A MESSAGE HANDED OVER in the lent parts is the written radio step: the floor that they then say is the floor of that step.
+use mathlib.Core.Path.{_≡_, refl, sym, ap, ap₂, _∙_, subst, fun-ext}
+use mathlib.Core.Bool.{Bool, true, false, cond, _&&_, not}
+use mathlib.Core.List.{List, [], _∷_, _++_, append-nil}
+use mathlib.Core.Option.{Option, none, some}
+use Prim.Native.Nat.{ℕ, suc, _+_, _-_, _*_, _≤_, _<_, _^_}
+use native.Mathlib.Omega.{arith}
+use lib.Dec.{eqb}
+use borrow.Author.Tests.{eq-eqb}
+use Rattle.protocol.specs.Folds.{update, update2, byOption}
+use Rattle.protocol.specs.CartSets.{setOf, minus, with}
+use Rattle.protocol.specs.Floor.{Floor, limits, Place, Carts, at, travelling, Record, ackList, put, between, localTo, push, setNext, setCopy, setAcks, setQueue}
+use Rattle.protocol.specs.Form.{handoffs, handoffOf}
+use Rattle.protocol.specs.Handoff.{Stop, catchUp, catchUpStop, enqueue, rowOf}
+use Rattle.protocol.specs.Wireless.{receive, allAcked, sendAcks, sendAcksIfAll, handOver, onRadio, queueHead}
+use Rattle.protocol.proofs.Tests.{on-update, on-update2, on-cond, update2-at, by-test, both-differ, eqb-self}
+use Rattle.protocol.proofs.FloorLaws.{at-is}
+use Rattle.protocol.proofs.Accepted.{MayRadio}
+use Rattle.protocol.proofs.Invariant.{Queued}
+use Rattle.protocol.proofs.Updates.{handoffs-append}
+use Rattle.stations.specs.View.{Stations, Head, headIn, stationsIn, withCopy, withAcks, withQueue}
+use Rattle.carts.specs.View.{cartsIn, canonicalIn, withNext}
+use Rattle.messages.specs.View.{Rooms, roomsIn}
+use Rattle.lines.specs.Post.{Pushed}
+use Rattle.view.specs.Records.{linesIn, wordsOf, recordIn, isIn}
+use Rattle.view.specs.View.{Lent, lent, lengthsIn, wordsIn, localRight, textsIn, floorOf, floorIn}
+use Rattle.view.proofs.LinesView.{push-view}
+use Rattle.view.proofs.Lengths.{Lengths, lengths-right}
+use Rattle.view.proofs.Laid.{Laid, words-right, laid-stations, laid-carts, laid-push}
+use Rattle.view.proofs.Registers.{NoRegister, none-unless-travelling, lines-kept}
+use Rattle.view.proofs.RecordWords.{ack-list-is, ack-list-right}
+use Rattle.view.proofs.Standing.{Standing}
+use Rattle.queue.specs.Rooms.{tablesFloor, roomCode, roomIn}
+use Rattle.queue.proofs.AckLaws.{all-acked}
+use Rattle.catchup.proofs.RoomLaws.{nearest-decoded}
+use Rattle.catchup.proofs.QueueLaws.{queued-none}
+use Rattle.catchup.proofs.Stops.{lent-agree, stops-there, stop-found}
+use Rattle.catchup.specs.Nearest.{nearestAmong, stopBy}
+use Rattle.catchup.specs.Arrival.{isFound, queuedFor}
+use Rattle.wireless.specs.Handed.{tookFrom, Received, holdNone, AcksSent, nearestFrom, CaughtUp, HandedOver}
+
+-- THE FIRST PART: from any lent parts that lie right
+module _ (S S₁ C C₁ M W T : List ℕ) (m s t c : ℕ) (sizes : Lengths (lent S C M W T)) (laid : Laid (lent S C M W T))
+    (received : Received S S₁ C C₁ m s t c) (due : cartsIn C .next c s ≡ roomsIn M .number m) (from : s ≡ roomsIn M .initiator m)
+    (none-there : (i j : ℕ) → NoRegister (handoffs c (linesIn (cartsIn C .next) W i j))) where
+  abbrev L : Lent
+  L = lent S C M W T
+
+  abbrev L₁ : Lent
+  L₁ = lent S₁ C₁ M W T
+
+  pub lengths₁ : Lengths L₁
+  lengths₁ = record { stations = received .words ∙ sizes .stations; carts = received .rows ∙ sizes .carts; messages = sizes .messages; lines = sizes .lines; texts = sizes .texts }
+
+  pub laid₁ : Laid L₁
+  laid₁ =
+      laid-carts S C M W T laid S₁ C₁
+      (λ d ld. ap (λ (f : ℕ → Bool). f d) (received .canonical) ∙ on-update (λ (b : Bool). b ≡ true) (canonicalIn C) c true d (λ q. refl) (λ q. laid .canonical d ld))
+      (λ u l. ap (λ (X : Stations). X .local u) (received .stations) ∙ laid .local u l ∙ ap (λ (K : Carts). setOf 64 (λ d. localTo (K .place d) u)) (sym (received .carts)))
+
+  -- only that cart's numbers are others
+  pub others₁ : (d u : ℕ) → (d ≡ c → ⊥) → cartsIn C₁ .next d u ≡ cartsIn C .next d u
+  others₁ d u h = ap (λ (K : Carts). K .next d u) (received .carts) ∙ on-update2 (λ (x : ℕ). x ≡ cartsIn C .next d u) (cartsIn C .next) c s (cartsIn C .next c s + 1) d u (λ e f. absurd (h e)) (λ e. refl)
+
+  pub lines₁ : linesIn (cartsIn C₁ .next) W ≡ linesIn (cartsIn C .next) W
+  lines₁ = lines-kept (cartsIn C .next) (cartsIn C₁ .next) c others₁ W none-there
+
+  carts₁ : cartsIn C₁ ≡ withNext (cartsIn C) c (roomsIn M .initiator m) (suc (roomsIn M .number m))
+  carts₁ = let n : cartsIn C .next c s + 1 ≡ suc (roomsIn M .number m) = omega arith in received .carts ∙ ap₂ (withNext (cartsIn C) c) from n
+
+  pub received-is : floorIn L₁ ≡ receive (floorIn L) m t c
+  unfolding receive
+  received-is =
+      λ i. floorOf ((lengths-right L₁ lengths₁ ∙ sym (lengths-right L sizes)) i) ((words-right L₁ laid₁ ∙ sym (words-right L laid)) i)
+      (received .head i) (received .stations i) (carts₁ i) (roomsIn M) (textsIn T (roomsIn M)) (lines₁ i)
+
+-- THE SECOND: the ack list goes if nobody holds it back
+module _ (S₁ S₂ C₁ M W W′ T : List ℕ) (m t w : ℕ) (sizes : Lengths (lent S₁ C₁ M W T)) (laid : Laid (lent S₁ C₁ M W T))
+    (lm : m < 32) (lt : t < 16) (few : headIn S₁ .carts ≤ 64) (ls : roomsIn M .initiator m < 16) (fits : stationsIn S₁ .copy m t < 2 ^ headIn S₁ .carts) (held : eqb (roomsIn M .waiting m) 0 ≡ false)
+    (acks : AcksSent S₁ S₂ W W′ m (roomsIn M .initiator m) (roomsIn M .number m) t w) where
+  abbrev L₁′ : Lent
+  L₁′ = lent S₁ C₁ M W T
+
+  abbrev L₂ : Lent
+  L₂ = lent S₂ C₁ M W′ T
+
+  abbrev s : ℕ
+  s = roomsIn M .initiator m
+
+  abbrev n : ℕ
+  n = roomsIn M .number m
+
+  abbrev X : Stations
+  X = stationsIn S₁
+
+  abbrev said : ℕ → Record
+  said x = ackList n x
+
+  -- the code's test is the written one
+  all-is : holdNone X m t ≡ allAcked (floorIn L₁′) m t
+  unfolding localRight
+  all-is = all-acked L₁′ m t (eq-eqb (X .local t) _ (laid .local t lt)) few fits
+
+  in-room : isIn (roomsIn M) s n m ≡ true
+  in-room = rw (held, eqb-self s, eqb-self n) refl
+
+  when-all : (holdNone X m t ≡ true) → Lengths L₂ × Laid L₂ × (floorIn L₂ ≡ sendAcks (floorIn L₁′) m t)
+  unfolding sendAcks
+  when-all e =
+      let y = acks .yes e in
+      let lengths₂ : Lengths L₂ =
+      record { stations = acks .words ∙ sizes .stations; carts = sizes .carts; messages = sizes .messages; lines = y .1 .words ∙ sizes .lines; texts = sizes .texts } in
+      let laid₂ : Laid L₂ =
+      laid-push S₂ C₁ M W T (laid-stations S₁ C₁ M W T laid S₂ (λ u l. ap (λ (Y : Stations). Y .local u) (y .0))) W′ t s (wordsOf 2 m n (X .acks m t)) lt ls (y .1)
+      (ack-list-right (roomsIn M) t s m n (X .acks m t) (omega arith) in-room) in (
+        lengths₂,
+        laid₂,
+        λ i. floorOf ((lengths-right L₂ lengths₂ ∙ sym (lengths-right L₁′ sizes)) i) ((words-right L₂ laid₂ ∙ sym (words-right L₁′ laid)) i)
+            (acks .head i) (y .0 i) (cartsIn C₁) (roomsIn M) (textsIn T (roomsIn M))
+            ((push-view (cartsIn C₁ .next) W W′ t s (wordsOf 2 m n (X .acks m t)) lt ls (y .1)
+            ∙ ap (λ (r : Record). put (between t s) r (linesIn (cartsIn C₁ .next) W)) (ack-list-is (cartsIn C₁ .next) m n (X .acks m t) (omega arith))) i),
+      )
+
+  when-not : (holdNone X m t ≡ false) → Lengths L₂ × Laid L₂ × (floorIn L₂ ≡ floorIn L₁′)
+  when-not e =
+      let y = acks .no e in
+      let same : (Z : List ℕ) → Z ≡ W → Lengths (lent S₂ C₁ M Z T) × Laid (lent S₂ C₁ M Z T) × (floorIn (lent S₂ C₁ M Z T) ≡ floorIn L₁′) =
+      λ Z q. subst (λ (Z : List ℕ). Lengths (lent S₂ C₁ M Z T) × Laid (lent S₂ C₁ M Z T) × (floorIn (lent S₂ C₁ M Z T) ≡ floorIn L₁′)) (sym q) stays in
+      same W′ (y .1)
+    where
+      K : Lent
+      K = lent S₂ C₁ M W T
+
+      lengthsK : Lengths K
+      lengthsK = record { stations = acks .words ∙ sizes .stations; carts = sizes .carts; messages = sizes .messages; lines = sizes .lines; texts = sizes .texts }
+
+      laidK : Laid K
+      laidK = laid-stations S₁ C₁ M W T laid S₂ (λ u l. ap (λ (Y : Stations). Y .local u) (acks .no e .0))
+
+      stays : Lengths (lent S₂ C₁ M W T) × Laid (lent S₂ C₁ M W T) × (floorIn (lent S₂ C₁ M W T) ≡ floorIn L₁′)
+      stays = (
+        lengthsK,
+        laidK,
+        λ i. floorOf ((lengths-right K lengthsK ∙ sym (lengths-right L₁′ sizes)) i) ((words-right K laidK ∙ sym (words-right L₁′ laid)) i)
+            (acks .head i) (acks .no e .0 i) (cartsIn C₁) (roomsIn M) (textsIn T (roomsIn M)) (linesIn (cartsIn C₁ .next) W),
+      )
+
+  -- and the number of records that went is the written one
+  pub acks-are : Lengths L₂ × Laid L₂ × (floorIn L₂ ≡ sendAcksIfAll (floorIn L₁′) m t) × (w ≡ cond (allAcked (floorIn L₁′) m t) 1 0)
+  acks-are =
+      by-test (holdNone X m t)
+      (λ e. let y = when-all e in let all : allAcked (floorIn L₁′) m t ≡ true = sym all-is ∙ e in (y .0, y .1, rw all (y .2), rw all (acks .yes e .2)))
+      (λ e. let y = when-not e in let some : allAcked (floorIn L₁′) m t ≡ false = sym all-is ∙ e in (y .0, y .1, rw some (y .2), rw some (acks .no e .2)))
+
+-- THE THIRD: catch-up for that initiator
+same-stop : (r : Stop) (u : ℕ) (o : Option ℕ) → r .upto ≡ u → r .found ≡ o → r ≡ record { upto = u; found = o }
+same-stop r u o p q = λ i. record { upto = p i; found = q i }
+
+module _ (S₂ S′ C₁ C′ M W T : List ℕ) (s t c x p : ℕ) (sizes : Lengths (lent S₂ C₁ M W T)) (laid : Laid (lent S₂ C₁ M W T))
+    (caught : CaughtUp S₂ S′ C₁ C′ M s t c x p) (next-is : cartsIn C₁ .next c s ≡ x)
+    (none-there : (i j : ℕ) → NoRegister (handoffs c (linesIn (cartsIn C₁ .next) W i j))) where
+  abbrev L₂′ : Lent
+  L₂′ = lent S₂ C₁ M W T
+
+  abbrev L₃ : Lent
+  L₃ = lent S′ C′ M W T
+
+  abbrev G : Floor
+  G = floorIn L₂′
+
+  abbrev o : Option ℕ
+  o = nearestFrom (tablesFloor S₂ M) t c s x
+
+  abbrev u : ℕ
+  u = stopBy (tablesFloor S₂ M) t s x o .upto
+
+  lengths₃ : Lengths L₃
+  lengths₃ = record { stations = caught .words ∙ sizes .stations; carts = caught .rows ∙ sizes .carts; messages = sizes .messages; lines = sizes .lines; texts = sizes .texts }
+
+  laid₃ : Laid L₃
+  laid₃ =
+      laid-carts S₂ C₁ M W T laid S′ C′ (λ d ld. ap (λ (f : ℕ → Bool). f d) (caught .canonical) ∙ laid .canonical d ld)
+      (λ v l. ap (λ (Y : Stations). Y .local v) (caught .stations) ∙ laid .local v l ∙ ap (λ (K : Carts). setOf 64 (λ d. localTo (K .place d) v)) (sym (caught .carts)))
+
+  lines₃ : linesIn (cartsIn C′ .next) W ≡ linesIn (cartsIn C₁ .next) W
+  lines₃ =
+      lines-kept (cartsIn C₁ .next) (cartsIn C′ .next) c
+      (λ d v h. ap (λ (K : Carts). K .next d v) (caught .carts) ∙ on-update2 (λ (y : ℕ). y ≡ cartsIn C₁ .next d v) (cartsIn C₁ .next) c s u d v (λ e f. absurd (h e)) (λ e. refl))
+      W none-there
+
+  -- where the code stopped is where the written loop stops
+  stop-is : catchUpStop limits G t c s ≡ record { upto = u; found = o }
+  stop-is =
+      let a = stops-there G S₂ M (lent-agree L₂′) t c s (roomCode (nearestAmong (tablesFloor S₂ M) t c s (G .next c s) 32)) refl in
+      sym a ∙ ap (λ (h : Option ℕ). stopBy (tablesFloor S₂ M) t s (G .next c s) h) (nearest-decoded (tablesFloor S₂ M) t c s (G .next c s) 32 (omega arith))
+      ∙ ap (λ (y : ℕ). stopBy (tablesFloor S₂ M) t s y (nearestAmong (tablesFloor S₂ M) t c s y 32)) next-is
+      ∙ same-stop (stopBy (tablesFloor S₂ M) t s x o) u o refl (stop-found (tablesFloor S₂ M) t s x o)
+
+  -- the floor with that number, and the queues that the code left
+  abbrev raised : Floor
+  raised = setNext G (update2 (G .next) c s u)
+
+  queued : (h : Option ℕ) → floorOf (lengthsIn L₂′) (wordsIn L₂′) (headIn S₂) (queuedFor (stationsIn S₂) t c (isFound h)) (withNext (cartsIn C₁) c s u) (roomsIn M) (textsIn T (roomsIn M)) (linesIn (cartsIn C₁ .next) W)
+      ≡ byOption h raised (λ k. enqueue raised k t c)
+  queued none = λ i. floorOf (lengthsIn L₂′) (wordsIn L₂′) (headIn S₂) (sym (queued-none (stationsIn S₂) t c (λ k. false) (λ k. refl)) i) (withNext (cartsIn C₁) c s u) (roomsIn M) (textsIn T (roomsIn M)) (linesIn (cartsIn C₁ .next) W)
+  queued (some k) = λ i. floorOf (lengthsIn L₂′) (wordsIn L₂′) (headIn S₂) (one k i) (withNext (cartsIn C₁) c s u) (roomsIn M) (textsIn T (roomsIn M)) (linesIn (cartsIn C₁ .next) W)
+    where
+      queue-of : (k d v : ℕ) → cond (eqb v t && eqb d k) (with (stationsIn S₂ .queue d v) c) (stationsIn S₂ .queue d v) ≡ update2 (stationsIn S₂ .queue) k t (with (stationsIn S₂ .queue k t) c) d v
+      queue-of k d v =
+          on-update2 (λ (y : ℕ). cond (eqb v t && eqb d k) (with (stationsIn S₂ .queue d v) c) (stationsIn S₂ .queue d v) ≡ y) (stationsIn S₂ .queue) k t (with (stationsIn S₂ .queue k t) c) d v
+          (λ e f. rw (eq-eqb v t f, eq-eqb d k e) (rw (e, f) refl))
+          (λ h. rw (both-differ v t d k (λ f e. h e f)) refl)
+
+      one : (k : ℕ) → queuedFor (stationsIn S₂) t c (isFound (some k)) ≡ withQueue (stationsIn S₂) k t (with (stationsIn S₂ .queue k t) c)
+      one k = λ i. record {
+        sent = stationsIn S₂ .sent;
+        expected = stationsIn S₂ .expected;
+        local = stationsIn S₂ .local;
+        copy = stationsIn S₂ .copy;
+        acks = stationsIn S₂ .acks;
+        queue = λ d v. queue-of k d v i;
+      }
+
+  pub caught-is : floorIn L₃ ≡ catchUp limits G t c s
+  unfolding catchUp
+  caught-is =
+      rw stop-is
+      ((λ i. floorOf ((lengths-right L₃ lengths₃ ∙ sym (lengths-right L₂′ sizes)) i) ((words-right L₃ laid₃ ∙ sym (words-right L₂′ laid)) i)
+      (caught .head i) (caught .stations i) (caught .carts i) (roomsIn M) (textsIn T (roomsIn M)) (lines₃ i)) ∙ queued o)
+
+-- THE WHOLE STEP
+no-register-behind : (c n x : ℕ) (l : List Record) → NoRegister (handoffs c l) → NoRegister (handoffs c (l ++ (ackList n x ∷ [])))
+no-register-behind c n x l h = subst NoRegister (sym (handoffs-append c l (ackList n x ∷ []) ∙ append-nil (handoffs c l))) h
+
+module _ (S S′ C C′ M W W′ T : List ℕ) (m t c p w : ℕ) (X : Standing (lent S C M W T)) (may : MayRadio limits (floorIn (lent S C M W T)) t c m)
+    (over : HandedOver S S′ C C′ M W W′ m (roomsIn M .initiator m) (roomsIn M .number m) t c p w) where
+  abbrev K₀ : Lent
+  K₀ = lent S C M W T
+
+  abbrev F : Floor
+  F = floorIn K₀
+
+  abbrev i₀ : ℕ
+  i₀ = roomsIn M .initiator m
+
+  abbrev n₀ : ℕ
+  n₀ = roomsIn M .number m
+
+  abbrev K₁ : Lent
+  K₁ = lent (over .S₁) (over .C₁) M W T
+
+  abbrev K₂ : Lent
+  K₂ = lent (over .S₂) (over .C₁) M W′ T
+
+  is-queued : Queued limits (F .waiting) (F .initiator) (F .number) (F .named) (F .place) (F .next) m t c
+  is-queued = X .facts .queues m t c (may .queued)
+
+  -- what the code asks
+  pub radio-numbers : (m < 32) × (t < 16) × (c < 64) × (i₀ < 16) × (n₀ < 65536) × (F .next c i₀ ≡ n₀)
+  radio-numbers =
+      let a = X .facts .kept m (is-queued .held) in
+      let b = X .facts .senders i₀ (omega arith) in
+      let d = X .sized .counts .stations in
+      let e = X .sized .counts .carts in
+      let f = X .sized .numbers i₀ in
+      let g = may .station in
+      let h = may .cart in
+      (is-queued .held .slot, omega arith, omega arith, omega arith, omega arith, is-queued .due)
+
+  not-travelling : (a b : ℕ) → F .place c ≡ travelling a b → ⊥
+  not-travelling a b q = let z : at t ≡ travelling a b = sym (at-is (F .place c) t (may .is-at)) ∙ q in let y : _≡_ {A = ℕ} 0 1 = cc in omega arith
+
+  none₀ : (i j : ℕ) → NoRegister (handoffs c (F .lines i j))
+  none₀ i j = subst NoRegister (sym (X .facts .handoffs-right c i j)) (none-unless-travelling (F .place c) i j (rowOf limits (F .next c)) not-travelling)
+
+  one : floorIn K₁ ≡ receive F m t c
+  one = received-is S (over .S₁) C (over .C₁) M W T m i₀ t c (X .lengths) (X .laid) (over .received) (is-queued .due) refl none₀
+
+  two : Lengths K₂ × Laid K₂ × (floorIn K₂ ≡ sendAcksIfAll (floorIn K₁) m t) × (w ≡ cond (allAcked (floorIn K₁) m t) 1 0)
+  two =
+      let r = radio-numbers in
+      let top = over .received .head in
+      let many : headIn (over .S₁) .carts ≡ headIn S .carts = ap (λ (h : Head). h .carts) top in
+      let copy : stationsIn (over .S₁) .copy m t ≡ stationsIn S .copy m t = ap (λ (Y : Stations). Y .copy m t) (over .received .stations) in
+      let fit = X .sized .copies .copy m t (r .0) (r .1) in
+      let e = X .sized .counts .carts in
+      acks-are (over .S₁) (over .S₂) (over .C₁) M W W′ T m t w
+      (lengths₁ S (over .S₁) C (over .C₁) M W T m i₀ t c (X .lengths) (X .laid) (over .received) (is-queued .due) refl none₀)
+      (laid₁ S (over .S₁) C (over .C₁) M W T m i₀ t c (X .lengths) (X .laid) (over .received) (is-queued .due) refl none₀)
+      (r .0) (r .1) (omega arith) (r .3) (rw (copy, many) fit) (is-queued .held .some) (over .acks)
+
+  none₁ : (i j : ℕ) → NoRegister (handoffs c (floorIn K₁ .lines i j))
+  none₁ i j = subst (λ (f : ℕ → ℕ → List Record). NoRegister (handoffs c (f i j))) (sym (lines₁ S (over .S₁) C (over .C₁) M W T m i₀ t c (X .lengths) (X .laid) (over .received) (is-queued .due) refl none₀)) (none₀ i j)
+
+  none₂ : (i j : ℕ) → NoRegister (handoffs c (floorIn K₂ .lines i j))
+  unfolding sendAcks
+  none₂ i j =
+      subst (λ (G : Floor). NoRegister (handoffs c (G .lines i j))) (sym (two .2))
+      (on-cond (λ (G : Floor). NoRegister (handoffs c (G .lines i j))) (allAcked (floorIn K₁) m t)
+      (λ e. on-cond (λ (l : List Record). NoRegister (handoffs c l)) (between t (floorIn K₁ .initiator m) i j)
+      (λ f. no-register-behind c (floorIn K₁ .number m) (floorIn K₁ .acks m t) (floorIn K₁ .lines i j) (none₁ i j)) (λ f. none₁ i j))
+      (λ e. none₁ i j))
+
+  next₁ : cartsIn (over .C₁) .next c i₀ ≡ n₀ + 1
+  next₁ = ap (λ (k : Carts). k .next c i₀) (over .received .carts) ∙ update2-at (cartsIn C .next) c i₀ (cartsIn C .next c i₀ + 1) ∙ ap (λ (y : ℕ). y + 1) (is-queued .due)
+
+  -- "the head message of the queue is handed to the cart"
+  pub over-is : floorIn (lent S′ C′ M W′ T) ≡ handOver limits F m t c .floor
+  unfolding handOver
+  over-is =
+      caught-is (over .S₂) S′ (over .C₁) C′ M W′ T i₀ t c (n₀ + 1) p (two .0) (two .1) (over .caught) next₁ none₂
+      ∙ ap (λ (G : Floor). catchUp limits G t c i₀) (two .2 ∙ ap (λ (G : Floor). sendAcksIfAll G m t) one)
+
+  -- what it reports
+  pub over-reports : (p ≡ handOver limits F m t c .report .p) × (w ≡ handOver limits F m t c .report .w)
+  unfolding handOver
+  over-reports =
+      let upto : floorIn (lent S′ C′ M W′ T) .next c i₀ ≡ stopBy (tablesFloor (over .S₂) M) t i₀ (n₀ + 1) (nearestFrom (tablesFloor (over .S₂) M) t c i₀ (n₀ + 1)) .upto =
+      ap (λ (k : Carts). k .next c i₀) (over .caught .carts) ∙ update2-at (cartsIn (over .C₁) .next) c i₀ _ in
+      let plus : n₀ + 1 ≡ suc n₀ = omega arith in (
+        over .caught .passed ∙ ap₂ (λ (y z : ℕ). y - z) (sym upto) plus ∙ ap (λ (G : Floor). G .next c i₀ - suc n₀) over-is,
+        two .3 ∙ ap (λ (G : Floor). cond (allAcked G m t) 1 0) one,
+      )
+
+  pub radio-is : floorIn (lent S′ C′ M W′ T) ≡ onRadio limits F t c .floor
+  unfolding onRadio
+  radio-is = rw (may .is-head) over-is

@@ -1,0 +1,71 @@
+-- `wireless::catch_up` meets its contract.
+use mathlib.Core.Path.{_≡_, sym, ap, _∙_}
+use mathlib.Core.Option.{Option}
+use Prim.Native.Nat.{ℕ, _-_}
+use native.Mathlib.Omega.{arith}
+use Rattle.stations.specs.View.{stationsIn}
+use Rattle.carts.specs.View.{cartsIn, withNext}
+use Rattle.queue.specs.Rooms.{tablesFloor}
+use Rattle.catchup.specs.Nearest.{stopBy}
+use Rattle.catchup.specs.Arrival.{isFound, queuedFor}
+use Rattle.wireless.proofs.Parts.{found-is, no-fall}
+use borrow.Author.Needs.{needs}
+use Rattle.wireless.proofs.catch_up.Statement.{statement}
+use Rattle.wireless.proofs.catch_up.Tie as tie
+
+nearest-of-requires : tie.Need-nearest-of-requires
+nearest-of-requires c κs = search needs
+
+stop-of-requires : tie.Need-stop-of-requires
+stop-of-requires c κs = search needs
+
+put-next-requires : tie.Need-put-next-requires
+put-next-requires c κs = search needs
+
+enqueue-requires : tie.Need-enqueue-requires
+enqueue-requires c κs = search needs
+
+sub-result : tie.Need-sub-result
+sub-result c =
+    let a = c .before .before .before .before .before .before .before .before .before .before .before .before .before .before .before .args in
+    let F = tablesFloor (a .stations .now) (a .messages .now) in
+    let found = found-is F (a .station .0) (a .number .0) (a .initiator .0) (a .next) (c .before .before .before .before .before .before .before .before .before .before .nearest-of .result) (c .before .before .before .before .before .before .before .before .before .before .nearest-of .ensures) in
+    let upto = c .before .before .before .before .before .before .before .before .stop-of .ensures ∙ ap (λ (o : Option ℕ). stopBy F (a .station .0) (a .initiator .0) (a .next) o .upto) found in
+    omega (arith, upto, no-fall F (a .station .0) (a .number .0) (a .initiator .0) (a .next))
+
+same-length : tie.Need-same-length
+same-length c = search needs
+
+same-length-2 : tie.Need-same-length-2
+same-length-2 c = search needs
+
+returns : tie.Need-returns
+returns c =
+    let a = c .before .before .before .before .before .before .before .before .before .before .before .before .before .before .before .args in
+    let F = tablesFloor (a .stations .now) (a .messages .now) in
+    let found = found-is F (a .station .0) (a .number .0) (a .initiator .0) (a .next) (c .before .before .before .before .before .before .before .before .before .before .nearest-of .result) (c .before .before .before .before .before .before .before .before .before .before .nearest-of .ensures) in
+    let upto = c .before .before .before .before .before .before .before .before .stop-of .ensures ∙ ap (λ (o : Option ℕ). stopBy F (a .station .0) (a .initiator .0) (a .next) o .upto) found in
+    let raised = c .before .before .before .before .before .before .put-next .ensures in
+    let queued = c .before .before .enqueue .ensures in
+    record {
+      stations = queued .0 ∙ ap (λ (o : Option ℕ). queuedFor (stationsIn (a .stations .now)) (a .station .0) (a .number .0) (isFound o)) found;
+      head = queued .1 .0;
+      words = queued .1 .1;
+      carts = raised .0 ∙ ap (withNext (cartsIn (a .carts .now)) (a .number .0) (a .initiator .0)) upto;
+      canonical = raised .1 .0;
+      rows = raised .1 .1;
+      passed = ap (λ (y : ℕ). y - a .next) upto;
+    }
+
+pub catch-up-spec : {M : Type 1} → statement M
+catch-up-spec =
+    tie.close
+    (tie.spec
+    nearest-of-requires
+    stop-of-requires
+    put-next-requires
+    enqueue-requires
+    sub-result
+    same-length
+    same-length-2
+    returns)

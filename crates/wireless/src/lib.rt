@@ -1,0 +1,125 @@
+// THE WIRELESS MODULE over the lent parts: the head message of a station's queue is handed to a cart.
+use ids::CartNumber;
+use ids::MessageNumber;
+use ids::Station;
+ghost use mathlib.Core.Path.{_≡_};
+ghost use mathlib.Core.Bool.{true};
+ghost use Prim.Native.Nat.{ℕ, _+_, _<_, _≤_};
+ghost use lib.ListN.{length};
+ghost use Rattle.stations.specs.View.{HasStation, stationsIn};
+ghost use Rattle.carts.specs.View.{cartsIn};
+ghost use Rattle.carts.specs.Words.{HasRow};
+ghost use Rattle.messages.specs.View.{HasRoom, roomsIn};
+ghost use Rattle.queue.specs.Rooms.{tablesFloor, HasRooms};
+ghost use Rattle.lines.specs.Form.{form};
+ghost use Rattle.lines.specs.Lines.{used};
+ghost use Rattle.lines.specs.Words.{capacity};
+ghost use Rattle.wireless.specs.Handed.{tookFrom, Received, holdNone, AcksSent, CaughtUp, HandedOver};
+
+// "The cart leaves the entry (an emptied one goes) and joins the station's ack list for the message; its next number rises."
+fn receive(
+    stations: &mut [u64],
+    carts: &mut [u64],
+    m: usize,
+    initiator: Station,
+    station: Station,
+    number: CartNumber,
+)
+    requires { ⌜ HasStation (now stations) (station .0) × (m < 32) × (initiator .0 < 16) ⌝ }
+    requires { ⌜ HasRow (now carts) (number .0) × (number .0 < 64) × (cartsIn (now carts) .next (number .0) (initiator .0) < 65536) ⌝ }
+    ensures { λ _. ⌜ Received (now (stations .entry)) (now (stations .exit)) (now (carts .entry)) (now (carts .exit)) m (initiator .0) (station .0) (number .0) ⌝ }
+{
+    let queue = stations::queue_of(stations, m, station);
+    stations::put_queue(stations, m, station, cartset::without_cart(queue, number.0));
+    let acks = stations::acks_of(stations, m, station);
+    stations::put_acks(stations, m, station, cartset::with_cart(acks, number.0));
+    let cart = carts::cart_at(carts, number);
+    carts::put_cart(carts, number, cart.receive(initiator));
+}
+
+// "Then, if every local cart in the copy is in the ack list, the list goes to the initiator, its carts are struck from the copy, and the list
+// is emptied." Answers how many records went: 1 or 0.
+fn send_acks_if_all(
+    stations: &mut [u64],
+    lines: &mut [u64],
+    m: usize,
+    initiator: Station,
+    n: MessageNumber,
+    station: Station,
+) -> u64
+    requires { ⌜ HasStation (now stations) (station .0) × (station .0 < 16) × (m < 32) × (initiator .0 < 16) × (n .0 < 65536) ⌝ }
+    requires { ⌜ (form (now lines) ≡ true) × (holdNone (stationsIn (now stations)) m (station .0) ≡ true → used (now lines) < capacity (now lines)) ⌝ }
+    ensures { λ r. ⌜ AcksSent (now (stations .entry)) (now (stations .exit)) (now (lines .entry)) (now (lines .exit)) m (initiator .0) (n .0) (station .0) r ⌝ }
+{
+    if !queue::all_acked(stations, m, station) {
+        return 0;
+    }
+    let acks = stations::acks_of(stations, m, station);
+    let copy = stations::copy_of(stations, m, station);
+    stations::put_copy(stations, m, station, cartset::minus(copy, acks));
+    stations::put_acks(stations, m, station, 0);
+    lines::push_back(
+        lines,
+        station.0 as usize,
+        initiator.0 as usize,
+        view::ack_list(m, n, acks),
+    );
+    1
+}
+
+// "Then catch-up for that initiator", from the cart's next number on. Answers "the numbers passed over".
+fn catch_up(
+    stations: &mut [u64],
+    carts: &mut [u64],
+    messages: &[u64],
+    initiator: Station,
+    station: Station,
+    number: CartNumber,
+    next: u64,
+) -> u64
+    requires { ⌜ HasStation (now stations) (station .0) × HasRooms (now messages) × (station .0 < 16) × (initiator .0 < 16) × (number .0 < 64) × HasRow (now carts) (number .0) ⌝ }
+    ensures { λ r. ⌜ CaughtUp (now (stations .entry)) (now (stations .exit)) (now (carts .entry)) (now (carts .exit)) (now (messages .entry)) (initiator .0) (station .0) (number .0) next r ⌝ }
+{
+    let nearest = catchup::nearest_of(stations, messages, station, number, initiator, next);
+    let upto = catchup::stop_of(stations, messages, station, initiator, next, nearest);
+    carts::put_next(carts, number, initiator, upto);
+    catchup::enqueue(stations, station, number, nearest);
+    upto - next
+}
+
+// What a radio step reports besides the message: the numbers passed over, and the records that went.
+pub struct Handed {
+    pub passed: u64,
+    pub sent: u64,
+}
+
+// "the head message of the queue is handed to the cart, acknowledged in the same step": the message in room m.
+pub fn hand_over(
+    stations: &mut [u64],
+    carts: &mut [u64],
+    messages: &[u64],
+    lines: &mut [u64],
+    m: usize,
+    initiator: Station,
+    n: MessageNumber,
+    station: Station,
+    number: CartNumber,
+) -> Handed
+    requires { ⌜ HasStation (now stations) (station .0) × (station .0 < 16) × (m < 32) × (initiator .0 < 16) × (n .0 < 65536) × HasRooms (now messages) ⌝ }
+    requires { ⌜ HasRow (now carts) (number .0) × (number .0 < 64) × (cartsIn (now carts) .next (number .0) (initiator .0) < 65536) ⌝ }
+    requires { ⌜ (form (now lines) ≡ true) × (holdNone (tookFrom (stationsIn (now stations)) m (station .0) (number .0)) m (station .0) ≡ true → used (now lines) < capacity (now lines)) ⌝ }
+    ensures { λ r. ⌜ HandedOver (now (stations .entry)) (now (stations .exit)) (now (carts .entry)) (now (carts .exit)) (now (messages .entry)) (now (lines .entry)) (now (lines .exit)) m (initiator .0) (n .0) (station .0) (number .0) (r .passed) (r .sent) ⌝ }
+{
+    receive(stations, carts, m, initiator, station, number);
+    let sent = send_acks_if_all(stations, lines, m, initiator, n, station);
+    let passed = catch_up(
+        stations,
+        carts,
+        messages,
+        initiator,
+        station,
+        number,
+        n.0 + 1,
+    );
+    Handed { passed, sent }
+}
