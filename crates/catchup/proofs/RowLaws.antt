@@ -6,15 +6,18 @@ use mathlib.Core.Option.{Option, none, some}
 use Prim.Native.Nat.{ℕ, zero, suc, _+_, _-_, _*_, _<_, _≤_}
 use native.Mathlib.Numerals.{add-one}
 use native.Mathlib.Omega.{arith}
+use lib.Dec.{ltb}
 use lib.ListN.{length, getD, set, length-set}
 use lib.Seq.{ext-getD, getD-set-same, getD-set-other}
+use borrow.Author.Tests.{ltb-true}
 use Rattle.protocol.specs.Folds.{sum, listOf}
+use Rattle.protocol.specs.CartSets.{has}
 use Rattle.protocol.specs.Floor.{Floor}
-use Rattle.protocol.proofs.Tests.{by-lt, by-eq, length-listOf, listOf-at}
+use Rattle.protocol.proofs.Tests.{and-right, by-eq, length-listOf, listOf-at}
 use Rattle.queue.specs.Rooms.{roomCode, roomIn}
 use Rattle.queue.proofs.Codes.{room-in, no-room-in}
 use Rattle.catchup.specs.Nearest.{wouldStop, nearerWith, nearestAmong, stopBy}
-use Rattle.catchup.specs.Arrival.{nearestRow, stopIn, Rises, Bounded, risen}
+use Rattle.catchup.specs.Arrival.{nearestRow, stopIn, Rises, Small, risen}
 use Rattle.catchup.proofs.ClosedForm.{IsNearest, nearest-is, would}
 use Rattle.catchup.proofs.StopLaws.{other-initiator}
 use Rattle.catchup.proofs.RoomLaws.{nearest-fits, nearest-again, nearest-same, nearest-decoded}
@@ -110,20 +113,29 @@ module _ (F : Floor) (t s x h : ℕ) where
 -- HOW FAR THEY RISE
 
 module _ (F : Floor) (t : ℕ) (row nearest : List ℕ) where
-  pub rise-small : Bounded F t → (s : ℕ) → s < 16 → stopIn F t row nearest s - getD row s 0 ≤ 65535
-  rise-small b s h =
-      by-lt (getD nearest s 0) 32
-      (λ l. subst (λ (o : Option ℕ). stopBy F t s (getD row s 0) o .upto - getD row s 0 ≤ 65535) (sym (room-in (getD nearest s 0) l)) (omega (arith, b .1 (getD nearest s 0) l)))
-      (λ l. subst (λ (o : Option ℕ). stopBy F t s (getD row s 0) o .upto - getD row s 0 ≤ 65535) (sym (no-room-in (getD nearest s 0) l)) (omega (arith, b .0 s h)))
-
   pub risen-none : 0 ≡ risen F t row nearest 0
   unfolding sum
   risen-none = refl
 
-  pub risen-small : Bounded F t → (n : ℕ) → n ≤ 16 → risen F t row nearest n ≤ 65535 * n
+  -- the count of the first n initiators fits a word
+  pub risen-fits : Small F t row nearest → (n : ℕ) → n ≤ 16 → risen F t row nearest n ≤ 65535 * n
   unfolding sum
-  risen-small b zero h = omega arith
-  risen-small b (suc n) h = omega (arith, rise-small b n (omega arith), risen-small b n (omega arith))
+  risen-fits b zero h = omega arith
+  risen-fits b (suc n) h = omega (arith, b n (omega arith), risen-fits b n (omega arith))
+
+  -- a cart stops below the expected number, or there
+  pub rises-little : (c : ℕ) → nearest ≡ nearestRow F t c row 32 → ((s : ℕ) → s < 16 → F .expected t s ≤ 65535) → Small F t row nearest
+  rises-little c e b s h =
+      subst (λ (o : Option ℕ). stopBy F t s (getD row s 0) o .upto - getD row s 0 ≤ 65535) (sym (entry-says F t c row nearest e s h))
+      (little (nearestAmong F t c s (getD row s 0) 32) (nearest-is F t c s (getD row s 0) 32))
+    where
+      little : (o : Option ℕ) → IsNearest F t c s (getD row s 0) 32 o → stopBy F t s (getD row s 0) o .upto - getD row s 0 ≤ 65535
+      little none n = omega (arith, b s h)
+      little (some k) n =
+          let p = would F t c s (getD row s 0) k (n .1 .0) in
+          let z = ltb-true (F .number k) (F .expected t (F .initiator k)) (and-right (has (F .waiting k) t) (ltb (F .number k) (F .expected t (F .initiator k))) (p .buffered)) in
+          let y : F .number k < F .expected t s = rw (p .is-initiator) at z in
+          omega (arith, b s h)
 
   pub risen-again : (n p r : ℕ) → p ≡ risen F t row nearest n → r ≡ stopIn F t row nearest n → p + (r - getD row n 0) ≡ risen F t row nearest (n + 1)
   unfolding sum

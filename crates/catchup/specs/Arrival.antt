@@ -30,9 +30,9 @@ stopIn F t row nearest s = stopBy F t s (getD row s 0) (roomIn (getD nearest s 0
 abbrev pub Rises : Floor → ℕ → List ℕ → List ℕ → Type 0
 Rises F t row nearest = (s : ℕ) → s < 16 → getD row s 0 ≤ stopIn F t row nearest s
 
--- "last number 65,534": no number of a message, and no expected number at t, is past the one after it
-abbrev pub Bounded : Floor → ℕ → Type 0
-Bounded F t = ((s : ℕ) → s < 16 → F .expected t s ≤ 65535) × ((m : ℕ) → m < 32 → F .number m ≤ 65535)
+-- "last number 65,534": no next number rises by more than can be sent
+abbrev pub Small : Floor → ℕ → List ℕ → List ℕ → Type 0
+Small F t row nearest = (s : ℕ) → s < 16 → stopIn F t row nearest s - getD row s 0 ≤ 65535
 
 -- how far the next numbers of the first n initiators rise
 abbrev pub risen : Floor → ℕ → List ℕ → List ℕ → ℕ → ℕ

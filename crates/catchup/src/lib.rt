@@ -10,7 +10,7 @@ ghost use Rattle.protocol.specs.Folds.{listOf};
 ghost use Rattle.stations.specs.View.{HasStation, stationsIn, headIn};
 ghost use Rattle.queue.specs.Rooms.{tablesFloor, HasRooms, roomCode, roomIn};
 ghost use Rattle.catchup.specs.Nearest.{wouldStop, nearerWith, nearestAmong, stopBy};
-ghost use Rattle.catchup.specs.Arrival.{CanStop, nearestRow, stopIn, Rises, Bounded, risen, isFound, occurs, queuedFor};
+ghost use Rattle.catchup.specs.Arrival.{CanStop, nearestRow, stopIn, Rises, Small, risen, isFound, occurs, queuedFor};
 
 // "Stations 1 to 16": as many initiators.
 const INITIATORS: usize = 16;
@@ -191,8 +191,8 @@ pub fn raised(
     nearest: [usize; 16],
 ) -> Caught
     requires { ⌜ HasStation (now stations) (station .0) × HasRooms (now messages) ⌝ }
-    requires { ⌜ Bounded (tablesFloor (now stations) (now messages)) (station .0) ⌝ }
     requires { ⌜ Rises (tablesFloor (now stations) (now messages)) (station .0) row nearest ⌝ }
+    requires { ⌜ Small (tablesFloor (now stations) (now messages)) (station .0) row nearest ⌝ }
     ensures { λ r. ⌜ r .row ≡ listOf 16 (stopIn (tablesFloor (now (stations .entry)) (now (messages .entry))) (station .0) row nearest) ⌝ }
     ensures { λ r. ⌜ r .passed ≡ risen (tablesFloor (now (stations .entry)) (now (messages .entry))) (station .0) row nearest 16 ⌝ }
 {

@@ -4,10 +4,8 @@ use mathlib.Core.Bool.{true}
 use mathlib.Core.List.{List, [], _∷_, _++_}
 use Prim.Native.Nat.{ℕ, _+_, _*_, _<_}
 use native.Mathlib.Omega.{arith}
-use lib.ListN.{length}
 use Rattle.protocol.proofs.Tests.{by-eq}
 use Rattle.lines.specs.declared.Record.{Record}
-use Rattle.lines.specs.Lines.{lineOf, used}
 use Rattle.lines.specs.Form.{form}
 use Rattle.lines.specs.Post.{Pushed}
 use Rattle.everyline.specs.ToEvery.{PushedToEvery}

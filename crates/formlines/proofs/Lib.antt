@@ -11,3 +11,4 @@ pub mod Clauses
 pub mod RecordRule
 pub mod Middle
 pub mod Theorem
+pub mod CodeLaws

@@ -1,45 +1,14 @@
--- HOW FAR NEXT NUMBERS RISE at an arrival, and what it leaves of the queues and the local list.
-use mathlib.Core.Path.{_≡_, sym, ap, _∙_, subst}
+-- WHAT AN ARRIVAL LEAVES of the expected numbers, the queues and the local list.
+use mathlib.Core.Path.{_≡_, ap, _∙_, subst}
 use mathlib.Core.List.{List}
-use mathlib.Core.Option.{Option, none, some}
-use Prim.Native.Nat.{ℕ, zero, suc, _-_, _*_, _<_, _≤_}
+use Prim.Native.Nat.{ℕ, _<_, _≤_}
 use native.Mathlib.Omega.{arith}
-use lib.Dec.{ltb}
-use lib.ListN.{getD}
-use borrow.Author.Tests.{ltb-true}
-use Rattle.protocol.specs.Folds.{sum}
-use Rattle.protocol.specs.CartSets.{has, with}
-use Rattle.protocol.specs.Floor.{Floor}
-use Rattle.protocol.proofs.Tests.{and-right}
+use Rattle.protocol.specs.CartSets.{with}
 use Rattle.stations.specs.View.{Stations, withLocal}
 use Rattle.messages.specs.View.{Rooms}
-use Rattle.catchup.specs.Nearest.{nearestAmong, stopBy}
-use Rattle.catchup.specs.Arrival.{nearestRow, risen, occurs, queuedFor}
-use Rattle.catchup.proofs.ClosedForm.{IsNearest, nearest-is, would}
-use Rattle.catchup.proofs.RowLaws.{entry-says}
+use Rattle.catchup.specs.Arrival.{occurs, queuedFor}
 use Rattle.handoff.specs.Struck.{struckFrom}
-use Rattle.handoff.specs.Arrived.{Small, joined, Arrived}
-
-module _ (F : Floor) (t : ℕ) (row nearest : List ℕ) where
-  -- the count of the first n initiators fits a word
-  pub risen-fits : Small F t row nearest → (n : ℕ) → n ≤ 16 → risen F t row nearest n ≤ 65535 * n
-  unfolding sum
-  risen-fits b zero h = omega arith
-  risen-fits b (suc n) h = omega (arith, b n (omega arith), risen-fits b n (omega arith))
-
-  -- a cart stops below the expected number, or there
-  pub rises-little : (c : ℕ) → nearest ≡ nearestRow F t c row 32 → ((s : ℕ) → s < 16 → F .expected t s ≤ 65535) → Small F t row nearest
-  rises-little c e b s h =
-      subst (λ (o : Option ℕ). stopBy F t s (getD row s 0) o .upto - getD row s 0 ≤ 65535) (sym (entry-says F t c row nearest e s h))
-      (little (nearestAmong F t c s (getD row s 0) 32) (nearest-is F t c s (getD row s 0) 32))
-    where
-      little : (o : Option ℕ) → IsNearest F t c s (getD row s 0) 32 o → stopBy F t s (getD row s 0) o .upto - getD row s 0 ≤ 65535
-      little none n = omega (arith, b s h)
-      little (some k) n =
-          let p = would F t c s (getD row s 0) k (n .1 .0) in
-          let z = ltb-true (F .number k) (F .expected t (F .initiator k)) (and-right (has (F .waiting k) t) (ltb (F .number k) (F .expected t (F .initiator k))) (p .buffered)) in
-          let y : F .number k < F .expected t s = rw (p .is-initiator) at z in
-          omega (arith, b s h)
+use Rattle.handoff.specs.Arrived.{joined, Arrived}
 
 -- the strike leaves the expected numbers
 pub few-still : (S : Stations) (R : Rooms) (t c : ℕ) (row : List ℕ) {T : Stations} → T ≡ struckFrom S R t c row

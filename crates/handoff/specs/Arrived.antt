@@ -18,10 +18,6 @@ use Rattle.handoff.specs.Struck.{struckFrom}
 abbrev pub allZero : List ℕ
 allZero = listOf 16 (λ s. 0)
 
--- "last number 65,534": no next number rises by more than can be sent
-abbrev pub Small : Floor → ℕ → List ℕ → List ℕ → Type 0
-Small F t row nearest = (s : ℕ) → s < 16 → stopIn F t row nearest s - getD row s 0 ≤ 65535
-
 -- cart c is queued at station t for each nearest message, and is on the local list
 abbrev pub joined : Stations → ℕ → ℕ → List ℕ → Stations
 joined S t c nearest = withLocal (queuedFor S t c (occurs nearest 16)) t (with (S .local t) c)

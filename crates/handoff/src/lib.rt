@@ -20,7 +20,7 @@ ghost use Rattle.catchup.specs.Arrival.{stopIn, Rises, risen};
 ghost use Rattle.handoff.specs.Moved.{Moved};
 ghost use Rattle.handoff.specs.Left.{unqueued, left, Left};
 ghost use Rattle.handoff.specs.Struck.{isPassed, struckCopy, struckFrom};
-ghost use Rattle.handoff.specs.Arrived.{allZero, Small, joined, Docked, Arrived};
+ghost use Rattle.handoff.specs.Arrived.{allZero, joined, Docked, Arrived};
 
 // "Stations 1 to 16": as many initiators.
 const INITIATORS: usize = 16;
@@ -153,39 +153,6 @@ fn strike(
     }
 }
 
-// The row of next numbers, each raised to where it stops, and "the numbers passed over in this step".
-fn raise(
-    stations: &[u64],
-    messages: &[u64],
-    station: Station,
-    row: [u64; 16],
-    nearest: [usize; 16],
-) -> Caught
-    requires { ⌜ HasStation (now stations) (station .0) × HasRooms (now messages) ⌝ }
-    requires { ⌜ Rises (tablesFloor (now stations) (now messages)) (station .0) row nearest ⌝ }
-    requires { ⌜ Small (tablesFloor (now stations) (now messages)) (station .0) row nearest ⌝ }
-    ensures { λ r. ⌜ r .row ≡ listOf 16 (stopIn (tablesFloor (now (stations .entry)) (now (messages .entry))) (station .0) row nearest) ⌝ }
-    ensures { λ r. ⌜ r .passed ≡ risen (tablesFloor (now (stations .entry)) (now (messages .entry))) (station .0) row nearest 16 ⌝ }
-{
-    let mut upto = row;
-    let mut passed: u64 = 0;
-    let mut s: usize = 0;
-    while s < INITIATORS {
-        let stop = catchup::stop_of(
-            stations,
-            messages,
-            station,
-            Station(s as u64),
-            row[s],
-            nearest[s],
-        );
-        passed += stop - row[s];
-        upto[s] = stop;
-        s += 1;
-    }
-    Caught { row: upto, passed }
-}
-
 // The cart is queued for each nearest message, and is on the station's local list.
 fn join(stations: &mut [u64], station: Station, cart: CartNumber, nearest: [usize; 16])
     requires { ⌜ HasStation (now stations) (station .0) × (cart .0 < 64) ⌝ }
@@ -212,7 +179,7 @@ fn dock(
 {
     strike(stations, messages, station, cart, row);
     let nearest = catchup::nearest_of_all(stations, messages, station, cart, row);
-    let caught = raise(stations, messages, station, row, nearest);
+    let caught = catchup::raised(stations, messages, station, row, nearest);
     join(stations, station, cart, nearest);
     caught
 }

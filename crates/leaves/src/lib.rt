@@ -4,7 +4,7 @@ use ids::Station;
 use lines::Record;
 ghost use mathlib.Core.Path.{_≡_};
 ghost use mathlib.Core.Bool.{true};
-ghost use Prim.Native.Nat.{_+_, _*_, _<_, _≤_};
+ghost use Prim.Native.Nat.{ℕ, _+_, _*_, _<_, _≤_};
 ghost use lib.ListN.{length};
 ghost use Rattle.protocol.specs.CartSets.{minus};
 ghost use Rattle.protocol.specs.Floor.{limits};
@@ -14,7 +14,6 @@ ghost use Rattle.stations.specs.View.{HasStation, stationsIn};
 ghost use Rattle.carts.specs.View.{cartsIn};
 ghost use Rattle.carts.specs.Words.{HasRow};
 ghost use Rattle.protocol.specs.Folds.{listOf};
-ghost use Rattle.catchup.specs.Arrival.{Bounded};
 ghost use Rattle.leaves.specs.Passed.{passedBy};
 ghost use Rattle.queue.specs.Rooms.{tablesFloor, HasRooms, roomCode};
 ghost use Rattle.lines.specs.Form.{form, sized};
@@ -85,7 +84,7 @@ pub extern "C" fn mekhturia_catch_up(
     c: u64,
 ) -> u64
     requires { ⌜ HasStation (now stations) t × HasRooms (now messages) × HasRow (now carts) c × (t < 16) × (c < 64) ⌝ }
-    requires { ⌜ Bounded (tablesFloor (now stations) (now messages)) t ⌝ }
+    requires { ⌜ ((s : ℕ) → s < 16 → stationsIn (now stations) .expected t s ≤ 65535) ⌝ }
     ensures { λ r. ⌜ r ≡ passedBy (tablesFloor (now (stations .entry)) (now (messages .entry))) t c (listOf 16 (cartsIn (now (carts .entry)) .next c)) ⌝ }
 {
     let row = carts::row_of(carts, CartNumber(c));

@@ -8,3 +8,4 @@ pub mod AckListIs
 pub mod QuietCarts
 pub mod MulticastSets
 pub mod MulticastIs
+pub mod Asks

@@ -6,7 +6,7 @@ use lib.ListN.{length, length-set}
 use borrow.Author.Needs.{needs}
 use Rattle.queue.specs.Rooms.{tablesFloor}
 use Rattle.catchup.specs.Arrival.{stopIn, risen}
-use Rattle.catchup.proofs.RowLaws.{WrittenTo, write-one, write-all, rise-small, risen-none, risen-small, risen-again, risen-all}
+use Rattle.catchup.proofs.RowLaws.{WrittenTo, write-one, write-all, risen-none, risen-fits, risen-again, risen-all}
 use Rattle.catchup.proofs.raised.Statement.{statement}
 use Rattle.catchup.proofs.raised.Tie as tie
 
@@ -48,16 +48,15 @@ array-read-passed : tie.Need-array-read-passed Inv-loop μ-loop
 array-read-passed c = search needs
 
 sub-passed : tie.Need-sub-passed Inv-loop μ-loop
-sub-passed c = omega (arith, c .stop-of .ensures, c .before .before .before .before .before .pre .1 .1 (c .before .before .loop .s) (omega arith))
+sub-passed c = omega (arith, c .stop-of .ensures, c .before .before .before .before .before .pre .1 .0 (c .before .before .loop .s) (omega arith))
 
 add-passed : tie.Need-add-passed Inv-loop μ-loop
 add-passed c =
     let a = c .before .before .before .before .before .args in
     let F = tablesFloor (a .stations .now) (a .messages .now) in
     let l = c .before .before .loop in
-    let small = rise-small F (a .station .0) (a .t4) (a .t5) (c .before .before .before .before .before .pre .1 .0) (l .s) (omega arith) in
-    let sum = risen-small F (a .station .0) (a .t4) (a .t5) (c .before .before .before .before .before .pre .1 .0) (l .s) (omega arith) in
-    omega (arith, c .stop-of .ensures, l .inv .1)
+    let few = c .before .before .before .before .before .pre .1 .1 in
+    omega (arith, c .stop-of .ensures, l .inv .1, few (l .s) (omega arith), risen-fits F (a .station .0) (a .t4) (a .t5) few (l .s) (omega arith))
 
 mul-upto : tie.Need-mul-upto Inv-loop μ-loop
 mul-upto c = search needs

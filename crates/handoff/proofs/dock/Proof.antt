@@ -3,8 +3,8 @@ use mathlib.Core.Path.{_∙_}
 use Rattle.stations.specs.View.{stationsIn}
 use Rattle.messages.specs.View.{roomsIn}
 use Rattle.queue.specs.Rooms.{tablesFloor}
-use Rattle.catchup.proofs.RowLaws.{row-rises}
-use Rattle.handoff.proofs.RiseLaws.{rises-little, few-still}
+use Rattle.catchup.proofs.RowLaws.{row-rises, rises-little}
+use Rattle.handoff.proofs.RiseLaws.{few-still}
 use borrow.Author.Needs.{needs}
 use Rattle.handoff.proofs.dock.Statement.{statement}
 use Rattle.handoff.proofs.dock.Tie as tie
@@ -15,8 +15,8 @@ strike-requires c κs = search needs
 nearest-of-all-requires : tie.Need-nearest-of-all-requires
 nearest-of-all-requires c κs = search needs
 
-raise-requires : tie.Need-raise-requires
-raise-requires c κs =
+raised-requires : tie.Need-raised-requires
+raised-requires c κs =
     let a = c .before .before .before .before .before .before .before .before .before .args in
     let t = a .station .0 in
     let S₁ = c .before .before .before .before .before .strike .last .0 in
@@ -35,7 +35,7 @@ returns : tie.Need-returns
 returns c =
     let k = c .before .before .before .before .before .before .before .before .before .before .strike in
     let n = c .before .before .before .before .before .before .nearest-of-all in
-    let r = c .before .before .before .before .raise in
+    let r = c .before .before .before .before .raised in
     let j = c .before .before .join in
     record {
       struck = k .last .0;
@@ -55,7 +55,7 @@ dock-spec =
     (tie.spec
     strike-requires
     nearest-of-all-requires
-    raise-requires
+    raised-requires
     join-requires
     same-length
     returns)

@@ -6,7 +6,7 @@ use denote.Ref.{now}
 use borrow.Author.Needs.{needs}
 use Rattle.queue.specs.Rooms.{tablesFloor}
 use Rattle.catchup.specs.Arrival.{risen}
-use Rattle.catchup.proofs.RowLaws.{row-rises}
+use Rattle.catchup.proofs.RowLaws.{row-rises, rises-little}
 use Rattle.leaves.specs.Passed.{passedBy}
 use Rattle.leaves.proofs.mekhturia_catch_up.Statement.{statement}
 use Rattle.leaves.proofs.mekhturia_catch_up.Tie as tie
@@ -21,7 +21,7 @@ raised-requires : tie.Need-raised-requires
 raised-requires c κs =
     let a = c .before .before .before .before .before .args in
     let p = c .before .before .before .before .before .pre in
-    ((p .0 .0, p .0 .1), (p .1, row-rises (tablesFloor (now (a .stations)) (now (a .messages))) (a .t) (a .c) (c .before .row-of .result) (c .nearest-of-all .result) (c .nearest-of-all .ensures)))
+    ((p .0 .0, p .0 .1), (row-rises (tablesFloor (now (a .stations)) (now (a .messages))) (a .t) (a .c) (c .before .row-of .result) (c .nearest-of-all .result) (c .nearest-of-all .ensures), rises-little (tablesFloor (now (a .stations)) (now (a .messages))) (a .t) (c .before .row-of .result) (c .nearest-of-all .result) (a .c) (c .nearest-of-all .ensures) (p .1)))
 
 returns : tie.Need-returns
 returns c =
