@@ -84,7 +84,8 @@ module _ (F : Floor) (t c s x : ℕ) where
       (and-intro (isBuffered F m t) (has (F .copy m t) c && leb x (F .number m)) (w .buffered)
       (and-intro (has (F .copy m t) c) (leb x (F .number m)) (w .in-copy) (le-leb x (F .number m) (w .far)))))
 
-same-stop : (r : Stop) (u : ℕ) (o : Option ℕ) → r .upto ≡ u → r .found ≡ o → r ≡ record { upto = u; found = o }
+-- a stop is its two parts
+pub same-stop : (r : Stop) (u : ℕ) (o : Option ℕ) → r .upto ≡ u → r .found ≡ o → r ≡ record { upto = u; found = o }
 same-stop r u o p q = λ i. record { upto = p i; found = q i }
 
 module _ (M : Limits) (F : Floor) (t c s : ℕ) where

@@ -16,8 +16,8 @@ use Rattle.lines.specs.declared.Record as word
 use Rattle.lines.specs.Lines.{lineOf}
 use Rattle.view.specs.Records.{recordIn, linesIn, roomRight}
 use Rattle.view.specs.View.{lent, everyWord}
-use Rattle.view.proofs.LinesView.{line-in, line-beyond, line-below, by-line}
-use Rattle.view.proofs.Laid.{Laid}
+use Rattle.view.proofs.LinesView.{line-in, line-beyond, line-below, by-line, map-append}
+use Rattle.view.proofs.Laid.{Laid, words-append}
 use Rattle.everyline.specs.ToEvery.{PushedToEvery}
 
 -- which lines are picked
@@ -28,14 +28,6 @@ pub is-picked : (n s j : ℕ) → j < n → toEvery n s s j ≡ true
 is-picked n s j l = and-intro (eqb s s) (ltb j n) (eqb-self s) (lt-ltb j n l)
 
 -- records of a line, and one more at the end
-map-append : (next : ℕ → ℕ → ℕ) (l k : List word.Record) → map (recordIn next) (l ++ k) ≡ map (recordIn next) l ++ map (recordIn next) k
-map-append next [] k = refl
-map-append next (x ∷ l) k = ap (λ (z : List Record). recordIn next x ∷ z) (map-append next l k)
-
-words-append : (f : word.Record → Bool) (l : List word.Record) (r : word.Record) → everyWord f l ≡ true → f r ≡ true → everyWord f (l ++ (r ∷ [])) ≡ true
-words-append f [] r h e = and-intro (f r) true e refl
-words-append f (x ∷ l) r h e = and-intro (f x) (everyWord f (l ++ (r ∷ []))) (and-left (f x) (everyWord f l) h) (words-append f l r (and-right (f x) (everyWord f l) h) e)
-
 module _ (l l′ : List ℕ) (s n : ℕ) (r : word.Record) (ls : s < 16) (ln : n ≤ 16) (p : PushedToEvery l l′ s n r) where
   -- a line that is not picked
   pub line-stays : (i j : ℕ) → i < 16 → j < 16 → toEvery n s i j ≡ false → lineOf l′ (i * 16 + j) ≡ lineOf l (i * 16 + j)

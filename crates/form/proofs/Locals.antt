@@ -15,7 +15,7 @@ use Rattle.protocol.proofs.SetLaws.{setOf-suc}
 use Rattle.stations.specs.View.{stationsIn}
 use Rattle.carts.specs.View.{cartsIn}
 use Rattle.view.specs.View.{lent, localRight}
-use Rattle.form.specs.Tables.{Home}
+use Rattle.form.specs.Parts.{Home}
 
 -- A CART'S HOME
 

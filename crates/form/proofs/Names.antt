@@ -13,7 +13,8 @@ use Rattle.protocol.proofs.SetLaws.{has-setOf, setOf-lt, member-below}
 use Rattle.protocol.proofs.ClaimLaws.{reflect}
 use Rattle.cartset.specs.Masks.{within}
 use Rattle.cartset.proofs.MaskLaws.{within-has, has-within}
-use Rattle.form.specs.Tables.{namesBefore, deleteRight, heldNames, heldBefore}
+use Rattle.form.specs.Tables.{deleteRight, heldNames}
+use Rattle.form.specs.Parts.{namesBefore, heldBefore}
 use Rattle.form.proofs.Answers.{yes, no, same-answer}
 
 -- HELD, or free

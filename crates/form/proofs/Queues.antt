@@ -16,7 +16,7 @@ use Rattle.carts.specs.View.{cartsIn}
 use Rattle.cartset.specs.Masks.{within}
 use Rattle.cartset.proofs.MaskLaws.{within-has, has-within}
 use Rattle.view.specs.View.{lent, localRight}
-use Rattle.form.specs.Tables.{queued}
+use Rattle.form.specs.Parts.{queued}
 use Rattle.form.proofs.Answers.{yes, no, same-answer}
 use Rattle.form.proofs.Names.{free-not}
 

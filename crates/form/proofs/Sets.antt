@@ -8,7 +8,7 @@ use borrow.Author.Tests.{lt-ltb, le-ltb}
 use Rattle.protocol.specs.CartSets.{setOf}
 use Rattle.protocol.proofs.Tests.{by-lt}
 use Rattle.cartset.proofs.MaskLaws.{setOf-all}
-use Rattle.form.specs.Tables.{mostOf}
+use Rattle.form.specs.Parts.{mostOf}
 
 -- THE GREATEST SET of the first n
 pub most-few : (n r : ℕ) → n < 64 → r ≡ setOf n (λ c. true) → r ≡ mostOf n

@@ -1,12 +1,11 @@
 -- WHAT THE FORM TEST ASKS OF THE TABLES: the clauses of the form rule that look at no record on a line and at no text.
 use mathlib.Core.Path.{_≡_}
-use mathlib.Core.Bool.{cond, not, true}
+use mathlib.Core.Bool.{not}
 use mathlib.Core.List.{List, []}
-use Prim.Native.Nat.{ℕ, _<_, _^_}
-use lib.Dec.{eqb, ltb}
+use Prim.Native.Nat.{ℕ, _^_}
 use lib.ListN.{length}
-use Rattle.protocol.specs.Floor.{Floor, Place, limits, localTo, isHeld, isMessage}
-use Rattle.protocol.specs.CartSets.{has, setOf}
+use Rattle.protocol.specs.CartSets.{has}
+use Rattle.protocol.specs.Floor.{Floor, limits, isHeld}
 use Rattle.protocol.specs.Claims.{Claim, is, le, lt, eq, both, when, all}
 use Rattle.protocol.specs.Form.{stationRule, cartRule, cartsOnly, entryRule}
 use Rattle.carts.specs.View.{canonicalIn}
@@ -28,53 +27,39 @@ countsRule F =
     both (is (F .started))
     (both (both (lt 0 (F .stations)) (le (F .stations) (limits .stations))) (both (lt 0 (F .carts)) (le (F .carts) (limits .carts))))
 
--- "It is local to a station when at it or leaving it": of the sixteen stations, a cart in that place is local to s and to no other
-abbrev pub Home : Place → ℕ → Type 0
-Home p s = (t : ℕ) → t < 16 → localTo p t ≡ eqb s t
-
--- a word that is at most this is a set of the first n; every word is, where n is more than a word has digits
-abbrev pub mostOf : ℕ → ℕ
-mostOf n = setOf (cond (ltb n 64) n 64) (λ c. true)
-
 -- EACH ROOM m: its sets are of the floor
 abbrev pub roomSets : Floor → ℕ → Claim
 roomSets F m =
     both (cartsOnly limits F (F .named m)) (both (cartsOnly limits F (F .acked m)) (lt (F .waiting m) (2 ^ F .stations)))
 
--- EACH HELD MESSAGE, in room m: no other held message has its name; of all rooms, or of those before it
+-- EACH HELD MESSAGE, in room m: no other held message has its name
 abbrev pub otherNames : Floor → ℕ → Claim
 otherNames F m = all (limits .held) (λ k. when (is (isHeld F k)) (when (eq (F .initiator m) (F .initiator k)) (when (eq (F .number m) (F .number k)) (eq m k))))
 
-abbrev pub namesBefore : Floor → ℕ → Claim
-namesBefore F m = all m (λ k. is (not (isMessage F (F .initiator m) (F .number m) k)))
-
--- its initiator has given its number; where a station has handled its delete, the whole set has acknowledged; and its name
+-- its initiator has given its number
 abbrev pub numberGiven : Floor → ℕ → Claim
 numberGiven F m = lt (F .number m) (F .sent (F .initiator m))
 
+-- where a station has handled its delete, the whole set has acknowledged
 abbrev pub deleteRight : Floor → ℕ → Claim
 deleteRight F m = all (F .stations) (λ t. when (is (not (has (F .waiting m) t))) (eq (F .acked m) (F .named m)))
 
+-- all of this, where it is held
 abbrev pub heldNames : Floor → ℕ → Claim
 heldNames F m = when (is (isHeld F m)) (both (numberGiven F m) (both (otherNames F m) (deleteRight F m)))
 
-abbrev pub heldBefore : Floor → ℕ → Claim
-heldBefore F m = when (is (isHeld F m)) (both (numberGiven F m) (both (namesBefore F m) (deleteRight F m)))
+-- EACH HELD MESSAGE AT EACH STATION t OF THE FLOOR: the copy has only named carts
+abbrev pub copyNamed : Floor → ℕ → ℕ → Claim
+copyNamed F m t = all (F .carts) (λ c. when (is (has (F .copy m t) c)) (is (has (F .named m) c)))
 
--- EACH ROOM m AT EACH STATION t: a queued cart c is local, the message is held, names it, and is its next
-abbrev pub queued : Floor → ℕ → ℕ → ℕ → Claim
-queued F m t c =
-    when (is (has (F .queue m t) c))
-    (both (is (isHeld F m)) (both (is (localTo (F .place c) t)) (both (eq (F .next c (F .initiator m)) (F .number m)) (is (has (F .named m) c)))))
-
--- EACH HELD MESSAGE AT EACH STATION t OF THE FLOOR: the copy has only named carts; where the message has come, it has every named cart
--- that has yet to receive it
+-- and where the message has come, it has every named cart that has yet to receive it
 abbrev pub copySets : Floor → ℕ → ℕ → Claim
 copySets F m t =
-    both (all (F .carts) (λ c. when (is (has (F .copy m t) c)) (is (has (F .named m) c))))
+    both (copyNamed F m t)
     (when (lt (F .number m) (F .expected t (F .initiator m)))
     (all (F .carts) (λ c. when (is (has (F .named m) c)) (when (le (F .next c (F .initiator m)) (F .number m)) (is (has (F .copy m t) c))))))
 
+-- at every station, where the message is held
 abbrev pub copiesRule : Floor → ℕ → Claim
 copiesRule F m = when (is (isHeld F m)) (all (F .stations) (copySets F m))
 

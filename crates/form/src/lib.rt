@@ -18,7 +18,8 @@ ghost use Rattle.carts.specs.Records.{seen};
 ghost use Rattle.carts.specs.View.{cartsIn, canonicalIn};
 ghost use Rattle.messages.specs.View.{HasRoom};
 ghost use Rattle.view.specs.View.{lent, localRight, shortText};
-ghost use Rattle.form.specs.Tables.{tables, Sized, Home, mostOf, countsRule, roomSets, heldBefore, heldNames, queued, copySets, copiesRule, tablesRule};
+ghost use Rattle.form.specs.Tables.{tables, Sized, countsRule, roomSets, heldNames, copyNamed, copiesRule, tablesRule};
+ghost use Rattle.form.specs.Parts.{Home, mostOf, heldBefore, queued, missingAt, Few};
 
 // "An unstarted floor fails it", "Stations 1 to 16", "Carts 1 to 64".
 fn counts_ok(stations: &[u64]) -> bool
@@ -107,7 +108,8 @@ fn texts_ok(messages: &[u64]) -> bool
     true
 }
 
-// "It is local to a station when at it or leaving it": the one of the sixteen stations that the cart is local to, or 16 where there is none.
+// "It is local to a station when at it or leaving it": the one of the sixteen stations that the cart is local to, or a
+// number from 16 on where there is none.
 fn home_of(carts: &[u64], number: CartNumber) -> u64
     requires { ⌜ HasRow (now carts) (number .0) ⌝ }
     ensures { λ r. ⌜ Home (cartsIn (now (carts .entry)) .place (number .0)) r ⌝ }
@@ -256,7 +258,7 @@ fn carts_ok(stations: &[u64], carts: &[u64]) -> bool
     true
 }
 
-// The greatest set of the first n: all words, where n is more than a word has digits.
+// The greatest set of the first n: every digit of the word, where n is more than it has.
 fn most_of(n: u64) -> u64
     ensures { λ r. ⌜ r ≡ mostOf n ⌝ }
 {
@@ -548,27 +550,47 @@ fn all_past(carts: &[u64], set: u64, k: u64, s: u64, n: u64) -> bool
     true
 }
 
-// "the copy has only named carts; where the message has come, it has every named cart that has yet to receive it": so of the named carts
-// that the copy does not have, all have received it.
-fn copy_ok(stations: &[u64], carts: &[u64], messages: &[u64], m: usize, t: Station) -> bool
-    requires { ⌜ Sized (now stations) (now carts) (now messages) × (m < 32) × (t .0 < 16) ⌝ }
-    ensures { λ r. ⌜ r ≡ test (copySets (tables (now (stations .entry)) (now (carts .entry)) (now (messages .entry))) m (t .0)) ⌝ }
+// "the copy has only named carts".
+fn copy_named(stations: &[u64], messages: &[u64], m: usize, t: Station) -> bool
+    requires { ⌜ (length (now stations) ≡ 1938) × (length (now messages) ≡ 192) × (m < 32) × (t .0 < 16) ⌝ }
+    ensures { λ r. ⌜ r ≡ test (copyNamed (tables (now (stations .entry)) [] (now (messages .entry))) m (t .0)) ⌝ }
 {
-    let k = stations::cart_count(stations);
     let named = messages::named_of(messages, m);
     let copy = stations::copy_of(stations, m, t);
-    if !none_below(cartset::minus(copy, named), k) {
-        return false;
-    }
+    none_below(cartset::minus(copy, named), stations::cart_count(stations))
+}
+
+// "where the message has come": the named carts that the copy does not have.
+fn missing_at(stations: &[u64], messages: &[u64], m: usize, t: Station) -> u64
+    requires { ⌜ (length (now stations) ≡ 1938) × (length (now messages) ≡ 192) × (m < 32) × (t .0 < 16) ⌝ }
+    ensures { λ r. ⌜ r ≡ missingAt (tables (now (stations .entry)) [] (now (messages .entry))) m (t .0) ⌝ }
+{
     let s = messages::initiator_of(messages, m);
     let n = messages::number_of(messages, m);
     if expected_by(stations, t, s.0) <= n.0 {
-        return true;
+        return 0;
     }
-    all_past(carts, cartset::minus(named, copy), k, s.0, n.0)
+    cartset::minus(
+        messages::named_of(messages, m),
+        stations::copy_of(stations, m, t),
+    )
 }
 
-// The copies of the message in room m, if it is held, at the stations of the floor. Beyond sixteen there is no copy, and nothing has come.
+// How many of the sixteen stations are the floor's.
+fn stations_of(stations: &[u64]) -> u64
+    requires { ⌜ length (now stations) ≡ 1938 ⌝ }
+    ensures { λ r. ⌜ Few (headIn (now (stations .entry)) .stations) r ⌝ }
+{
+    let n = stations::station_count(stations);
+    if n < 16 {
+        return n;
+    }
+    16
+}
+
+// The copies of the message in room m, if it is held, at the stations of the floor. "it has every named cart that has yet to receive it": so
+// all that are missing somewhere have received it, and each is looked at once, not once for each station. Beyond sixteen stations there is
+// no copy, and nothing has come.
 fn copies_of(stations: &[u64], carts: &[u64], messages: &[u64], m: usize) -> bool
     requires { ⌜ Sized (now stations) (now carts) (now messages) × (m < 32) ⌝ }
     ensures { λ r. ⌜ r ≡ test (copiesRule (tables (now (stations .entry)) (now (carts .entry)) (now (messages .entry))) m) ⌝ }
@@ -576,18 +598,19 @@ fn copies_of(stations: &[u64], carts: &[u64], messages: &[u64], m: usize) -> boo
     if messages::waiting_of(messages, m) == 0 {
         return true;
     }
-    let n = stations::station_count(stations);
+    let end = stations_of(stations);
+    let mut missing: u64 = 0;
     let mut t: u64 = 0;
-    while t < 16 {
-        if n <= t {
-            return true;
-        }
-        if !copy_ok(stations, carts, messages, m, Station(t)) {
+    while t < end {
+        if !copy_named(stations, messages, m, Station(t)) {
             return false;
         }
+        missing = cartset::union(missing, missing_at(stations, messages, m, Station(t)));
         t += 1;
     }
-    true
+    let s = messages::initiator_of(messages, m);
+    let n = messages::number_of(messages, m);
+    all_past(carts, missing, stations::cart_count(stations), s.0, n.0)
 }
 
 // The copies of every held message.

@@ -10,45 +10,18 @@ use borrow.Author.Tests.{eqb-true}
 use Rattle.protocol.specs.Folds.{sum, listOf}
 use Rattle.protocol.specs.Floor.{Place, outside, at, leaving, travelling, Carts, Record, multicast, ackList, delete, deregister, register, moving}
 use Rattle.protocol.specs.Claims.{True}
-use Rattle.protocol.specs.Form.{HandoffRecord, deregistering, registering, bit, countLine, handoffs, handoffOf, sameRow, sameHandoffs}
+use Rattle.protocol.specs.Form.{HandoffRecord, deregistering, registering, bit, countLine, handoffs, handoffOf, sameHandoffs}
 use Rattle.protocol.specs.Ranges.{PlaceInRange}
 use Rattle.protocol.proofs.Tests.{by-test, clash, and-left, and-right, and-intro, both-equal, eqb-self, on-cond}
 use Rattle.protocol.proofs.Counting.{sum-nil, sum-term, sum2-only}
 use Rattle.protocol.proofs.LineFacts.{isHandoffOf}
+use Rattle.protocol.proofs.FormTest.{handoffs-same}
 use Rattle.messages.specs.View.{Rooms}
 use Rattle.formlines.specs.Said.{Said, aMulticast, anAckList, aDelete, aDeregister, aRegister, unknown}
 use Rattle.formlines.specs.Pass.{isLeaving, isTravelling, right}
 use Rattle.formlines.proofs.Walks.{Each, each-map2}
 use Rattle.formlines.proofs.Split.{Right}
 use Rattle.formlines.proofs.Reading.{read}
-
--- SAME LISTS
-
-same-row-is : (l k : List ℕ) → True (sameRow l k) → l ≡ k
-same-row-is [] [] h = refl
-same-row-is [] (y ∷ k) h = clash false h refl
-same-row-is (x ∷ l) [] h = clash false h refl
-same-row-is (x ∷ l) (y ∷ k) h = ap (λ (z : ℕ). z ∷ l) (h .0) ∙ ap (λ (z : List ℕ). y ∷ z) (same-row-is l k (h .1))
-
-row-same : (l : List ℕ) → True (sameRow l l)
-row-same [] = refl
-row-same (x ∷ l) = (refl, row-same l)
-
-pub same-handoffs-are : (l k : List HandoffRecord) → True (sameHandoffs l k) → l ≡ k
-same-handoffs-are [] [] h = refl
-same-handoffs-are [] (y ∷ k) h = clash false h refl
-same-handoffs-are (deregistering ∷ l) [] h = clash false h refl
-same-handoffs-are (deregistering ∷ l) (deregistering ∷ k) h = ap (λ (x : List HandoffRecord). deregistering ∷ x) (same-handoffs-are l k h)
-same-handoffs-are (deregistering ∷ l) (registering g ∷ k) h = clash false h refl
-same-handoffs-are (registering f ∷ l) [] h = clash false h refl
-same-handoffs-are (registering f ∷ l) (deregistering ∷ k) h = clash false h refl
-same-handoffs-are (registering f ∷ l) (registering g ∷ k) h =
-    ap (λ (x : List ℕ). registering x ∷ l) (same-row-is f g (h .0)) ∙ ap (λ (x : List HandoffRecord). registering g ∷ x) (same-handoffs-are l k (h .1))
-
-handoffs-same : (l : List HandoffRecord) → True (sameHandoffs l l)
-handoffs-same [] = refl
-handoffs-same (deregistering ∷ l) = handoffs-same l
-handoffs-same (registering f ∷ l) = (row-same f, handoffs-same l)
 
 pub are-same-handoffs : (l k : List HandoffRecord) → l ≡ k → True (sameHandoffs l k)
 are-same-handoffs l k e = rw e (handoffs-same k)

@@ -38,7 +38,8 @@ use Rattle.formlines.proofs.Lines.{if-at, if-of, allFound, AllFound, Al
 use Rattle.formlines.proofs.Totals.{found-all-yes, found-all-no, seen-all-yes, seen-all-no, gone-line-yes, gone-line-no, no-line, total-is}
 use Rattle.formlines.proofs.Order.{order-of, of-order}
 use Rattle.formlines.proofs.Gathered.{gathered-yes, gathered-no}
-use Rattle.formlines.proofs.Handoffs.{same-handoffs-are, are-same-handoffs, count-handoffs, due, due-total, handoffs-due, Placed, CartBelow, placed-of}
+use Rattle.protocol.proofs.FormTest.{same-handoffs-are}
+use Rattle.formlines.proofs.Handoffs.{are-same-handoffs, count-handoffs, due, due-total, handoffs-due, Placed, CartBelow, placed-of}
 use Rattle.formlines.proofs.Clauses.{TableClauses, LineClauses}
 use Rattle.formlines.proofs.RecordRule.{all-read, each-read, one-room, fits-room, fits-rule, rule-below, rule-fits}
 use Rattle.formlines.proofs.Middle.{start, seenLast, Middle, middle-of, of-middle}

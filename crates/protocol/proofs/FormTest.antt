@@ -41,7 +41,7 @@ row-same : (l : List ℕ) → True (sameRow l l)
 row-same [] = refl
 row-same (x ∷ l) = (refl, row-same l)
 
-same-handoffs-are : (l k : List HandoffRecord) → True (sameHandoffs l k) → l ≡ k
+pub same-handoffs-are : (l k : List HandoffRecord) → True (sameHandoffs l k) → l ≡ k
 same-handoffs-are [] [] h = refl
 same-handoffs-are [] (y ∷ k) h = clash false h refl
 same-handoffs-are (deregistering ∷ l) [] h = clash false h refl
@@ -52,7 +52,7 @@ same-handoffs-are (registering f ∷ l) (deregistering ∷ k) h = clash false h 
 same-handoffs-are (registering f ∷ l) (registering g ∷ k) h =
     ap (λ (x : List ℕ). registering x ∷ l) (same-row-is f g (h .0)) ∙ ap (λ (x : List HandoffRecord). registering g ∷ x) (same-handoffs-are l k (h .1))
 
-handoffs-same : (l : List HandoffRecord) → True (sameHandoffs l l)
+pub handoffs-same : (l : List HandoffRecord) → True (sameHandoffs l l)
 handoffs-same [] = refl
 handoffs-same (deregistering ∷ l) = handoffs-same l
 handoffs-same (registering f ∷ l) = (row-same f, handoffs-same l)

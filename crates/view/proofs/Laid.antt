@@ -73,7 +73,7 @@ module _ (L : Lent) where
 -- RECORDS OF A LINE
 
 -- one more at the end
-words-append : (f : word.Record → Bool) (l : List word.Record) (r : word.Record) → everyWord f l ≡ true → f r ≡ true → everyWord f (l ++ (r ∷ [])) ≡ true
+pub words-append : (f : word.Record → Bool) (l : List word.Record) (r : word.Record) → everyWord f l ≡ true → f r ≡ true → everyWord f (l ++ (r ∷ [])) ≡ true
 words-append f [] r h e = and-intro (f r) true e refl
 words-append f (x ∷ l) r h e = and-intro (f x) (everyWord f (l ++ (r ∷ []))) (and-left (f x) (everyWord f l) h) (words-append f l r (and-right (f x) (everyWord f l) h) e)
 

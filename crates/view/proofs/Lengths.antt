@@ -11,8 +11,9 @@ use Rattle.protocol.specs.Floor.{Limits, limits, outside}
 use Rattle.protocol.specs.Blank.{BlankBeyond, TableEnds}
 use Rattle.protocol.proofs.Tests.{and-left, and-right, and-intro}
 use Rattle.rows.specs.Rows.{cell}
-use Rattle.rows.proofs.RowLaws.{cell-past, cell-beyond}
+use Rattle.rows.proofs.RowLaws.{cell-past}
 use Rattle.carts.specs.View.{cartsIn}
+use Rattle.carts.proofs.TableLaws.{next-beyond}
 use Rattle.stations.proofs.TableLaws.{sent-past, queue-past, expected-beyond, queue-beyond}
 use Rattle.view.specs.View.{Lent, lengthsIn, floorIn}
 use Rattle.view.proofs.LinesView.{line-beyond}
@@ -56,10 +57,6 @@ place-past l c h = rw (cell-past 19 l c 0 h)
 next-past : (l : List ℕ) (c s : ℕ) → length l ≤ c * 19 → cartsIn l .next c s ≡ 0
 unfolding cartsIn
 next-past l c s h = cell-past 19 l c (3 + s) h
-
-next-beyond : (l : List ℕ) (c s : ℕ) → 16 ≤ s → cartsIn l .next c s ≡ 0
-unfolding cartsIn
-next-beyond l c s h = cell-beyond 19 l c (3 + s) (omega arith)
 
 pub nothing-beyond : (L : Lent) → Lengths L → BlankBeyond limits (floorIn L)
 nothing-beyond L h =

@@ -41,7 +41,8 @@ module _ (next : ℕ → ℕ → ℕ) where
       (λ e. absurd (h (ltb-true i 16 (and-left (ltb i 16) (ltb j 16) e)) (ltb-true j 16 (and-right (ltb i 16) (ltb j 16) e))))
       (λ e. rw e)
 
-  map-append : (l k : List word.Record) → map (recordIn next) (l ++ k) ≡ map (recordIn next) l ++ map (recordIn next) k
+  -- records one after the other
+  pub map-append : (l k : List word.Record) → map (recordIn next) (l ++ k) ≡ map (recordIn next) l ++ map (recordIn next) k
   map-append [] k = refl
   map-append (x ∷ l) k = ap (λ (z : List Record). recordIn next x ∷ z) (map-append l k)
 

@@ -32,6 +32,7 @@ use Rattle.view.proofs.RecordWords.{ack-list-is, ack-list-right}
 use Rattle.view.proofs.Standing.{Standing}
 use Rattle.queue.specs.Rooms.{tablesFloor, roomCode, roomIn}
 use Rattle.queue.proofs.AckLaws.{all-acked}
+use Rattle.catchup.proofs.ClosedForm.{same-stop}
 use Rattle.catchup.proofs.RoomLaws.{nearest-decoded}
 use Rattle.catchup.proofs.QueueLaws.{queued-none}
 use Rattle.catchup.proofs.Stops.{lent-agree, stops-there, stop-found}
@@ -153,9 +154,6 @@ module _ (S₁ S₂ C₁ M W W′ T : List ℕ) (m t w : ℕ) (sizes : Lengths (
       (λ e. let y = when-not e in let some : allAcked (floorIn L₁′) m t ≡ false = sym all-is ∙ e in (y .0, y .1, rw some (y .2), rw some (acks .no e .2)))
 
 -- THE THIRD: catch-up for that initiator
-same-stop : (r : Stop) (u : ℕ) (o : Option ℕ) → r .upto ≡ u → r .found ≡ o → r ≡ record { upto = u; found = o }
-same-stop r u o p q = λ i. record { upto = p i; found = q i }
-
 module _ (S₂ S′ C₁ C′ M W T : List ℕ) (s t c x p : ℕ) (sizes : Lengths (lent S₂ C₁ M W T)) (laid : Laid (lent S₂ C₁ M W T))
     (caught : CaughtUp S₂ S′ C₁ C′ M s t c x p) (next-is : cartsIn C₁ .next c s ≡ x)
     (none-there : (i j : ℕ) → NoRegister (handoffs c (linesIn (cartsIn C₁ .next) W i j))) where

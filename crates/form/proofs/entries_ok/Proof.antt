@@ -9,7 +9,8 @@ use Rattle.protocol.specs.Claims.{True, all}
 use Rattle.protocol.specs.Form.{entryRule}
 use Rattle.form.proofs.Answers.{passed, refused, one-more}
 use Rattle.form.proofs.Queues.{turned-yes, turned-no}
-use Rattle.form.specs.Tables.{tables, mostOf}
+use Rattle.form.specs.Tables.{tables}
+use Rattle.form.specs.Parts.{mostOf}
 use Rattle.form.proofs.entries_ok.Statement.{statement}
 use Rattle.form.proofs.entries_ok.Tie as tie
 

@@ -6,7 +6,8 @@ use borrow.Author.Needs.{needs}
 use borrow.Author.Tests.{not-true, not-false}
 use Rattle.form.proofs.Names.{held-of, names-as, delete-as, held-free, held-not-sent, held-twice, held-end}
 use Rattle.form.proofs.Answers.{passed, refused}
-use Rattle.form.specs.Tables.{tables, namesBefore}
+use Rattle.form.specs.Tables.{tables}
+use Rattle.form.specs.Parts.{namesBefore}
 use Rattle.form.proofs.held_ok.Statement.{statement}
 use Rattle.form.proofs.held_ok.Tie as tie
 

@@ -7,7 +7,8 @@ use borrow.Author.Tests.{not-true, not-false}
 use Rattle.protocol.specs.Claims.{True, all}
 use Rattle.form.proofs.Names.{names-alone}
 use Rattle.form.proofs.Answers.{passed, refused, one-more, all-yes, all-no}
-use Rattle.form.specs.Tables.{tables, heldBefore}
+use Rattle.form.specs.Tables.{tables}
+use Rattle.form.specs.Parts.{heldBefore}
 use Rattle.form.proofs.messages_ok.Statement.{statement}
 use Rattle.form.proofs.messages_ok.Tie as tie
 

@@ -5,7 +5,8 @@ use native.Mathlib.Omega.{arith}
 use borrow.Author.Needs.{needs}
 use Rattle.form.proofs.Sets.{within-most, most-within}
 use Rattle.form.proofs.Answers.{yes, no}
-use Rattle.form.specs.Tables.{tables, mostOf, roomSets}
+use Rattle.form.specs.Tables.{tables, roomSets}
+use Rattle.form.specs.Parts.{mostOf}
 use Rattle.form.proofs.room_ok.Statement.{statement}
 use Rattle.form.proofs.room_ok.Tie as tie
 
