@@ -12,3 +12,4 @@ pub mod RecordRule
 pub mod Middle
 pub mod Theorem
 pub mod CodeLaws
+pub mod StepLaws

@@ -1,3 +1,4 @@
 pub mod Said
 pub mod Pass
 pub mod LinesRule
+pub mod Ways

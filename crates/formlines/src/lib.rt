@@ -1,9 +1,11 @@
 // THE FORM TEST OF THE LINES, over the lent parts: one pass over the records, with masks of what was met.
 use carts::Place;
 use ids::CartNumber;
+use lines::Record;
 ghost use mathlib.Core.Path.{_≡_};
-ghost use mathlib.Core.Bool.{_&&_};
-ghost use Prim.Native.Nat.{_<_, _≤_, _^_};
+ghost use mathlib.Core.Bool.{_&&_, true, false};
+ghost use mathlib.Core.List.{List};
+ghost use Prim.Native.Nat.{ℕ, _<_, _≤_, _^_};
 ghost use lib.Dec.{eqb, ltb};
 ghost use lib.ListN.{length};
 ghost use Rattle.protocol.specs.CartSets.{has};
@@ -11,7 +13,10 @@ ghost use Rattle.carts.specs.Records.{seen};
 ghost use Rattle.carts.specs.View.{cartsIn};
 ghost use Rattle.messages.specs.View.{roomsIn};
 ghost use Rattle.view.specs.Records.{isIn};
-ghost use Rattle.formlines.specs.Pass.{isLeaving, isTravelling};
+ghost use Rattle.lines.specs.Form.{form};
+ghost use Rattle.formlines.specs.Said.{aMulticast, anAckList, aDelete, aDeregister, said, saidOn};
+ghost use Rattle.formlines.specs.Pass.{isLeaving, isTravelling, provided, fresh, meet, along};
+ghost use Rattle.formlines.specs.Ways.{metOf, outcome};
 
 // Both are yes.
 fn both(a: bool, b: bool) -> bool
@@ -113,4 +118,184 @@ fn register_right(carts: &[u64], k: u64, i: u64, j: u64, cart: u64) -> bool
         return false;
     }
     is_travelling(carts::place_of(carts, CartNumber(cart)), i, j)
+}
+
+// ---- A record against what was met.
+
+// What was met on the way: nothing was wrong; on this line the number of its next multicast and the rooms whose delete was met; the carts
+// whose hand-off was met. The carts whose acknowledgement was met stand in a word for each room, beside it.
+struct Way {
+    ok: bool,
+    next: u64,
+    gone: u64,
+    found: u64,
+}
+
+// Something is wrong.
+fn failed(way: Way) -> Way
+    ensures { λ r. ⌜ ((seen : List ℕ) → metOf r seen ≡ provided false (metOf way seen)) ⌝ }
+{
+    Way {
+        ok: false,
+        next: way.next,
+        gone: way.gone,
+        found: way.found,
+    }
+}
+
+// A multicast counts up.
+fn on_multicast(way: Way, right: bool, m: u64, number: u64) -> Way
+    requires { ⌜ number < 18446744073709551615 ⌝ }
+    ensures { λ r. ⌜ ((seen : List ℕ) → metOf r seen ≡ outcome (right && fresh (metOf way seen) (aMulticast m number)) (metOf way seen) (aMulticast m number)) ⌝ }
+{
+    let up = number == way.next;
+    if !both(right, up) {
+        return failed(way);
+    }
+    Way {
+        ok: way.ok,
+        next: number + 1,
+        gone: way.gone,
+        found: way.found,
+    }
+}
+
+// An ack list is of carts that were not met.
+fn on_ack_list(masks: &mut [u64], way: Way, right: bool, m: u64, carts: u64) -> Way
+    requires { ⌜ (length (now masks) ≡ 32) × (right ≡ true → m < 32) ⌝ }
+    ensures { λ r. ⌜ ((x : ℕ) → metOf r (now (masks .exit)) ≡ outcome (right && fresh (metOf way (now (masks .entry))) (anAckList m x carts)) (metOf way (now (masks .entry))) (anAckList m x carts)) ⌝ }
+    ensures { λ _. ⌜ length (now (masks .exit)) ≡ length (now (masks .entry)) ⌝ }
+{
+    if !right {
+        return failed(way);
+    }
+    let at = m as usize;
+    let met = masks[at];
+    if !cartset::is_disjoint(carts, met) {
+        return failed(way);
+    }
+    masks[at] = cartset::union(met, carts);
+    way
+}
+
+// A delete is of a number passed before it, and met once.
+fn on_delete(way: Way, right: bool, m: u64, number: u64) -> Way
+    requires { ⌜ (right ≡ true → m < 32) ⌝ }
+    ensures { λ r. ⌜ ((seen : List ℕ) → metOf r seen ≡ outcome (right && fresh (metOf way seen) (aDelete m number)) (metOf way seen) (aDelete m number)) ⌝ }
+{
+    if !right {
+        return failed(way);
+    }
+    let gone = cartset::has(way.gone, m);
+    if !both(number < way.next, !gone) {
+        return failed(way);
+    }
+    Way {
+        ok: way.ok,
+        next: way.next,
+        gone: cartset::with_cart(way.gone, m),
+        found: way.found,
+    }
+}
+
+// A cart has one hand-off.
+fn on_handoff(way: Way, right: bool, cart: u64) -> Way
+    requires { ⌜ (right ≡ true → cart < 64) ⌝ }
+    ensures { λ r. ⌜ ((seen : List ℕ) → metOf r seen ≡ outcome (right && fresh (metOf way seen) (aDeregister cart)) (metOf way seen) (aDeregister cart)) ⌝ }
+{
+    if !right {
+        return failed(way);
+    }
+    if cartset::has(way.found, cart) {
+        return failed(way);
+    }
+    Way {
+        ok: way.ok,
+        next: way.next,
+        gone: way.gone,
+        found: cartset::with_cart(way.found, cart),
+    }
+}
+
+// The next record of the line from i to j, on a floor of n stations and k carts.
+fn meet(
+    masks: &mut [u64],
+    messages: &[u64],
+    carts: &[u64],
+    n: u64,
+    k: u64,
+    i: u64,
+    j: u64,
+    way: Way,
+    r: Record,
+) -> Way
+    requires { ⌜ (length (now masks) ≡ 32) × (length (now messages) ≡ 192) × (length (now carts) ≡ 1216) × (k ≤ 64) × (j < 16) ⌝ }
+    ensures { λ x. ⌜ metOf x (now (masks .exit)) ≡ meet n k (cartsIn (now (carts .entry))) (roomsIn (now (messages .entry))) (metOf way (now (masks .entry))) i j (said r) ⌝ }
+    ensures { λ _. ⌜ length (now (masks .exit)) ≡ length (now (masks .entry)) ⌝ }
+{
+    let kind = view::kind_of(r);
+    let index = view::index_of(r);
+    let number = view::number_of(r);
+    let open = both(way.ok, both(i < n, j < n));
+    match kind {
+        1 => on_multicast(
+            way,
+            both(open, multicast_right(messages, i, j, index, number)),
+            index,
+            number,
+        ),
+        2 => on_ack_list(
+            masks,
+            way,
+            both(open, ack_list_right(messages, k, j, index, number, r.1)),
+            index,
+            r.1,
+        ),
+        3 => on_delete(
+            way,
+            both(open, delete_right(messages, i, j, index, number)),
+            index,
+            number,
+        ),
+        4 => on_handoff(
+            way,
+            both(open, deregister_right(carts, k, i, j, index)),
+            index,
+        ),
+        5 => on_handoff(
+            way,
+            both(open, register_right(carts, k, i, j, index)),
+            index,
+        ),
+        _ => failed(way),
+    }
+}
+
+// The records of the line from i to j, one after the other.
+fn along(
+    masks: &mut [u64],
+    messages: &[u64],
+    carts: &[u64],
+    lines: &[u64],
+    n: u64,
+    k: u64,
+    i: u64,
+    j: u64,
+    way: Way,
+) -> Way
+    requires { ⌜ (length (now masks) ≡ 32) × (length (now messages) ≡ 192) × (length (now carts) ≡ 1216) × (form (now lines) ≡ true) × (k ≤ 64) × (i < 16) × (j < 16) ⌝ }
+    ensures { λ x. ⌜ metOf x (now (masks .exit)) ≡ along n k (cartsIn (now (carts .entry))) (roomsIn (now (messages .entry))) (metOf way (now (masks .entry))) i j (saidOn (now (lines .entry)) i j) ⌝ }
+    ensures { λ _. ⌜ length (now (masks .exit)) ≡ length (now (masks .entry)) ⌝ }
+{
+    let line = (i * 16 + j) as usize;
+    let mut left = lines::length_of(lines, line);
+    let mut row = lines::head_of(lines, line);
+    let mut met = way;
+    while 0 < left {
+        let r = lines::record_of(lines, row);
+        met = meet(masks, messages, carts, n, k, i, j, met, r);
+        row = lines::next_of(lines, row);
+        left -= 1;
+    }
+    met
 }

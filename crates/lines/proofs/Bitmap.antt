@@ -12,12 +12,17 @@ use lib.Bits.{bitAnd, bitOr, bitXor, or-lt, xor-lt, and-le-l, and-lt}
 use lib.ListN.{length, getD, set, length-set}
 use lib.Seq.{getD-set-same, getD-set-other}
 use borrow.Author.Tests.{eq-eqb, ne-eqb, eqb-true, lt-ltb, ltb-true}
-use Rattle.lines.specs.Bits.{bit, digit, bitAt}
+use Rattle.protocol.specs.Folds.{every}
+use Rattle.protocol.specs.CartSets.{digit}
+use Rattle.protocol.specs.Form.{bit}
+use Rattle.protocol.proofs.SetLaws.{digit-lt, same-digits}
+use Rattle.protocol.proofs.Tests.{every-at, every-all}
+use Rattle.lines.specs.Bits.{bitAt}
 use Rattle.lines.specs.Words.{summaryOf}
-use Rattle.lines.specs.Form.{every, summaryOk}
+use Rattle.lines.specs.Form.{summaryOk}
 use Rattle.lines.specs.Parts.{With, Without, Summed, Full, Freed, Taken, Given, Marked}
-use Rattle.lines.proofs.Digits.{same-yes, same-no, below-yes, below-no, digit-lt, digit-none, same-digits, or-digit, and-digit, out-digit, power-digit, ones-digit}
-use Rattle.lines.proofs.Sums.{not-true-false, and-true, every-at, every-all}
+use Rattle.lines.proofs.Digits.{same-yes, same-no, below-yes, below-no, digit-none, or-digit, and-digit, out-digit, one-digit, ones-digit}
+use Rattle.lines.proofs.Sums.{not-true-false, and-true}
 
 -- ---- one bit of a word
 -- a shift of 1 in 64 bits
@@ -29,13 +34,13 @@ shifted-pos b h = subst (λ (x : ℕ). 1 ≤ x) (sym (shifted b h)) (pow-pos b)
 
 pub with-is : (x b : ℕ) → b < 64 → With x b (bitOr x ((1 * 2 ^ b) % 18446744073709551616))
 with-is x b h = subst (λ (p : ℕ). With x b (bitOr x p)) (sym (shifted b h)) (record {
-  bits = λ c. or-digit x (2 ^ b) c ∙ ap (max (digit x c)) (power-digit b c);
+  bits = λ c. or-digit x (2 ^ b) c ∙ ap (max (digit x c)) (one-digit b c);
   small = λ n hb hx. or-lt n x (2 ^ b) hx (pow-lt hb);
 })
 
 pub without-is : (x b : ℕ) → b < 64 → Without x b (bitXor x (bitAnd x ((1 * 2 ^ b) % 18446744073709551616)))
 without-is x b h = subst (λ (p : ℕ). Without x b (bitXor x (bitAnd x p))) (sym (shifted b h)) (record {
-  bits = λ c. out-digit x (2 ^ b) c ∙ ap (λ (y : ℕ). digit x c - y) (power-digit b c);
+  bits = λ c. out-digit x (2 ^ b) c ∙ ap (λ (y : ℕ). digit x c - y) (one-digit b c);
   small = λ n hx. xor-lt n x (bitAnd x (2 ^ b)) hx (lt-of-le-of-lt (and-le-l x (2 ^ b)) hx);
 })
 
@@ -79,19 +84,18 @@ pub record Summary (l : List ℕ) : Type 0 where
 pub summary-of : (l : List ℕ) → summaryOk l ≡ true → Summary l
 unfolding summaryOk
 summary-of l e =
-    let w = and-true (every (λ w. eqb (digit (summaryOf l) w) (bit (ltb 0 (getD l w 0)))) 49) (ltb (summaryOf l) (2 ^ 49)) e in record {
-      bits = λ v h. eqb-true _ _ (every-at (λ w. eqb (digit (summaryOf l) w) (bit (ltb 0 (getD l w 0)))) 49 v (w .0) h);
+    let w = and-true (every 49 (λ w. eqb (digit (summaryOf l) w) (bit (ltb 0 (getD l w 0))))) (ltb (summaryOf l) (2 ^ 49)) e in record {
+      bits = λ v h. eqb-true _ _ (every-at 49 (λ w. eqb (digit (summaryOf l) w) (bit (ltb 0 (getD l w 0)))) (w .0) v h);
       small = ltb-true _ _ (w .1);
     }
 
 pub of-summary : (l : List ℕ) → Summary l → summaryOk l ≡ true
 unfolding summaryOk
 of-summary l s =
-    ap₂ _&&_ (every-all (λ w. eqb (digit (summaryOf l) w) (bit (ltb 0 (getD l w 0)))) 49 (λ w h. eq-eqb _ _ (s .bits w h))) (lt-ltb _ _ (s .small))
+    ap₂ _&&_ (every-all 49 (λ w. eqb (digit (summaryOf l) w) (bit (ltb 0 (getD l w 0)))) (λ w h. eq-eqb _ _ (s .bits w h))) (lt-ltb _ _ (s .small))
 
 -- bits past a number's length
 digit-high : (n s c : ℕ) → s < 2 ^ n → n ≤ c → digit s c ≡ 0
-unfolding digit
 digit-high n s c h hc = ap (λ (x : ℕ). x % 2) (div-eq-of-lt (lt-of-lt-of-le h (pow-mono hc)))
 
 -- a bit of the summary is of a word that is not 0
@@ -230,22 +234,22 @@ abbrev wordTest : ℕ → ℕ → ℕ → ℕ → Bool
 wordTest s f whole c = eqb (digit s c + digit f c) (digit whole c)
 
 module _ (s f whole : ℕ) (hs : s < 18446744073709551616) (hf : f < 18446744073709551616) (hw : whole < 18446744073709551616) where
-  word-at : every (wordTest s f whole) 64 ≡ true → (c : ℕ) → c < 64 → digit s c + digit f c ≡ digit whole c
-  word-at t c hc = eqb-true (digit s c + digit f c) (digit whole c) (every-at (wordTest s f whole) 64 c t hc)
+  word-at : every 64 (wordTest s f whole) ≡ true → (c : ℕ) → c < 64 → digit s c + digit f c ≡ digit whole c
+  word-at t c hc = eqb-true (digit s c + digit f c) (digit whole c) (every-at 64 (wordTest s f whole) t c hc)
 
-  pub word-or : (bitOr s f ≡ whole → ⊥) → false ≡ every (λ c. eqb (digit s c + digit f c) (digit whole c)) 64
-  word-or h = not-true-false (every (wordTest s f whole) 64) (λ t. h (same-digits 64 (bitOr s f) whole (or-lt 64 s f hs hf) hw (λ c hc.
+  pub word-or : (bitOr s f ≡ whole → ⊥) → false ≡ every 64 (λ c. eqb (digit s c + digit f c) (digit whole c))
+  word-or h = not-true-false (every 64 (wordTest s f whole)) (λ t. h (same-digits 64 (bitOr s f) whole (or-lt 64 s f hs hf) hw (λ c hc.
       omega (arith, or-digit s f c, digit-lt s c, digit-lt f c, digit-lt whole c, word-at t c hc))))
 
-  pub word-and : bitOr s f ≡ whole → eqb (bitAnd s f) 0 ≡ every (λ c. eqb (digit s c + digit f c) (digit whole c)) 64
+  pub word-and : bitOr s f ≡ whole → eqb (bitAnd s f) 0 ≡ every 64 (λ c. eqb (digit s c + digit f c) (digit whole c))
   word-and e = pick (ℕ-discrete (bitAnd s f) 0)
     where
       sum : bitAnd s f ≡ 0 → (c : ℕ) → digit s c + digit f c ≡ digit whole c
       sum q c = omega (arith, or-digit s f c, and-digit s f c, ap (λ (x : ℕ). digit x c) e, ap (λ (x : ℕ). digit x c) q, digit-none c, digit-lt s c, digit-lt f c)
 
-      pick : Dec (bitAnd s f ≡ 0) → eqb (bitAnd s f) 0 ≡ every (wordTest s f whole) 64
-      pick (yes q) = eq-eqb (bitAnd s f) 0 q ∙ sym (every-all (wordTest s f whole) 64 (λ c hc. eq-eqb (digit s c + digit f c) (digit whole c) (sum q c)))
-      pick (no q) = ne-eqb (bitAnd s f) 0 q ∙ not-true-false (every (wordTest s f whole) 64) (λ t.
+      pick : Dec (bitAnd s f ≡ 0) → eqb (bitAnd s f) 0 ≡ every 64 (wordTest s f whole)
+      pick (yes q) = eq-eqb (bitAnd s f) 0 q ∙ sym (every-all 64 (wordTest s f whole) (λ c hc. eq-eqb (digit s c + digit f c) (digit whole c) (sum q c)))
+      pick (no q) = ne-eqb (bitAnd s f) 0 q ∙ not-true-false (every 64 (wordTest s f whole)) (λ t.
           q (same-digits 64 (bitAnd s f) 0 (and-lt 64 s f hs hf) (omega arith) (λ c hc.
           omega (arith, and-digit s f c, digit-none c, digit-lt s c, digit-lt f c, digit-lt whole c, word-at t c hc))))
 

@@ -7,11 +7,12 @@ use native.Mathlib.Decide.{ℕ-discrete}
 use native.Mathlib.Omega.{arith}
 use lib.Dec.{ltb}
 use lib.ListN.{length}
-use Rattle.lines.specs.Bits.{bit, bitAt}
+use Rattle.protocol.specs.Form.{bit}
+use Rattle.lines.specs.Bits.{bitAt}
 use Rattle.lines.specs.Words.{capacity, tailOf, lengthOf}
 use Rattle.lines.specs.Lines.{rowsOf, lineOf, used}
 use Rattle.lines.specs.Form.{count, allBelow, lastOf, summaryOk}
-use Rattle.lines.proofs.Sums.{total-one}
+use Rattle.lines.proofs.Sums.{sum-one}
 use Rattle.lines.proofs.Formed.{Formed, standsTo, length-rows, length-line}
 
 pub capacity-same : (l l′ : List ℕ) → length l′ ≡ length l → capacity l′ ≡ capacity l
@@ -20,12 +21,12 @@ capacity-same l l′ e = ap (λ (n : ℕ). (n - 818) / 3) e
 
 module _ (l l′ : List ℕ) (k : ℕ) (hk : k < 256) (others : (j : ℕ) → j < 256 → (j ≡ k → ⊥) → rowsOf l′ j ≡ rowsOf l j) where
   pub stands-change : (x : ℕ) → standsTo l′ 256 x + count x (rowsOf l k) ≡ standsTo l 256 x + count x (rowsOf l′ k)
-  stands-change x = total-one (λ j. count x (rowsOf l j)) (λ j. count x (rowsOf l′ j)) k 256 hk (λ j hj jk. ap (count x) (others j hj jk))
+  stands-change x = sum-one 256 (λ j. count x (rowsOf l j)) (λ j. count x (rowsOf l′ j)) k hk (λ j hj jk. ap (count x) (others j hj jk))
 
   pub used-change : used l′ + lengthOf l k ≡ used l + lengthOf l′ k
   unfolding used
   used-change =
-      omega (arith, total-one (λ j. length (lineOf l j)) (λ j. length (lineOf l′ j)) k 256 hk same, length-line l k, length-line l′ k)
+      omega (arith, sum-one 256 (λ j. length (lineOf l j)) (λ j. length (lineOf l′ j)) k hk same, length-line l k, length-line l′ k)
     where
       same : (j : ℕ) → j < 256 → (j ≡ k → ⊥) → length (lineOf l′ j) ≡ length (lineOf l j)
       same j hj jk = length-line l′ j ∙ sym (length-rows l′ j) ∙ ap length (others j hj jk) ∙ length-rows l j ∙ sym (length-line l j)

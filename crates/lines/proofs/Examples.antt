@@ -4,10 +4,11 @@ use mathlib.Core.Bool.{true, false}
 use mathlib.Core.List.{List, [], _∷_}
 use Prim.Native.Nat.{ℕ, _+_}
 use lib.ListN.{set, replicate}
-use Rattle.lines.specs.Bits.{bit, digit, bitAt}
+use Rattle.protocol.specs.Folds.{every, sum}
+use Rattle.lines.specs.Bits.{bitAt}
 use Rattle.lines.specs.Words.{capacity, lineAt, rowAt}
-use Rattle.lines.specs.Lines.{chain, total, rowsOf, recordOf, lineOf, used}
-use Rattle.lines.specs.Form.{every, count, allBelow, lastOf, onLines, sized, lineOk, rowsOk, summaryOk, form}
+use Rattle.lines.specs.Lines.{chain, rowsOf, recordOf, lineOf, used}
+use Rattle.lines.specs.Form.{count, allBelow, lastOf, rowsOnLines, sized, lineOk, rowsOk, summaryOk, form}
 use Rattle.lines.specs.Parts.{joined}
 
 -- rows 1 and 2 are free
@@ -23,29 +24,29 @@ unfolding pool start joined lineOf recordOf rowsOf chain
 in-order = refl
 
 two-used : used pool ≡ 2
-unfolding pool start joined used total lineOf rowsOf chain
+unfolding pool start joined used sum lineOf rowsOf chain
 two-used = refl
 
 well-formed : form pool ≡ true
-unfolding pool start joined form sized lineOk rowsOk summaryOk every count allBelow lastOf onLines rowsOf chain bit digit bitAt capacity
+unfolding pool start joined form sized lineOk rowsOk summaryOk every count allBelow lastOf rowsOnLines rowsOf chain bitAt capacity
 well-formed = refl
 
 -- row 3 is on the line and free
 both : form (set pool 0 14) ≡ false
-unfolding pool start joined form sized lineOk rowsOk summaryOk every count allBelow lastOf onLines rowsOf chain bit digit bitAt capacity
+unfolding pool start joined form sized lineOk rowsOk summaryOk every count allBelow lastOf rowsOnLines rowsOf chain bitAt capacity
 both = refl
 
 -- row 3 names row 0 again: the line is a ring of three
 ring : form (set (set pool (rowAt 3) 0) (lineAt 18 + 2) 3) ≡ false
-unfolding pool start joined form sized lineOk rowsOk summaryOk every count allBelow lastOf onLines rowsOf chain bit digit bitAt capacity
+unfolding pool start joined form sized lineOk rowsOk summaryOk every count allBelow lastOf rowsOnLines rowsOf chain bitAt capacity
 ring = refl
 
 -- the tail is another row
 tail : form (set pool (lineAt 18 + 1) 0) ≡ false
-unfolding pool start joined form sized lineOk rowsOk summaryOk every count allBelow lastOf onLines rowsOf chain bit digit bitAt capacity
+unfolding pool start joined form sized lineOk rowsOk summaryOk every count allBelow lastOf rowsOnLines rowsOf chain bitAt capacity
 tail = refl
 
 -- the summary says that no row is free
 summary : form (set pool 49 0) ≡ false
-unfolding pool start joined form sized lineOk rowsOk summaryOk every count allBelow lastOf onLines rowsOf chain bit digit bitAt capacity
+unfolding pool start joined form sized lineOk rowsOk summaryOk every count allBelow lastOf rowsOnLines rowsOf chain bitAt capacity
 summary = refl

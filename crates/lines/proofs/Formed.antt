@@ -10,23 +10,28 @@ use lib.Dec.{eqb, ltb, leb}
 use lib.ListN.{length, getD, length-map}
 use lib.Count.{trailingZeros}
 use borrow.Author.Tests.{eqb-true, eq-eqb, ltb-true, lt-ltb, le-ltb, leb-true, le-leb}
-use Rattle.lines.specs.Bits.{bit, digit, bitAt}
+use Rattle.protocol.specs.Folds.{every, sum}
+use Rattle.protocol.specs.CartSets.{digit}
+use Rattle.protocol.specs.Form.{bit}
+use Rattle.protocol.proofs.Tests.{every-at, every-all}
+use Rattle.protocol.proofs.Counting.{bit-le, sum-ext, sum-nil, sum-term, sum-add, sum-swap}
+use Rattle.lines.specs.Bits.{bitAt}
 use Rattle.lines.specs.Words.{capacity, lineAt, rowAt, summaryOf, headOf, tailOf, lengthOf, nextOf}
-use Rattle.lines.specs.Lines.{chain, total, rowsOf, recordOf, lineOf, used}
-use Rattle.lines.specs.Form.{every, count, allBelow, lastOf, onLines, sized, lineOk, rowsOk, summaryOk, form}
-use Rattle.lines.proofs.Digits.{bit-lt, below-yes, digit-none, lowest-bit}
-use Rattle.lines.proofs.Sums.{and-true, every-at, every-all, total-same, total-zero, total-part, total-parts, total-add, total-swap, total-below, count-append, below-head, total-count}
+use Rattle.lines.specs.Lines.{chain, rowsOf, recordOf, lineOf, used}
+use Rattle.lines.specs.Form.{count, allBelow, lastOf, rowsOnLines, sized, lineOk, rowsOk, summaryOk, form}
+use Rattle.lines.proofs.Digits.{below-yes, digit-none, lowest-bit}
+use Rattle.lines.proofs.Sums.{and-true, sum-terms, sum-below, count-append, below-head, sum-count}
 use Rattle.lines.proofs.Bitmap.{Summary, summary-of, summary-some, row-bit}
 use Rattle.lines.proofs.Chains.{nth, length-chain, chain-head, chain-split, last-chain}
 
 -- how often row x stands on the lines below n
 abbrev pub standsTo : List ℕ → ℕ → ℕ → ℕ
-standsTo l n x = total (λ k. count x (rowsOf l k)) n
+standsTo l n x = sum n (λ k. count x (rowsOf l k))
 
-pub count-lines : (l : List ℕ) (x n : ℕ) → count x (onLines l n) ≡ standsTo l n x
-unfolding onLines total count
+pub count-lines : (l : List ℕ) (x n : ℕ) → count x (rowsOnLines l n) ≡ standsTo l n x
+unfolding rowsOnLines sum count
 count-lines l x zero = refl
-count-lines l x (suc n) = count-append x (onLines l n) (rowsOf l n) ∙ ap (λ (y : ℕ). y + count x (rowsOf l n)) (count-lines l x n)
+count-lines l x (suc n) = count-append x (rowsOnLines l n) (rowsOf l n) ∙ ap (λ (y : ℕ). y + count x (rowsOf l n)) (count-lines l x n)
 
 pub record Formed (l : List ℕ) : Type 0 where
   pub long : length l ≡ 818 + capacity l * 3
@@ -63,24 +68,24 @@ module _ (stands : ℕ → ℕ) (l : List ℕ) where
 
   pub rows-of : rowsOk stands l ≡ true → (x : ℕ) → x < 3136 → stands x + bitAt l x ≡ bit (ltb x (capacity l))
   unfolding rowsOk
-  rows-of e x h = eqb-true (stands x + bitAt l x) (bit (ltb x (capacity l))) (every-at rowTest 3136 x e h)
+  rows-of e x h = eqb-true (stands x + bitAt l x) (bit (ltb x (capacity l))) (every-at 3136 rowTest e x h)
 
   pub of-rows : ((x : ℕ) → x < 3136 → stands x + bitAt l x ≡ bit (ltb x (capacity l))) → rowsOk stands l ≡ true
   unfolding rowsOk
-  of-rows h = every-all rowTest 3136 (λ x hx. eq-eqb (stands x + bitAt l x) (bit (ltb x (capacity l))) (h x hx))
+  of-rows h = every-all 3136 rowTest (λ x hx. eq-eqb (stands x + bitAt l x) (bit (ltb x (capacity l))) (h x hx))
 
 pub form-formed : (l : List ℕ) → form l ≡ true → Formed l
 unfolding form
 form-formed l e =
-    let w = and-true (sized l) (every (lineOk l) 256 && (rowsOk (λ x. count x (onLines l 256)) l && summaryOk l)) e in
-    let v = and-true (every (lineOk l) 256) (rowsOk (λ x. count x (onLines l 256)) l && summaryOk l) (w .1) in
-    let u = and-true (rowsOk (λ x. count x (onLines l 256)) l) (summaryOk l) (v .1) in
+    let w = and-true (sized l) (every 256 (lineOk l) && (rowsOk (λ x. count x (rowsOnLines l 256)) l && summaryOk l)) e in
+    let v = and-true (every 256 (lineOk l)) (rowsOk (λ x. count x (rowsOnLines l 256)) l && summaryOk l) (w .1) in
+    let u = and-true (rowsOk (λ x. count x (rowsOnLines l 256)) l) (summaryOk l) (v .1) in
     record {
       long = sized-of l (w .0) .0;
       most = sized-of l (w .0) .1;
-      below = λ k h. line-of l k (every-at (lineOk l) 256 k (v .0) h) .0;
-      last = λ k h. line-of l k (every-at (lineOk l) 256 k (v .0) h) .1;
-      rows = λ x h. ap (λ (y : ℕ). y + bitAt l x) (sym (count-lines l x 256)) ∙ rows-of (λ x. count x (onLines l 256)) l (u .0) x h;
+      below = λ k h. line-of l k (every-at 256 (lineOk l) (v .0) k h) .0;
+      last = λ k h. line-of l k (every-at 256 (lineOk l) (v .0) k h) .1;
+      rows = λ x h. ap (λ (y : ℕ). y + bitAt l x) (sym (count-lines l x 256)) ∙ rows-of (λ x. count x (rowsOnLines l 256)) l (u .0) x h;
       summary = u .1;
     }
 
@@ -88,8 +93,8 @@ pub formed-form : (l : List ℕ) → Formed l → form l ≡ true
 unfolding form
 formed-form l f =
     ap₂ _&&_ (of-sized l (f .long) (f .most))
-    (ap₂ _&&_ (every-all (lineOk l) 256 (λ k h. of-line l k (f .below k h) (f .last k h)))
-    (ap₂ _&&_ (of-rows (λ x. count x (onLines l 256)) l (λ x h. ap (λ (y : ℕ). y + bitAt l x) (count-lines l x 256) ∙ f .rows x h)) (f .summary)))
+    (ap₂ _&&_ (every-all 256 (lineOk l) (λ k h. of-line l k (f .below k h) (f .last k h)))
+    (ap₂ _&&_ (of-rows (λ x. count x (rowsOnLines l 256)) l (λ x h. ap (λ (y : ℕ). y + bitAt l x) (count-lines l x 256) ∙ f .rows x h)) (f .summary)))
 
 -- ---- lengths
 pub length-rows : (l : List ℕ) (k : ℕ) → length (rowsOf l k) ≡ lengthOf l k
@@ -102,7 +107,6 @@ length-line l k = length-map (rowsOf l k) (recordOf l) ∙ length-rows l k
 
 -- ---- the rows of a line
 bit-one : (b : Bool) → 1 ≤ bit b → b ≡ true
-unfolding bit
 bit-one true h = refl
 bit-one false h = absurd (not-suc-le-zero h)
 
@@ -155,48 +159,48 @@ module _ (l : List ℕ) (w : Formed l) (k : ℕ) (hk : k < 256) (some : 0 < leng
 
 -- a row of the pool is on the lines at most once
 pub at-most-once : (l : List ℕ) → Formed l → (x : ℕ) → x < 3136 → standsTo l 256 x + bitAt l x ≤ 1
-at-most-once l w x h = omega (arith, w .rows x h, bit-lt (ltb x (capacity l)))
+at-most-once l w x h = omega (arith, w .rows x h, bit-le (ltb x (capacity l)))
 
 pub stands-line : (l : List ℕ) (x k : ℕ) → k < 256 → count x (rowsOf l k) ≤ standsTo l 256 x
-stands-line l x k h = total-part (λ j. count x (rowsOf l j)) 256 k h
+stands-line l x k h = sum-term 256 (λ j. count x (rowsOf l j)) k h
 
 pub stands-lines : (l : List ℕ) (x j k : ℕ) → j < 256 → k < 256 → (j ≡ k → ⊥) → count x (rowsOf l j) + count x (rowsOf l k) ≤ standsTo l 256 x
 stands-lines l x j k hj hk jk = pick (decLe (suc j) k)
   where
     pick : Dec (suc j ≤ k) → count x (rowsOf l j) + count x (rowsOf l k) ≤ standsTo l 256 x
-    pick (yes h) = total-parts (λ i. count x (rowsOf l i)) 256 j k h hk
-    pick (no h) = omega (arith, total-parts (λ i. count x (rowsOf l i)) 256 k j (omega arith) hj)
+    pick (yes h) = sum-terms 256 (λ i. count x (rowsOf l i)) j k h hk
+    pick (no h) = omega (arith, sum-terms 256 (λ i. count x (rowsOf l i)) k j (omega arith) hj)
 
 -- ---- the rows on lines and the free rows make up the pool
 module _ (l : List ℕ) (w : Formed l) where
-  used-stands : used l ≡ total (standsTo l 256) 3136
+  used-stands : used l ≡ sum 3136 (standsTo l 256)
   unfolding used
   used-stands =
-      total-same (λ k. length (lineOf l k)) (λ k. total (λ x. count x (rowsOf l k)) 3136) 256 (λ k h.
-      length-line l k ∙ sym (length-rows l k) ∙ sym (total-count 3136 (rowsOf l k) (below-more (capacity l) 3136 (rowsOf l k) (w .most) (w .below k h))))
-      ∙ sym (total-swap (λ x k. count x (rowsOf l k)) 3136 256)
+      sum-ext 256 (λ k. length (lineOf l k)) (λ k. sum 3136 (λ x. count x (rowsOf l k))) (λ k h.
+      length-line l k ∙ sym (length-rows l k) ∙ sym (sum-count 3136 (rowsOf l k) (below-more (capacity l) 3136 (rowsOf l k) (w .most) (w .below k h))))
+      ∙ sym (sum-swap 3136 256 (λ x k. count x (rowsOf l k)))
 
-  pub all-rows : used l + total (bitAt l) 3136 ≡ capacity l
+  pub all-rows : used l + sum 3136 (bitAt l) ≡ capacity l
   all-rows =
-      ap (λ (n : ℕ). n + total (bitAt l) 3136) used-stands
-      ∙ sym (total-add (standsTo l 256) (bitAt l) 3136)
-      ∙ total-same (λ x. standsTo l 256 x + bitAt l x) (λ x. bit (ltb x (capacity l))) 3136 (w .rows)
-      ∙ total-below (capacity l) 3136 ∙ most
+      ap (λ (n : ℕ). n + sum 3136 (bitAt l)) used-stands
+      ∙ sym (sum-add 3136 (standsTo l 256) (bitAt l))
+      ∙ sum-ext 3136 (λ x. standsTo l 256 x + bitAt l x) (λ x. bit (ltb x (capacity l))) (w .rows)
+      ∙ sum-below (capacity l) 3136 ∙ most
     where
       most : min 3136 (capacity l) ≡ capacity l
       most = omega (arith, w .most)
 
   pub line-short : (k : ℕ) → k < 256 → lengthOf l k ≤ capacity l
   unfolding used
-  line-short k h = omega (arith, all-rows, total-part (λ j. length (lineOf l j)) 256 k h, length-line l k)
+  line-short k h = omega (arith, all-rows, sum-term 256 (λ j. length (lineOf l j)) k h, length-line l k)
 
   s-of : Summary l
   s-of = summary-of l (w .summary)
 
   -- no bit in the summary: no free row
-  none-free : summaryOf l ≡ 0 → total (bitAt l) 3136 ≡ 0
+  none-free : summaryOf l ≡ 0 → sum 3136 (bitAt l) ≡ 0
   unfolding bitAt
-  none-free e = total-zero (bitAt l) 3136 (λ x h. ap (λ (y : ℕ). digit y (x % 64)) (zero-word (x / 64) (omega arith)) ∙ digit-none (x % 64))
+  none-free e = sum-nil 3136 (bitAt l) (λ x h. ap (λ (y : ℕ). digit y (x % 64)) (zero-word (x / 64) (omega arith)) ∙ digit-none (x % 64))
     where
       zero-word : (v : ℕ) → v < 49 → getD l v 0 ≡ 0
       zero-word v h = pick (decLe 1 (getD l v 0))
@@ -214,15 +218,15 @@ module _ (l : List ℕ) (w : Formed l) where
       pick (no q) = absurd (omega (arith, all-rows, none-free (omega arith)))
 
   -- a bit in the summary, where the words have 64 bits: a free row
-  some-free : ((v : ℕ) → getD l v 0 < 2 ^ 64) → 0 < summaryOf l → 1 ≤ total (bitAt l) 3136
+  some-free : ((v : ℕ) → getD l v 0 < 2 ^ 64) → 0 < summaryOf l → 1 ≤ sum 3136 (bitAt l)
   some-free fit h =
       let s = lowest-bit 49 (summaryOf l) h (s-of .small) in
       let v = trailingZeros 49 (summaryOf l) in
       let b = lowest-bit 64 (getD l v 0) (summary-some l s-of v (s .1)) (fit v) in
       free-at v (trailingZeros 64 (getD l v 0)) (s .0) (b .0) (b .1)
     where
-      free-at : (v b : ℕ) → v < 49 → b < 64 → digit (getD l v 0) b ≡ 1 → 1 ≤ total (bitAt l) 3136
-      free-at v b hv hb e = omega (arith, total-part (bitAt l) 3136 (v * 64 + b) (omega arith), row-bit l v b hb, e)
+      free-at : (v b : ℕ) → v < 49 → b < 64 → digit (getD l v 0) b ≡ 1 → 1 ≤ sum 3136 (bitAt l)
+      free-at v b hv hb e = omega (arith, sum-term 3136 (bitAt l) (v * 64 + b) (omega arith), row-bit l v b hb, e)
 
   pub room-test : ((v : ℕ) → getD l v 0 < 2 ^ 64) → ltb 0 (summaryOf l) ≡ ltb (used l) (capacity l)
   room-test fit = pick (decLe 1 (summaryOf l))

@@ -8,13 +8,15 @@ use native.Mathlib.Omega.{arith}
 use lib.Dec.{ltb}
 use lib.ListN.{length, getD, set}
 use lib.Seq.{getD-set-same, getD-set-other}
-use Rattle.lines.specs.Bits.{bit, digit, bitAt}
+use Rattle.protocol.specs.CartSets.{digit}
+use Rattle.protocol.specs.Form.{bit}
+use Rattle.protocol.proofs.Counting.{sum-nil}
+use Rattle.lines.specs.Bits.{bitAt}
 use Rattle.lines.specs.Words.{capacity, lineAt, summaryOf, headOf, tailOf, lengthOf, nextOf}
 use Rattle.lines.specs.Lines.{chain, rowsOf, recordOf, lineOf, used}
 use Rattle.lines.specs.Form.{count, allBelow, lastOf, sized}
 use Rattle.lines.specs.Post.{Cleared}
 use Rattle.lines.specs.Parts.{Full, Freed, AllFree, Emptied}
-use Rattle.lines.proofs.Sums.{total-zero}
 use Rattle.lines.proofs.Bitmap.{of-summary, bits-same, summary-same}
 use Rattle.lines.proofs.Chains.{chain-none}
 use Rattle.lines.proofs.Change.{capacity-same}
@@ -76,7 +78,7 @@ module _ (l l1 l2 : List ℕ) (e : sized l ≡ true) (f : AllFree l l1) (g : Emp
 
   stands-none : (x : ℕ) → standsTo l2 256 x ≡ 0
   unfolding count
-  stands-none x = total-zero (λ k. count x (rowsOf l2 k)) 256 (λ k h. ap (count x) (rows-none k h))
+  stands-none x = sum-nil 256 (λ k. count x (rowsOf l2 k)) (λ k h. ap (count x) (rows-none k h))
 
   formed-start : Formed l2
   unfolding allBelow lastOf
@@ -97,7 +99,7 @@ module _ (l l1 l2 : List ℕ) (e : sized l ≡ true) (f : AllFree l l1) (g : Emp
   clear-is = record {
     formed = formed-form l2 formed-start;
     empty = line-none;
-    none = total-zero (λ k. length (lineOf l2 k)) 256 (λ k h. ap length (line-none k h));
+    none = sum-nil 256 (λ k. length (lineOf l2 k)) (λ k h. ap length (line-none k h));
     room = cap-same;
     words = same;
   }

@@ -9,13 +9,18 @@ use native.Mathlib.Omega.{arith}
 use lib.Dec.{eqb, ltb, leb}
 use lib.ListN.{length, getD, replicate}
 use borrow.Author.Tests.{eqb-true, eqb-false, eq-eqb, le-leb, lt-ltb}
-use Rattle.lines.specs.Bits.{bit, digit, bitAt}
+use Rattle.protocol.specs.Folds.{every}
+use Rattle.protocol.specs.CartSets.{digit}
+use Rattle.protocol.specs.Form.{bit}
+use Rattle.protocol.proofs.SetLaws.{digit-lt}
+use Rattle.protocol.proofs.Tests.{every-at, every-all}
+use Rattle.lines.specs.Bits.{bitAt}
 use Rattle.lines.specs.Words.{capacity, summaryOf, headOf, tailOf, lengthOf, nextOf}
 use Rattle.lines.specs.Lines.{chain, rowsOf}
-use Rattle.lines.specs.Form.{every, count, allBelow, lastOf, onLines, sized, lineOk, rowsOk, summaryOk, form}
+use Rattle.lines.specs.Form.{count, allBelow, lastOf, rowsOnLines, sized, lineOk, rowsOk, summaryOk, form}
 use Rattle.lines.specs.Parts.{Full, Marked, Walked, Surveyed}
-use Rattle.lines.proofs.Digits.{same-yes, same-no, digit-lt, digit-none}
-use Rattle.lines.proofs.Sums.{false-true, not-true-false, every-at, every-all, every-more, total-suc, total-mono, count-cons, below-head}
+use Rattle.lines.proofs.Digits.{same-yes, same-no, digit-none}
+use Rattle.lines.proofs.Sums.{false-true, not-true-false, every-more, sum-suc, sum-longer, count-cons, below-head}
 use Rattle.lines.proofs.Bitmap.{summary-of, row-bit}
 use Rattle.lines.proofs.Chains.{chain-none, chain-head}
 use Rattle.lines.proofs.Formed.{Formed, form-formed, standsTo, count-lines, sized-of, of-sized, line-of, of-line, rows-of, of-rows, one-more, at-most-once}
@@ -45,22 +50,22 @@ module _ (l : List ℕ) (w d b : ℕ) (ed : d ≡ digit (summaryOf l) w) (eb : b
   pub summary-fails : w < 49 → (d ≡ b → ⊥) → false ≡ summaryOk l
   summary-fails hw h = not-true-false (summaryOk l) (λ t. h (ed ∙ summary-of l t .bits w hw ∙ sym eb))
 
-  pub summary-more : every (summaryTest l) w ≡ true → d ≡ b → every (summaryTest l) (w + 1) ≡ true
+  pub summary-more : every w (summaryTest l) ≡ true → d ≡ b → every (w + 1) (summaryTest l) ≡ true
   summary-more e q = every-more (summaryTest l) w e (eq-eqb (digit (summaryOf l) w) (bit (ltb 0 (getD l w 0))) (sym ed ∙ q ∙ eb))
 
-pub summary-end : (l : List ℕ) (w : ℕ) → w ≤ 49 → 49 ≤ w → every (summaryTest l) w ≡ true → ltb (summaryOf l) 562949953421312 ≡ summaryOk l
+pub summary-end : (l : List ℕ) (w : ℕ) → w ≤ 49 → 49 ≤ w → every w (summaryTest l) ≡ true → ltb (summaryOf l) 562949953421312 ≡ summaryOk l
 unfolding summaryOk
 summary-end l w h h′ e = let z : w ≡ 49 = omega arith in
-    sym (ap (λ (b : Bool). b && ltb (summaryOf l) 562949953421312) (subst (λ (i : ℕ). every (summaryTest l) i ≡ true) z e))
+    sym (ap (λ (b : Bool). b && ltb (summaryOf l) 562949953421312) (subst (λ (i : ℕ). every i (summaryTest l) ≡ true) z e))
 
 -- ---- the rows that are seen and the free rows
 module _ (l s : List ℕ) (w rows whole : ℕ) (r : Bool) (er : rows ≡ capacity l) (full : Full rows w whole)
-    (e : r ≡ every (λ c. eqb (digit (getD s w 0) c + digit (getD l w 0) c) (digit whole c)) 64) where
+    (e : r ≡ every 64 (λ c. eqb (digit (getD s w 0) c + digit (getD l w 0) c) (digit whole c))) where
   abbrev wordTest : ℕ → Bool
   wordTest c = eqb (digit (getD s w 0) c + digit (getD l w 0) c) (digit whole c)
 
   pub word-fails : w < 49 → r ≡ false → false ≡ rowsOk (bitAt s) l
-  word-fails hw q = not-true-false (rowsOk (bitAt s) l) (λ t. false-true (sym q ∙ e ∙ every-all wordTest 64 (λ c hc.
+  word-fails hw q = not-true-false (rowsOk (bitAt s) l) (λ t. false-true (sym q ∙ e ∙ every-all 64 wordTest (λ c hc.
       eq-eqb (digit (getD s w 0) c + digit (getD l w 0) c) (digit whole c) (sum t c hc))))
     where
       sum : rowsOk (bitAt s) l ≡ true → (c : ℕ) → c < 64 → digit (getD s w 0) c + digit (getD l w 0) c ≡ digit whole c
@@ -75,7 +80,7 @@ module _ (l s : List ℕ) (w rows whole : ℕ) (r : Bool) (er : rows ≡ capacit
       here : (c : ℕ) → c < 64 → bitAt s (w * 64 + c) + bitAt l (w * 64 + c) ≡ bit (ltb (w * 64 + c) (capacity l))
       here c hc =
           ap₂ _+_ (row-bit s w c hc) (row-bit l w c hc)
-          ∙ eqb-true (digit (getD s w 0) c + digit (getD l w 0) c) (digit whole c) (every-at wordTest 64 c (sym e ∙ q) hc)
+          ∙ eqb-true (digit (getD s w 0) c + digit (getD l w 0) c) (digit whole c) (every-at 64 wordTest (sym e ∙ q) c hc)
           ∙ full c hc ∙ ap (λ (n : ℕ). bit (ltb (w * 64 + c) n)) er
 
       pick : Dec (w * 64 ≤ x) → bitAt s x + bitAt l x ≡ bit (ltb x (capacity l))
@@ -203,17 +208,17 @@ module _ (l s : List ℕ) (k : ℕ) (hk : k < 256) (before : (x : ℕ) → bitAt
     where
       refuse : Formed l → ⊥
       refuse f = w .bad e (of-line l k (f .below k hk) (f .last k hk)) (λ x hx.
-          omega (arith, before x, at-most-once l f x (omega (arith, f .most)), total-suc (λ j. count x (rowsOf l j)) k, total-mono (λ j. count x (rowsOf l j)) (suc k) 256 hk))
+          omega (arith, before x, at-most-once l f x (omega (arith, f .most)), sum-suc k (λ j. count x (rowsOf l j)), sum-longer (λ j. count x (rowsOf l j)) (suc k) 256 hk))
 
-  pub survey-more : r ≡ true → every (lineOk l) k ≡ true → (every (lineOk l) (k + 1) ≡ true) × ((x : ℕ) → bitAt s′ x ≡ standsTo l (k + 1) x)
+  pub survey-more : r ≡ true → every k (lineOk l) ≡ true → (every (k + 1) (lineOk l) ≡ true) × ((x : ℕ) → bitAt s′ x ≡ standsTo l (k + 1) x)
   survey-more e q = (
     every-more (lineOk l) k q (w .good e .0),
-    λ x. w .good e .1 x ∙ ap (λ (n : ℕ). n + count x (rowsOf l k)) (before x) ∙ sym (total-suc (λ j. count x (rowsOf l j)) k) ∙ ap (λ (n : ℕ). standsTo l n x) (sym (add-one k)),
+    λ x. w .good e .1 x ∙ ap (λ (n : ℕ). n + count x (rowsOf l k)) (before x) ∙ sym (sum-suc k (λ j. count x (rowsOf l j))) ∙ ap (λ (n : ℕ). standsTo l n x) (sym (add-one k)),
   )
 
-pub survey-end : (l s : List ℕ) (k : ℕ) → k ≤ 256 → 256 ≤ k → every (lineOk l) k ≡ true → ((x : ℕ) → bitAt s x ≡ standsTo l k x) → Surveyed l s true
+pub survey-end : (l s : List ℕ) (k : ℕ) → k ≤ 256 → 256 ≤ k → every k (lineOk l) ≡ true → ((x : ℕ) → bitAt s x ≡ standsTo l k x) → Surveyed l s true
 survey-end l s k h h′ e all = let z : k ≡ 256 = omega arith in record {
-  good = λ q. (subst (λ (i : ℕ). every (lineOk l) i ≡ true) z e, λ x. all x ∙ ap (λ (i : ℕ). standsTo l i x) z ∙ sym (count-lines l x 256));
+  good = λ q. (subst (λ (i : ℕ). every i (lineOk l) ≡ true) z e, λ x. all x ∙ ap (λ (i : ℕ). standsTo l i x) z ∙ sym (count-lines l x 256));
   bad = λ q. absurd (false-true (sym q));
 }
 
@@ -243,6 +248,6 @@ module _ (l s : List ℕ) (r : Bool) (w : Surveyed l s r) where
     unfolding form
     form-end es q = sym (λ i. es i && (w .good e .0 i && (rows-true i && summaryOk l)))
       where
-        rows-true : rowsOk (λ x. count x (onLines l 256)) l ≡ true
-        rows-true = of-rows (λ x. count x (onLines l 256)) l (λ x h.
+        rows-true : rowsOk (λ x. count x (rowsOnLines l 256)) l ≡ true
+        rows-true = of-rows (λ x. count x (rowsOnLines l 256)) l (λ x h.
             ap (λ (n : ℕ). n + bitAt l x) (sym (w .good e .1 x)) ∙ rows-of (bitAt s) l (sym eb ∙ q) x h)

@@ -4,14 +4,12 @@ use mathlib.Core.List.{List, [], _∷_, _++_}
 use Prim.Native.Nat.{ℕ, zero, suc, _+_, _*_, _^_}
 use lib.Dec.{eqb, leb, ltb}
 use lib.ListN.{length, getD}
-use Rattle.lines.specs.Bits.{bit, digit, bitAt}
+use Rattle.protocol.specs.Folds.{every}
+use Rattle.protocol.specs.CartSets.{digit}
+use Rattle.protocol.specs.Form.{bit}
+use Rattle.lines.specs.Bits.{bitAt}
 use Rattle.lines.specs.Words.{freeWords, mostRows, lineCount, rowsAt, capacity, summaryOf, tailOf}
 use Rattle.lines.specs.Lines.{rowsOf}
-
--- a test at every number below n
-unfoldable pub every : (ℕ → Bool) → ℕ → Bool
-every p zero = true
-every p (suc n) = every p n && p n
 
 -- how often x stands in a list
 unfoldable pub count : ℕ → List ℕ → ℕ
@@ -29,9 +27,9 @@ lastOf d [] = d
 lastOf d (x ∷ xs) = lastOf x xs
 
 -- the rows of the lines below n, line after line
-unfoldable pub onLines : List ℕ → ℕ → List ℕ
-onLines l zero = []
-onLines l (suc k) = onLines l k ++ rowsOf l k
+unfoldable pub rowsOnLines : List ℕ → ℕ → List ℕ
+rowsOnLines l zero = []
+rowsOnLines l (suc k) = rowsOnLines l k ++ rowsOf l k
 
 -- whole rows after the lines, and no more of them than there are bits for free rows
 unfoldable pub sized : List ℕ → Bool
@@ -43,12 +41,12 @@ lineOk l k = allBelow (capacity l) (rowsOf l k) && eqb (lastOf (tailOf l k) (row
 
 -- each row of the pool is free or stands once on the lines, not both, and no other row is either; `stands x` says how often x stands
 unfoldable pub rowsOk : (ℕ → ℕ) → List ℕ → Bool
-rowsOk stands l = every (λ x. eqb (stands x + bitAt l x) (bit (ltb x (capacity l)))) mostRows
+rowsOk stands l = every mostRows (λ x. eqb (stands x + bitAt l x) (bit (ltb x (capacity l))))
 
 -- the summary says which words of the free rows are not 0, and has no other bit
 unfoldable pub summaryOk : List ℕ → Bool
-summaryOk l = every (λ w. eqb (digit (summaryOf l) w) (bit (ltb 0 (getD l w 0)))) freeWords && ltb (summaryOf l) (2 ^ freeWords)
+summaryOk l = every freeWords (λ w. eqb (digit (summaryOf l) w) (bit (ltb 0 (getD l w 0)))) && ltb (summaryOf l) (2 ^ freeWords)
 
 -- the whole rule
 unfoldable pub form : List ℕ → Bool
-form l = sized l && (every (lineOk l) lineCount && (rowsOk (λ x. count x (onLines l lineCount)) l && summaryOk l))
+form l = sized l && (every lineCount (lineOk l) && (rowsOk (λ x. count x (rowsOnLines l lineCount)) l && summaryOk l))

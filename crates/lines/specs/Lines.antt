@@ -1,7 +1,8 @@
 -- The lines as lists of records.
 use mathlib.Core.List.{List, [], _∷_, map}
-use Prim.Native.Nat.{ℕ, zero, suc, _+_}
+use Prim.Native.Nat.{ℕ, zero, suc}
 use lib.ListN.{length}
+use Rattle.protocol.specs.Folds.{sum}
 use Rattle.lines.specs.declared.Record.{Record}
 use Rattle.lines.specs.Words.{lineCount, headOf, lengthOf, nextOf, wordOf, cartsOf}
 
@@ -9,11 +10,6 @@ use Rattle.lines.specs.Words.{lineCount, headOf, lengthOf, nextOf, wordO
 unfoldable pub chain : (ℕ → ℕ) → ℕ → ℕ → List ℕ
 chain next x zero = []
 chain next x (suc n) = x ∷ chain next (next x) n
-
--- the sum of f over the numbers below n
-unfoldable pub total : (ℕ → ℕ) → ℕ → ℕ
-total f zero = 0
-total f (suc n) = total f n + f n
 
 -- the rows of line k, its head first
 unfoldable pub rowsOf : List ℕ → ℕ → List ℕ
@@ -33,4 +29,4 @@ recordsFrom l x n = map (recordOf l) (chain (nextOf l) x n)
 
 -- how many records are on the lines
 unfoldable pub used : List ℕ → ℕ
-used l = total (λ k. length (lineOf l k)) lineCount
+used l = sum lineCount (λ k. length (lineOf l k))

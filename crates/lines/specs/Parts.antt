@@ -5,11 +5,14 @@ use mathlib.Core.List.{List}
 use Prim.Native.Nat.{ℕ, _+_, _-_, _*_, _^_, _≤_, _<_, max}
 use lib.Dec.{eqb, ltb}
 use lib.ListN.{length, getD, set}
+use Rattle.protocol.specs.Folds.{every}
+use Rattle.protocol.specs.CartSets.{digit}
+use Rattle.protocol.specs.Form.{bit}
 use Rattle.lines.specs.declared.Record.{Record}
-use Rattle.lines.specs.Bits.{bit, digit, bitAt}
+use Rattle.lines.specs.Bits.{bitAt}
 use Rattle.lines.specs.Words.{freeWords, mostRows, lineCount, linesAt, capacity, summaryOf, lineAt, rowAt, tailOf, lengthOf}
 use Rattle.lines.specs.Lines.{rowsOf}
-use Rattle.lines.specs.Form.{form, every, lineOk, count, onLines, summaryOk}
+use Rattle.lines.specs.Form.{form, lineOk, count, rowsOnLines, summaryOk}
 
 -- ---- bits of a word: r is x with bit b, or without it
 pub record With (x b r : ℕ) : Type 0 where
@@ -96,5 +99,5 @@ pub record Walked (l : List ℕ) (k : ℕ) (s s′ : List ℕ) (r : Bool) : Type
 
 -- a walk of every line
 pub record Surveyed (l s′ : List ℕ) (r : Bool) : Type 0 where
-  pub good : r ≡ true → (every (lineOk l) lineCount ≡ true) × ((x : ℕ) → bitAt s′ x ≡ count x (onLines l lineCount))
+  pub good : r ≡ true → (every lineCount (lineOk l) ≡ true) × ((x : ℕ) → bitAt s′ x ≡ count x (rowsOnLines l lineCount))
   pub bad : r ≡ false → form l ≡ true → ⊥

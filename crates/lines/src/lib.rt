@@ -11,10 +11,13 @@ ghost use mathlib.Core.List.{_∷_};
 ghost use Prim.Native.Nat.{ℕ, _+_, _-_, _*_, _<_, _≤_};
 ghost use lib.ListN.{length, drop};
 ghost use lib.Dec.{eqb, ltb};
-ghost use Rattle.lines.specs.Bits.{digit, bit, bitAt};
+ghost use Rattle.protocol.specs.Folds.{every};
+ghost use Rattle.protocol.specs.CartSets.{digit};
+ghost use Rattle.protocol.specs.Form.{bit};
+ghost use Rattle.lines.specs.Bits.{bitAt};
 ghost use Rattle.lines.specs.Words.{freeWords, mostRows, lineCount, linesAt, rowsAt, lineAt, rowAt, headOf, tailOf, lengthOf, nextOf, capacity, summaryOf};
 ghost use Rattle.lines.specs.Lines.{recordOf, lineOf, used};
-ghost use Rattle.lines.specs.Form.{form, sized, every, rowsOk, summaryOk};
+ghost use Rattle.lines.specs.Form.{form, sized, rowsOk, summaryOk};
 ghost use Rattle.lines.specs.Post.{Pushed, Popped, Cleared};
 ghost use Rattle.lines.specs.Parts.{With, Without, Summed, Full, Freed, Taken, Given, AllFree, Emptied, Link, Fits, joined, left, Marked, Walked, Surveyed};
 
@@ -376,7 +379,7 @@ fn lines_ok(pool: &[u64], seen: &mut [u64]) -> bool
 
 // The rows seen and the free rows are the whole word, and none is both.
 fn word_ok(seen: u64, free: u64, whole: u64) -> bool
-    ensures { λ r. ⌜ r ≡ every (λ c. eqb (digit seen c + digit free c) (digit whole c)) 64 ⌝ }
+    ensures { λ r. ⌜ r ≡ every 64 (λ c. eqb (digit seen c + digit free c) (digit whole c)) ⌝ }
 {
     if seen | free != whole {
         return false;

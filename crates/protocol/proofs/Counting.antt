@@ -123,13 +123,13 @@ sum-term (suc n) f k h =
     (λ q. rw (eqb-true k n q) (omega arith))
     (λ q. let z : k ≡ n → ⊥ = eqb-false k n q in let y = sum-term n f k (omega arith) in omega arith)
 
-sum-swap : (n k : ℕ) (f : ℕ → ℕ → ℕ) → sum n (λ i. sum k (λ j. f i j)) ≡ sum k (λ j. sum n (λ i. f i j))
+pub sum-swap : (n k : ℕ) (f : ℕ → ℕ → ℕ) → sum n (λ i. sum k (λ j. f i j)) ≡ sum k (λ j. sum n (λ i. f i j))
 unfolding sum
 sum-swap zero k f = sym (sum-zero k)
 sum-swap (suc n) k f = let z = sum-swap n k f in let y = sum-add k (λ j. sum n (λ i. f i j)) (λ j. f n j) in omega arith
 
 -- one term alone is more
-sum-bump : (n : ℕ) (f g : ℕ → ℕ) (t x : ℕ) → t < n → ((k : ℕ) → k < n → (k ≡ t → ⊥) → f k ≡ g k) → f t ≡ x + g t → sum n f ≡ x + sum n g
+pub sum-bump : (n : ℕ) (f g : ℕ → ℕ) (t x : ℕ) → t < n → ((k : ℕ) → k < n → (k ≡ t → ⊥) → f k ≡ g k) → f t ≡ x + g t → sum n f ≡ x + sum n g
 unfolding sum
 sum-bump zero f g t x lt h e = absurd (omega arith)
 sum-bump (suc n) f g t x lt h e =

@@ -17,7 +17,7 @@ use Rattle.protocol.proofs.Tests.{by-eq, by-lt, by-test, clash, eqb-sel
 
 -- DIGITS
 
-digit-lt : (x c : ℕ) → digit x c < 2
+pub digit-lt : (x c : ℕ) → digit x c < 2
 digit-lt x c = mod-lt (x / 2 ^ c) (zero-lt-suc 1)
 
 -- the digits of an operation that works digit by digit
@@ -25,13 +25,13 @@ module _ (op : ℕ → ℕ → ℕ) (f : ℕ → ℕ → ℕ)
     (step : (a b : ℕ) → op a b ≡ op (a / 2) (b / 2) * 2 + f (a % 2) (b % 2))
     (shr : (a b k : ℕ) → op a b / 2 ^ k ≡ op (a / 2 ^ k) (b / 2 ^ k))
     (small : (x y : ℕ) → x < 2 → y < 2 → f x y < 2) where
-  op-digit : (a b c : ℕ) → digit (op a b) c ≡ f (digit a c) (digit b c)
+  pub op-digit : (a b c : ℕ) → digit (op a b) c ≡ f (digit a c) (digit b c)
   op-digit a b c =
       ap (λ (x : ℕ). x % 2) (shr a b c ∙ step (a / 2 ^ c) (b / 2 ^ c))
       ∙ digits-mod (op (a / 2 ^ c / 2) (b / 2 ^ c / 2)) (small (digit a c) (digit b c) (digit-lt a c) (digit-lt b c))
 
 -- a statement on two digits is one on four cases
-by-digits : (P : ℕ → ℕ → Type 0) → P 0 0 → P 0 1 → P 1 0 → P 1 1 → (x y : ℕ) → x < 2 → y < 2 → P x y
+pub by-digits : (P : ℕ → ℕ → Type 0) → P 0 0 → P 0 1 → P 1 0 → P 1 1 → (x y : ℕ) → x < 2 → y < 2 → P x y
 by-digits P a b c d zero zero hx hy = a
 by-digits P a b c d zero (suc zero) hx hy = b
 by-digits P a b c d (suc zero) zero hx hy = c
@@ -40,22 +40,22 @@ by-digits P a b c d zero (suc (suc y)) hx hy = absurd (not-suc-le-zero (le-of-su
 by-digits P a b c d (suc zero) (suc (suc y)) hx hy = absurd (not-suc-le-zero (le-of-suc-le-suc (le-of-suc-le-suc hy)))
 by-digits P a b c d (suc (suc x)) y hx hy = absurd (not-suc-le-zero (le-of-suc-le-suc (le-of-suc-le-suc hx)))
 
-min-small : (x y : ℕ) → x < 2 → y < 2 → min x y < 2
+pub min-small : (x y : ℕ) → x < 2 → y < 2 → min x y < 2
 min-small x y hx hy = omega arith
 
-max-small : (x y : ℕ) → x < 2 → y < 2 → max x y < 2
+pub max-small : (x y : ℕ) → x < 2 → y < 2 → max x y < 2
 max-small x y hx hy = omega arith
 
-differ-small : (x y : ℕ) → x < 2 → y < 2 → differ x y < 2
+pub differ-small : (x y : ℕ) → x < 2 → y < 2 → differ x y < 2
 differ-small = by-digits (λ x y. differ x y < 2) (omega arith) (omega arith) (omega arith) (omega arith)
 
-half-digit : (a c : ℕ) → digit (a / 2) c ≡ digit a (suc c)
+pub half-digit : (a c : ℕ) → digit (a / 2) c ≡ digit a (suc c)
 half-digit a c = ap (λ (x : ℕ). x % 2) (shr-shr a 1 c ∙ ap (λ (k : ℕ). a / 2 ^ k) (one-add c))
   where
     one-add : (c : ℕ) → 1 + c ≡ suc c
     one-add c = omega arith
 
-power-digit : (c d : ℕ) → eqb (digit (2 ^ c) d) 1 ≡ eqb c d
+pub power-digit : (c d : ℕ) → eqb (digit (2 ^ c) d) 1 ≡ eqb c d
 power-digit zero zero = refl
 power-digit zero (suc d) =
     ap (λ (x : ℕ). eqb x 1) (sym (half-digit 1 d) ∙ ap (λ (x : ℕ). x % 2) (zero-div (2 ^ d))) ∙ sym (eqb·zero-suc d)
@@ -175,7 +175,7 @@ setOf-member n f c e = let l = member-below n (setOf n f) c (setOf-lt n f) e in 
 
 -- EQUAL SETS
 
-same-digits : (n a b : ℕ) → a < 2 ^ n → b < 2 ^ n → ((c : ℕ) → c < n → digit a c ≡ digit b c) → a ≡ b
+pub same-digits : (n a b : ℕ) → a < 2 ^ n → b < 2 ^ n → ((c : ℕ) → c < n → digit a c ≡ digit b c) → a ≡ b
 same-digits zero a b ha hb e = lt-one ha ∙ sym (lt-one hb)
 same-digits (suc n) a b ha hb e =
     sym (div-add-mod' a 2)

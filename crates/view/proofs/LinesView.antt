@@ -1,18 +1,16 @@
 -- What a push, a pop and a start of the lines do to the lines of the floor.
-use mathlib.Core.Path.{_≡_, refl, sym, ap, ap₂, _∙_, fun-ext}
-use mathlib.Core.Bool.{Bool, true, false, cond, _&&_}
+use mathlib.Core.Path.{_≡_, refl, sym, ap, _∙_, fun-ext}
+use mathlib.Core.Bool.{true, false, _&&_}
 use mathlib.Core.List.{List, [], _∷_, _++_, map}
-use Prim.Native.Nat.{ℕ, zero, suc, _+_, _*_, _≤_, _<_}
+use Prim.Native.Nat.{ℕ, _+_, _*_, _<_}
 use native.Mathlib.Omega.{arith}
 use lib.Dec.{eqb, ltb}
-use lib.ListN.{length, drop, length-map, length-append}
-use borrow.Author.Tests.{ltb-true, ltb-false, lt-ltb, le-ltb, eqb-true, ne-eqb, eq-eqb}
-use Rattle.protocol.specs.Folds.{sum}
-use Rattle.protocol.specs.Floor.{Record, tail, put, behead, between, toEvery, onTheLines}
-use Rattle.protocol.proofs.Tests.{by-test, by-lt, by-eq, clash, and-left, and-right, and-intro, and-false, and-second-false, both-equal, both-differ, not-both-equal, eqb-self}
-use Rattle.protocol.proofs.Counting.{sum-ext, sum-add, sum-zero, sum-nil}
+use lib.ListN.{drop}
+use borrow.Author.Tests.{ltb-true, lt-ltb}
+use Rattle.protocol.specs.Floor.{Record, tail, put, behead, between}
+use Rattle.protocol.proofs.Tests.{by-test, by-lt, and-left, and-right, and-intro, both-equal, both-differ, not-both-equal}
 use Rattle.lines.specs.declared.Record as word
-use Rattle.lines.specs.Lines.{lineOf, used, total}
+use Rattle.lines.specs.Lines.{lineOf}
 use Rattle.lines.specs.Post.{Pushed, Popped, Cleared}
 use Rattle.view.specs.Records.{recordIn, linesIn}
 

@@ -1,7 +1,6 @@
 -- `lines::digit_of` meets its contract. A shift, and the lowest bit.
 use Prim.Native.Nat.{_/_, _^_}
 use lib.Bits.{and-mask}
-use Rattle.lines.specs.Bits.{digit}
 use borrow.Author.Needs.{needs}
 use Rattle.lines.proofs.digit_of.Statement.{statement}
 use Rattle.lines.proofs.digit_of.Tie as tie
@@ -10,7 +9,6 @@ shr-result : tie.Need-shr-result
 shr-result c = search needs
 
 returns : tie.Need-returns
-unfolding digit
 returns c = and-mask (c .args .s / 2 ^ c .args .c) 1
 
 pub digit-of-spec : {M : Type 1} → statement M

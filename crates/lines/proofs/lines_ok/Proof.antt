@@ -5,17 +5,18 @@ use mathlib.Core.Bool.{true}
 use Prim.Native.Nat.{ℕ, _-_, _≤_}
 use lib.ListN.{length}
 use borrow.Author.Tests.{not-true, not-false}
+use Rattle.protocol.specs.Folds.{every}
 use Rattle.lines.specs.Bits.{bitAt}
 use Rattle.lines.specs.Lines.{rowsOf}
-use Rattle.lines.specs.Form.{every, lineOk, count}
-use Rattle.lines.proofs.Sums.{every-none, total-none}
+use Rattle.lines.specs.Form.{lineOk, count}
+use Rattle.lines.proofs.Sums.{every-none, sum-none}
 use Rattle.lines.proofs.Formed.{standsTo}
 use Rattle.lines.proofs.Test.{survey-fails, survey-more, survey-end}
 use Rattle.lines.proofs.lines_ok.Statement.{statement}
 use Rattle.lines.proofs.lines_ok.Tie as tie
 
 abbrev Inv-loop : tie.InvT-loop
-Inv-loop pool seen₀ k₀ seen k = (k ≤ 256) × (length seen ≡ 49) × (every (lineOk pool) k ≡ true) × ((x : ℕ) → bitAt seen x ≡ standsTo pool k x)
+Inv-loop pool seen₀ k₀ seen k = (k ≤ 256) × (length seen ≡ 49) × (every k (lineOk pool) ≡ true) × ((x : ℕ) → bitAt seen x ≡ standsTo pool k x)
 
 abbrev μ-loop : tie.MeasureT-loop
 μ-loop pool seen₀ k₀ seen k = 256 - k
@@ -23,7 +24,7 @@ abbrev μ-loop : tie.MeasureT-loop
 loop-holds : tie.Need-loop-holds Inv-loop μ-loop
 loop-holds c =
     let s = c .before .before in
-    (omega arith, s .pre .1, every-none (lineOk (s .args .pool .now)), λ x. s .pre .2 x ∙ sym (total-none (λ j. count x (rowsOf (s .args .pool .now) j))))
+    (omega arith, s .pre .1, every-none (lineOk (s .args .pool .now)), λ x. s .pre .2 x ∙ sym (sum-none (λ j. count x (rowsOf (s .args .pool .now) j))))
 
 line-ok-requires : tie.Need-line-ok-requires Inv-loop μ-loop
 line-ok-requires c κs =

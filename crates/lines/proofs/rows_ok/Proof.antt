@@ -5,7 +5,8 @@ use Prim.Native.Nat.{ℕ, _+_, _-_, _*_, _≤_, _<_}
 use native.Mathlib.Nat.{not-suc-le-zero}
 use borrow.Author.Tests.{not-true, not-false}
 use lib.Dec.{ltb}
-use Rattle.lines.specs.Bits.{bit, bitAt}
+use Rattle.protocol.specs.Form.{bit}
+use Rattle.lines.specs.Bits.{bitAt}
 use Rattle.lines.specs.Words.{capacity}
 use Rattle.lines.proofs.Formed.{sized-of}
 use Rattle.lines.proofs.Test.{word-fails, word-more, rows-end}

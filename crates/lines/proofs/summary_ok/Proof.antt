@@ -3,14 +3,14 @@ use native.Mathlib.Omega.{arith}
 use mathlib.Core.Path.{_≡_}
 use mathlib.Core.Bool.{true}
 use Prim.Native.Nat.{_-_, _≤_}
-use Rattle.lines.specs.Form.{every}
+use Rattle.protocol.specs.Folds.{every}
 use Rattle.lines.proofs.Sums.{every-none}
 use Rattle.lines.proofs.Test.{summaryTest, summary-fails, summary-more, summary-end}
 use Rattle.lines.proofs.summary_ok.Statement.{statement}
 use Rattle.lines.proofs.summary_ok.Tie as tie
 
 abbrev Inv-loop : tie.InvT-loop
-Inv-loop pool s w₀ w = (w ≤ 49) × (every (summaryTest pool) w ≡ true)
+Inv-loop pool s w₀ w = (w ≤ 49) × (every w (summaryTest pool) ≡ true)
 
 abbrev μ-loop : tie.MeasureT-loop
 μ-loop pool s w₀ w = 49 - w
