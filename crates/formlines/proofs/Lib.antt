@@ -13,3 +13,5 @@ pub mod Middle
 pub mod Theorem
 pub mod CodeLaws
 pub mod StepLaws
+pub mod PassLaws
+pub mod Whole

@@ -2,10 +2,11 @@
 use mathlib.Core.Path.{refl, sym, ap, ap₂, _∙_, _≡_}
 use mathlib.Core.Bool.{Bool, true, false, cond, _&&_, not}
 use mathlib.Core.List.{List, [], _∷_, map}
-use Prim.Native.Nat.{ℕ, suc, _+_, _-_, _*_, _<_}
+use Prim.Native.Nat.{ℕ, suc, _+_, _-_, _*_, _^_, _≤_, _<_}
 use native.Mathlib.Omega.{arith}
 use lib.Dec.{eqb, ltb}
 use borrow.Author.Tests.{eqb-true, ne-eqb, ltb-true, not-true, not-false}
+use Rattle.protocol.specs.CartSets.{has}
 use Rattle.protocol.specs.Floor.{Carts}
 use Rattle.protocol.proofs.Tests.{and-false, and-left, and-right}
 use Rattle.lines.specs.declared.Record as word
@@ -13,11 +14,11 @@ use Rattle.lines.specs.Words.{headOf, lengthOf, nextOf}
 use Rattle.lines.specs.Lines.{recordOf, lineOf, recordsFrom}
 use Rattle.lines.proofs.Visit.{line-from, from-none, from-some}
 use Rattle.messages.specs.View.{Rooms}
-use Rattle.view.specs.Records.{kindOf, indexOf, numberOf}
+use Rattle.view.specs.Records.{kindOf, indexOf, numberOf, isIn}
 use Rattle.formlines.specs.declared.Way.{Way}
 use Rattle.formlines.specs.Said.{Said, aMulticast, anAckList, aDelete, aDeregister, aRegister, unknown, said, saidOn}
-use Rattle.formlines.specs.Pass.{Met, metSo, fresh, note, provided, right, fits, meet, along}
-use Rattle.formlines.specs.Ways.{metOf, outcome}
+use Rattle.formlines.specs.Pass.{Met, metSo, fresh, note, provided, isLeaving, isTravelling, right, fits, meet, along}
+use Rattle.formlines.specs.Ways.{metOf, outcome, Inside}
 
 -- ONE TEST AFTER THE OTHER
 pub off-first : (a f : Bool) (s : Met) (r : Said) (t : Met) → not a ≡ true → t ≡ provided false s → t ≡ outcome (a && f) s r
@@ -72,12 +73,13 @@ module _ (r : word.Record) (kind index number : ℕ) (k : kind ≡ kindOf (r .0)
       let off : (t : ℕ) → (kind ≡ t → ⊥) → eqb (kindOf (r .0)) t ≡ false = λ t q. ne-eqb (kindOf (r .0)) t (λ p. q (k ∙ p)) in
       rw (off 1 a, off 2 b, off 3 c, off 4 d, off 5 e) (ap unknown (sym x))
 
--- its room, or its cart, is one of them
-pub slot-right : (m : ℕ) (x y o r b : Bool) → r ≡ ((ltb m 32 && x) && y) → b ≡ (o && r) → b ≡ true → m < 32
-slot-right m x y o r b e h t = ltb-true m 32 (and-left (ltb m 32) x (and-left (ltb m 32 && x) y (sym e ∙ and-right o r (sym h ∙ t))))
+-- the record that was told
+pub told : (b : Bool) (s t : Met) (q q′ : Said) → q′ ≡ q → t ≡ outcome (b && fresh s q) s q → t ≡ outcome (b && fresh s q′) s q′
+told b s t q q′ e h = h ∙ sym (ap (λ (x : Said). outcome (b && fresh s x) s x) e)
 
-pub cart-right : (m k : ℕ) (x o r b : Bool) → r ≡ (ltb m k && x) → b ≡ (o && r) → b ≡ true → m < k
-cart-right m k x o r b e h t = ltb-true m k (and-left (ltb m k) x (sym e ∙ and-right o r (sym h ∙ t)))
+pub told-nothing : (b : Bool) (s t : Met) (q : Said) (x : ℕ) → q ≡ unknown x → t ≡ provided false s → t ≡ outcome (b && fresh s q) s q
+unfolding fresh
+told-nothing b s t q x e h = rw (e, and-false b) h
 
 four : (a b c d : Bool) → ((a && b) && c) && d ≡ a && (b && (c && d))
 four true b c d = three b c d
@@ -88,20 +90,26 @@ four true b c d = three b c d
 four false b c d = refl
 
 module _ (n k : ℕ) (C : Carts) (R : Rooms) (i j : ℕ) where
+  -- the room, or the cart, of a right record is one of the floor's
+  pub right-inside : (q : Said) → k ≤ 64 → right n k C R i j q ≡ true → Inside q
+  unfolding right
+  right-inside (aMulticast m x) l e = tt
+  right-inside (anAckList m x y) l e =
+      ltb-true m 32 (and-left (ltb m 32) (isIn R j x m) (and-left (ltb m 32 && isIn R j x m) (ltb 0 y && ltb y (2 ^ k)) e))
+  right-inside (aDelete m x) l e =
+      ltb-true m 32 (and-left (ltb m 32) (isIn R i x m) (and-left (ltb m 32 && isIn R i x m) (has (R .waiting m) j && eqb (R .acked m) (R .named m)) e))
+  right-inside (aDeregister d) l e = let z = ltb-true d k (and-left (ltb d k) (isLeaving (C .place d) j i) e) in omega arith
+  right-inside (aRegister d) l e = let z = ltb-true d k (and-left (ltb d k) (isTravelling (C .place d) i j) e) in omega arith
+  right-inside (unknown x) l e = tt
+
   -- ONE RECORD
-  pub meets : (s t : Met) (q q′ : Said) (f o r b : Bool) → f ≡ (ltb i n && ltb j n) → o ≡ (s .ok && f) → r ≡ right n k C R i j q → b ≡ (o && r) → q′ ≡ q
-      → t ≡ outcome (b && fresh s q) s q → t ≡ meet n k C R s i j q′
+  pub meets : (s t : Met) (q : Said) (f o r b : Bool) → f ≡ (ltb i n && ltb j n) → o ≡ (s .ok && f) → r ≡ right n k C R i j q → b ≡ (o && r)
+      → t ≡ outcome (b && fresh s q) s q → t ≡ meet n k C R s i j q
   unfolding meet fits
-  meets s t q q′ f o r b ef eo er eb eq et =
+  meets s t q f o r b ef eo er eb et =
       let l = ltb i n && ltb j n in
       let w : b ≡ ((s .ok && l) && right n k C R i j q) = eb ∙ ap₂ (λ (x y : Bool). x && y) (eo ∙ ap (λ (x : Bool). s .ok && x) ef) er in
       et ∙ ap (λ (x : Bool). outcome x s q) (ap (λ (x : Bool). x && fresh s q) w ∙ four (s .ok) l (right n k C R i j q) (fresh s q))
-      ∙ sym (ap (λ (x : Said). meet n k C R s i j x) eq)
-
-  pub meets-nothing : (s t : Met) (q : Said) (x : ℕ) → q ≡ unknown x → t ≡ provided false s → t ≡ meet n k C R s i j q
-  unfolding meet fits right
-  meets-nothing s t q x e h =
-      rw (e, and-false (ltb i n && ltb j n), and-false (s .ok)) (h ∙ ap (λ (b : Bool). metSo b (s .next) (s .gone) (s .found) (s .seen)) (and-false (s .ok)))
 
   -- ONE LINE
   pub walk-start : (words : List ℕ) (left row : ℕ) (s : Met) → left ≡ lengthOf words (i * 16 + j) → row ≡ headOf words (i * 16 + j)

@@ -1,28 +1,41 @@
 // THE FORM TEST OF THE LINES, over the lent parts: one pass over the records, with masks of what was met.
 use carts::Place;
 use ids::CartNumber;
+use ids::Station;
 use lines::Record;
 ghost use mathlib.Core.Path.{_≡_};
-ghost use mathlib.Core.Bool.{_&&_, true, false};
+ghost use mathlib.Core.Bool.{_&&_, _||_, cond, not, true, false};
 ghost use mathlib.Core.List.{List};
 ghost use Prim.Native.Nat.{ℕ, _<_, _≤_, _^_};
 ghost use lib.Dec.{eqb, ltb};
 ghost use lib.ListN.{length};
-ghost use Rattle.protocol.specs.CartSets.{has};
+ghost use Rattle.protocol.specs.Folds.{every, listOf};
+ghost use Rattle.protocol.specs.CartSets.{has, with};
+ghost use Rattle.protocol.specs.Floor.{moving};
+ghost use Rattle.cartset.specs.Masks.{within};
+ghost use Rattle.stations.specs.View.{stationsIn};
+ghost use Rattle.view.specs.View.{lent};
 ghost use Rattle.carts.specs.Records.{seen};
 ghost use Rattle.carts.specs.View.{cartsIn};
 ghost use Rattle.messages.specs.View.{roomsIn};
 ghost use Rattle.view.specs.Records.{isIn};
 ghost use Rattle.lines.specs.Form.{form};
 ghost use Rattle.formlines.specs.Said.{aMulticast, anAckList, aDelete, aDeregister, said, saidOn};
-ghost use Rattle.formlines.specs.Pass.{isLeaving, isTravelling, provided, fresh, meet, along};
-ghost use Rattle.formlines.specs.Ways.{metOf, outcome};
+ghost use Rattle.formlines.specs.Pass.{isLeaving, isTravelling, right, provided, fresh, meet, along, onLine, fromStation, fromEach, gathered, apart, isTaken, passed, ended, movers, passes, linesPass};
+ghost use Rattle.formlines.specs.Ways.{metOf, outcome, Inside};
 
 // Both are yes.
 fn both(a: bool, b: bool) -> bool
     ensures { λ r. ⌜ r ≡ (a && b) ⌝ }
 {
     if a { b } else { false }
+}
+
+// One of them is yes.
+fn either(a: bool, b: bool) -> bool
+    ensures { λ r. ⌜ r ≡ (a || b) ⌝ }
+{
+    if a { true } else { b }
 }
 
 // ---- A record against the tables.
@@ -118,6 +131,24 @@ fn register_right(carts: &[u64], k: u64, i: u64, j: u64, cart: u64) -> bool
         return false;
     }
     is_travelling(carts::place_of(carts, CartNumber(cart)), i, j)
+}
+
+// A record on the line from i to j, on a floor of k carts.
+fn is_right(messages: &[u64], carts: &[u64], k: u64, i: u64, j: u64, r: Record) -> bool
+    requires { ⌜ (length (now messages) ≡ 192) × (length (now carts) ≡ 1216) × (k ≤ 64) × (j < 16) ⌝ }
+    ensures { λ x. ⌜ ((n : ℕ) → x ≡ right n k (cartsIn (now (carts .entry))) (roomsIn (now (messages .entry))) i j (said r)) ⌝ }
+{
+    let kind = view::kind_of(r);
+    let index = view::index_of(r);
+    let number = view::number_of(r);
+    match kind {
+        1 => multicast_right(messages, i, j, index, number),
+        2 => ack_list_right(messages, k, j, index, number, r.1),
+        3 => delete_right(messages, i, j, index, number),
+        4 => deregister_right(carts, k, i, j, index),
+        5 => register_right(carts, k, i, j, index),
+        _ => false,
+    }
 }
 
 // ---- A record against what was met.
@@ -217,6 +248,25 @@ fn on_handoff(way: Way, right: bool, cart: u64) -> Way
     }
 }
 
+// A record against what was met, once it fits the tables.
+fn take(masks: &mut [u64], way: Way, right: bool, r: Record) -> Way
+    requires { ⌜ (length (now masks) ≡ 32) × (right ≡ true → Inside (said r)) ⌝ }
+    ensures { λ x. ⌜ metOf x (now (masks .exit)) ≡ outcome (right && fresh (metOf way (now (masks .entry))) (said r)) (metOf way (now (masks .entry))) (said r) ⌝ }
+    ensures { λ _. ⌜ length (now (masks .exit)) ≡ length (now (masks .entry)) ⌝ }
+{
+    let kind = view::kind_of(r);
+    let index = view::index_of(r);
+    let number = view::number_of(r);
+    match kind {
+        1 => on_multicast(way, right, index, number),
+        2 => on_ack_list(masks, way, right, index, r.1),
+        3 => on_delete(way, right, index, number),
+        4 => on_handoff(way, right, index),
+        5 => on_handoff(way, right, index),
+        _ => failed(way),
+    }
+}
+
 // The next record of the line from i to j, on a floor of n stations and k carts.
 fn meet(
     masks: &mut [u64],
@@ -233,42 +283,9 @@ fn meet(
     ensures { λ x. ⌜ metOf x (now (masks .exit)) ≡ meet n k (cartsIn (now (carts .entry))) (roomsIn (now (messages .entry))) (metOf way (now (masks .entry))) i j (said r) ⌝ }
     ensures { λ _. ⌜ length (now (masks .exit)) ≡ length (now (masks .entry)) ⌝ }
 {
-    let kind = view::kind_of(r);
-    let index = view::index_of(r);
-    let number = view::number_of(r);
+    let right = is_right(messages, carts, k, i, j, r);
     let open = both(way.ok, both(i < n, j < n));
-    match kind {
-        1 => on_multicast(
-            way,
-            both(open, multicast_right(messages, i, j, index, number)),
-            index,
-            number,
-        ),
-        2 => on_ack_list(
-            masks,
-            way,
-            both(open, ack_list_right(messages, k, j, index, number, r.1)),
-            index,
-            r.1,
-        ),
-        3 => on_delete(
-            way,
-            both(open, delete_right(messages, i, j, index, number)),
-            index,
-            number,
-        ),
-        4 => on_handoff(
-            way,
-            both(open, deregister_right(carts, k, i, j, index)),
-            index,
-        ),
-        5 => on_handoff(
-            way,
-            both(open, register_right(carts, k, i, j, index)),
-            index,
-        ),
-        _ => failed(way),
-    }
+    take(masks, way, both(open, right), r)
 }
 
 // The records of the line from i to j, one after the other.
@@ -298,4 +315,262 @@ fn along(
         left -= 1;
     }
     met
+}
+
+// ---- All lines.
+
+// The line from i to j: its multicasts run from the number that j expects up to what i has sent.
+fn on_line(
+    masks: &mut [u64],
+    stations: &[u64],
+    messages: &[u64],
+    carts: &[u64],
+    lines: &[u64],
+    n: u64,
+    k: u64,
+    i: u64,
+    j: u64,
+    way: Way,
+) -> Way
+    requires { ⌜ (length (now masks) ≡ 32) × (length (now stations) ≡ 1938) × (length (now messages) ≡ 192) × (length (now carts) ≡ 1216) × (form (now lines) ≡ true) × (k ≤ 64) × (i < 16) × (j < 16) ⌝ }
+    ensures { λ x. ⌜ metOf x (now (masks .exit)) ≡ onLine n k (cartsIn (now (carts .entry))) (roomsIn (now (messages .entry))) (stationsIn (now (stations .entry))) (now (lines .entry)) (metOf way (now (masks .entry))) i j ⌝ }
+    ensures { λ _. ⌜ length (now (masks .exit)) ≡ length (now (masks .entry)) ⌝ }
+{
+    let expected = stations::expected_of(stations, Station(j), Station(i));
+    let sent = stations::sent_of(stations, Station(i));
+    let begin = Way {
+        ok: way.ok,
+        next: expected,
+        gone: 0,
+        found: way.found,
+    };
+    let met = along(masks, messages, carts, lines, n, k, i, j, begin);
+    let ok = both(met.ok, either(n <= j, met.next == sent));
+    Way {
+        ok,
+        next: met.next,
+        gone: met.gone,
+        found: met.found,
+    }
+}
+
+// The lines from station i.
+fn from_station(
+    masks: &mut [u64],
+    stations: &[u64],
+    messages: &[u64],
+    carts: &[u64],
+    lines: &[u64],
+    n: u64,
+    k: u64,
+    i: u64,
+    way: Way,
+) -> Way
+    requires { ⌜ (length (now masks) ≡ 32) × (length (now stations) ≡ 1938) × (length (now messages) ≡ 192) × (length (now carts) ≡ 1216) × (form (now lines) ≡ true) × (k ≤ 64) × (i < 16) ⌝ }
+    ensures { λ x. ⌜ metOf x (now (masks .exit)) ≡ fromStation n k (cartsIn (now (carts .entry))) (roomsIn (now (messages .entry))) (stationsIn (now (stations .entry))) (now (lines .entry)) (metOf way (now (masks .entry))) i 16 ⌝ }
+    ensures { λ _. ⌜ length (now (masks .exit)) ≡ length (now (masks .entry)) ⌝ }
+{
+    let mut met = way;
+    let mut j: u64 = 0;
+    while j < 16 {
+        met = on_line(masks, stations, messages, carts, lines, n, k, i, j, met);
+        j += 1;
+    }
+    met
+}
+
+// The lines from each station.
+fn from_each(
+    masks: &mut [u64],
+    stations: &[u64],
+    messages: &[u64],
+    carts: &[u64],
+    lines: &[u64],
+    n: u64,
+    k: u64,
+    way: Way,
+) -> Way
+    requires { ⌜ (length (now masks) ≡ 32) × (length (now stations) ≡ 1938) × (length (now messages) ≡ 192) × (length (now carts) ≡ 1216) × (form (now lines) ≡ true) × (k ≤ 64) ⌝ }
+    ensures { λ x. ⌜ metOf x (now (masks .exit)) ≡ fromEach n k (cartsIn (now (carts .entry))) (roomsIn (now (messages .entry))) (stationsIn (now (stations .entry))) (now (lines .entry)) (metOf way (now (masks .entry))) 16 ⌝ }
+    ensures { λ _. ⌜ length (now (masks .exit)) ≡ length (now (masks .entry)) ⌝ }
+{
+    let mut met = way;
+    let mut i: u64 = 0;
+    while i < 16 {
+        met = from_station(masks, stations, messages, carts, lines, n, k, i, met);
+        i += 1;
+    }
+    met
+}
+
+// ---- Before the lines.
+
+// The acknowledgements at the initiator and in the ack lists: they stand in one place, and whose they are.
+struct Acked {
+    apart: bool,
+    carts: u64,
+}
+
+// Of the message in room m, on a floor of n stations.
+fn gather(stations: &[u64], messages: &[u64], n: u64, m: usize) -> Acked
+    requires { ⌜ (length (now stations) ≡ 1938) × (length (now messages) ≡ 192) × (n ≤ 16) × (m < 32) ⌝ }
+    ensures { λ r. ⌜ (r .apart ≡ apart (stationsIn (now (stations .entry))) (roomsIn (now (messages .entry))) m n) × (r .carts ≡ gathered (stationsIn (now (stations .entry))) (roomsIn (now (messages .entry))) m n) ⌝ }
+{
+    let mut carts = messages::acked_of(messages, m);
+    let mut apart = true;
+    let mut t: u64 = 0;
+    while t < n {
+        let acks = stations::acks_of(stations, m, Station(t));
+        apart = both(apart, cartset::is_disjoint(acks, carts));
+        carts = cartset::union(carts, acks);
+        t += 1;
+    }
+    Acked { apart, carts }
+}
+
+// Of every room; those of a held message stand in one place.
+fn begin(masks: &mut [u64], stations: &[u64], messages: &[u64], n: u64) -> bool
+    requires { ⌜ (length (now masks) ≡ 32) × (length (now stations) ≡ 1938) × (length (now messages) ≡ 192) × (n ≤ 16) ⌝ }
+    ensures { λ r. ⌜ r ≡ every 32 (λ m. not (isTaken (roomsIn (now (messages .entry))) m) || apart (stationsIn (now (stations .entry))) (roomsIn (now (messages .entry))) m n) ⌝ }
+    ensures { λ _. ⌜ now (masks .exit) ≡ listOf 32 (λ m. gathered (stationsIn (now (stations .entry))) (roomsIn (now (messages .entry))) m n) ⌝ }
+{
+    let mut ok = true;
+    let mut m: usize = 0;
+    while m < 32 {
+        let met = gather(stations, messages, n, m);
+        let waiting = messages::waiting_of(messages, m);
+        ok = both(ok, either(waiting == 0, met.apart));
+        masks[m] = met.carts;
+        m += 1;
+    }
+    ok
+}
+
+// ---- After the lines.
+
+// The cart's next number for an initiator; 0 beyond sixteen.
+fn next_number(carts: &[u64], cart: u64, initiator: u64) -> u64
+    requires { ⌜ (length (now carts) ≡ 1216) × (cart < 64) ⌝ }
+    ensures { λ r. ⌜ r ≡ cartsIn (now (carts .entry)) .next cart initiator ⌝ }
+{
+    if 16 <= initiator {
+        return 0;
+    }
+    carts::next_of(carts, CartNumber(cart), Station(initiator))
+}
+
+// The next number of whoever is in the set is above.
+fn is_above(carts: &[u64], k: u64, number: u64, initiator: u64, set: u64) -> bool
+    requires { ⌜ (length (now carts) ≡ 1216) × (k ≤ 64) ⌝ }
+    ensures { λ r. ⌜ r ≡ every k (λ x. not (has set x) || ltb number (cartsIn (now (carts .entry)) .next x initiator)) ⌝ }
+{
+    let mut ok = true;
+    let mut cart: u64 = 0;
+    while cart < k {
+        let met = cartset::has(set, cart);
+        let next = next_number(carts, cart, initiator);
+        ok = both(ok, either(!met, number < next));
+        cart += 1;
+    }
+    ok
+}
+
+// Whoever acknowledged the message in room m is named, and has passed it.
+fn has_ended(messages: &[u64], carts: &[u64], k: u64, m: usize, set: u64) -> bool
+    requires { ⌜ (length (now messages) ≡ 192) × (length (now carts) ≡ 1216) × (k ≤ 64) × (m < 32) ⌝ }
+    ensures { λ r. ⌜ r ≡ (not (isTaken (roomsIn (now (messages .entry))) m) || (within 64 set (roomsIn (now (messages .entry)) .named m) && passed k (cartsIn (now (carts .entry))) (roomsIn (now (messages .entry))) m set)) ⌝ }
+{
+    let waiting = messages::waiting_of(messages, m);
+    let named = messages::named_of(messages, m);
+    let number = messages::number_of(messages, m);
+    let initiator = messages::initiator_of(messages, m);
+    let above = is_above(carts, k, number.0, initiator.0, set);
+    either(waiting == 0, both(cartset::is_within(set, named), above))
+}
+
+// In every room.
+fn all_ended(masks: &[u64], messages: &[u64], carts: &[u64], k: u64) -> bool
+    requires { ⌜ (length (now masks) ≡ 32) × (length (now messages) ≡ 192) × (length (now carts) ≡ 1216) × (k ≤ 64) ⌝ }
+    ensures { λ r. ⌜ r ≡ every 32 (ended k (cartsIn (now (carts .entry))) (roomsIn (now (messages .entry))) (now (masks .entry))) ⌝ }
+{
+    let mut ok = true;
+    let mut m: usize = 0;
+    while m < 32 {
+        ok = both(ok, has_ended(messages, carts, k, m, masks[m]));
+        m += 1;
+    }
+    ok
+}
+
+// "leaving or travelling"?
+fn is_moving(place: Place) -> bool
+    ensures { λ r. ⌜ r ≡ moving (seen place) ⌝ }
+{
+    match place {
+        Place::Leaving(_, _) => true,
+        Place::Travelling(_, _) => true,
+        _ => false,
+    }
+}
+
+// The set, and the cart if it is to join.
+fn joined(set: u64, joins: bool, cart: u64) -> u64
+    requires { ⌜ cart < 64 ⌝ }
+    ensures { λ r. ⌜ r ≡ cond joins (with set cart) set ⌝ }
+{
+    if joins {
+        cartset::with_cart(set, cart)
+    } else {
+        set
+    }
+}
+
+// Those of the k carts that are leaving or travelling.
+fn movers(carts: &[u64], k: u64) -> u64
+    requires { ⌜ (length (now carts) ≡ 1216) × (k ≤ 64) ⌝ }
+    ensures { λ r. ⌜ r ≡ movers k (cartsIn (now (carts .entry))) ⌝ }
+{
+    let mut set: u64 = 0;
+    let mut cart: u64 = 0;
+    while cart < k {
+        let place = carts::place_of(carts, CartNumber(cart));
+        set = joined(set, is_moving(place), cart);
+        cart += 1;
+    }
+    set
+}
+
+// ---- THE PASS, on a floor of n stations and k carts.
+fn passes(stations: &[u64], carts: &[u64], messages: &[u64], lines: &[u64], n: u64, k: u64) -> bool
+    requires { ⌜ (length (now stations) ≡ 1938) × (length (now carts) ≡ 1216) × (length (now messages) ≡ 192) × (form (now lines) ≡ true) × (n ≤ 16) × (k ≤ 64) ⌝ }
+    ensures { λ r. ⌜ r ≡ passes n k (stationsIn (now (stations .entry))) (cartsIn (now (carts .entry))) (roomsIn (now (messages .entry))) (now (lines .entry)) ⌝ }
+{
+    let mut masks = [0u64; 32];
+    let ok = begin(&mut masks, stations, messages, n);
+    let way = Way {
+        ok,
+        next: 0,
+        gone: 0,
+        found: 0,
+    };
+    let met = from_each(&mut masks, stations, messages, carts, lines, n, k, way);
+    let ends = all_ended(&masks, messages, carts, k);
+    let set = movers(carts, k);
+    both(met.ok, both(met.found == set, ends))
+}
+
+// Of the lent parts.
+pub fn lines_pass(stations: &[u64], carts: &[u64], messages: &[u64], lines: &[u64]) -> bool
+    requires { ⌜ (length (now stations) ≡ 1938) × (length (now carts) ≡ 1216) × (length (now messages) ≡ 192) × (form (now lines) ≡ true) ⌝ }
+    ensures { λ r. ⌜ ((texts : List ℕ) → r ≡ linesPass (lent (now (stations .entry)) (now (carts .entry)) (now (messages .entry)) (now (lines .entry)) texts)) ⌝ }
+{
+    let n = stations::station_count(stations);
+    if 16 < n {
+        return false;
+    }
+    let k = stations::cart_count(stations);
+    if 64 < k {
+        return false;
+    }
+    passes(stations, carts, messages, lines, n, k)
 }

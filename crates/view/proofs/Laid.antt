@@ -3,18 +3,17 @@ use mathlib.Core.Path.{_≡_, refl, sym, ap, _∙_}
 use mathlib.Core.Bool.{Bool, true, false, _&&_, _||_, not}
 use mathlib.Core.List.{List, [], _∷_, _++_}
 use Prim.Native.Nat.{ℕ, _+_, _*_, _≤_, _<_}
-use native.Mathlib.Omega.{arith}
-use lib.Dec.{eqb, leb}
+use lib.Dec.{eqb}
 use lib.ListN.{drop}
 use borrow.Author.Tests.{eqb-true, eq-eqb, ne-eqb, leb-true, le-leb}
 use Rattle.protocol.specs.Folds.{every, update}
-use Rattle.protocol.specs.CartSets.{has, with, without, setOf}
+use Rattle.protocol.specs.CartSets.{with, without, setOf}
 use Rattle.protocol.specs.Floor.{Place, localTo}
 use Rattle.protocol.proofs.Tests.{and-left, and-right, and-intro, and-false, or-right, by-eq, on-update, every-at, every-all}
 use Rattle.protocol.proofs.SetLaws.{has-with, has-without, has-setOf, setOf-lt, with-lt, without-lt, same-members}
 use Rattle.stations.specs.View.{stationsIn}
 use Rattle.carts.specs.View.{cartsIn, canonicalIn}
-use Rattle.messages.specs.View.{Rooms, roomsIn}
+use Rattle.messages.specs.View.{roomsIn}
 use Rattle.lines.specs.declared.Record as word
 use Rattle.lines.specs.Lines.{lineOf}
 use Rattle.lines.specs.Form.{form}

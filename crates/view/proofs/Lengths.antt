@@ -1,16 +1,15 @@
 -- THE LENGTHS OF THE LENT PARTS, and that nothing is read beyond them.
-use mathlib.Core.Path.{_≡_, refl, ap, _∙_}
+use mathlib.Core.Path.{_≡_, refl}
 use mathlib.Core.Bool.{true, _&&_}
 use mathlib.Core.List.{List}
-use Prim.Native.Nat.{ℕ, _+_, _*_, _≤_, _<_}
+use Prim.Native.Nat.{ℕ, _+_, _*_, _≤_}
 use native.Mathlib.Omega.{arith}
 use lib.Dec.{eqb}
 use lib.ListN.{length}
 use borrow.Author.Tests.{eqb-true, eq-eqb}
-use Rattle.protocol.specs.Floor.{Limits, limits, outside}
-use Rattle.protocol.specs.Blank.{BlankBeyond, TableEnds}
-use Rattle.protocol.proofs.Tests.{and-left, and-right, and-intro}
-use Rattle.rows.specs.Rows.{cell}
+use Rattle.protocol.specs.Floor.{limits, outside}
+use Rattle.protocol.specs.Blank.{BlankBeyond}
+use Rattle.protocol.proofs.Tests.{and-left, and-right}
 use Rattle.rows.proofs.RowLaws.{cell-past}
 use Rattle.carts.specs.View.{cartsIn}
 use Rattle.carts.proofs.TableLaws.{next-beyond}

@@ -1,11 +1,10 @@
 -- THE WORDS OF A RECORD say that record.
-use mathlib.Core.Path.{_≡_, refl, ap}
+use mathlib.Core.Path.{_≡_, refl}
 use mathlib.Core.Bool.{true}
-use Prim.Native.Nat.{ℕ, _+_, _*_, _<_}
+use Prim.Native.Nat.{ℕ, _<_}
 use native.Mathlib.Omega.{arith}
-use lib.Dec.{eqb}
 use Rattle.protocol.specs.Folds.{listOf}
-use Rattle.protocol.specs.Floor.{Record, multicast, ackList, delete, deregister, register}
+use Rattle.protocol.specs.Floor.{multicast, ackList, delete, deregister, register}
 use Rattle.messages.specs.View.{Rooms}
 use Rattle.view.specs.Records.{kindOf, indexOf, numberOf, wordOf, wordsOf, recordIn, isIn, roomRight}
 

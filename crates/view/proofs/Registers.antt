@@ -1,18 +1,17 @@
 -- A REGISTER'S ROW IS THE TRAVELLING CART'S: the lines stay what they are when another cart's next numbers change.
 use mathlib.Core.Path.{_≡_, refl, sym, ap, ap₂, _∙_, fun-ext}
-use mathlib.Core.Bool.{Bool, true, false, cond, _&&_}
+use mathlib.Core.Bool.{_&&_}
 use mathlib.Core.List.{List, [], _∷_, map}
-use Prim.Native.Nat.{ℕ, _+_, _*_, _<_}
-use native.Mathlib.Omega.{arith}
+use Prim.Native.Nat.{ℕ, _+_, _*_}
 use lib.Dec.{eqb}
-use borrow.Author.Tests.{eq-eqb, ne-eqb}
+use borrow.Author.Tests.{eq-eqb}
 use Rattle.protocol.specs.Folds.{listOf}
 use Rattle.protocol.specs.Floor.{Place, outside, at, leaving, travelling, Record, multicast, ackList, delete, deregister, register}
 use Rattle.protocol.specs.Form.{HandoffRecord, deregistering, registering, handoffs, handoffOf}
 use Rattle.protocol.proofs.Tests.{by-test, by-eq, on-cond}
 use Rattle.lines.specs.declared.Record as word
 use Rattle.lines.specs.Lines.{lineOf}
-use Rattle.view.specs.Records.{kindOf, indexOf, numberOf, recordIn, linesIn}
+use Rattle.view.specs.Records.{kindOf, indexOf, recordIn, linesIn}
 use Rattle.view.proofs.LinesView.{line-in, line-beyond, by-line}
 
 -- no register among a cart's hand-offs

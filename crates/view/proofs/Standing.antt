@@ -1,11 +1,10 @@
 -- A FLOOR IN LENT PARTS THAT PASSES THE FORM RULE: what follows for its words and its numbers, and that there is room on the lines.
 use mathlib.Core.Path.{_≡_, refl, sym, ap, _∙_}
-use mathlib.Core.Bool.{Bool, true, false, _&&_}
+use mathlib.Core.Bool.{Bool, true}
 use mathlib.Core.List.{List, [], _∷_}
-use Prim.Native.Nat.{ℕ, suc, _+_, _-_, _*_, _≤_, _<_}
+use Prim.Native.Nat.{ℕ, _+_, _-_, _≤_, _<_}
 use native.Mathlib.Omega.{arith}
 use lib.Dec.{eqb}
-use lib.ListN.{length}
 use Rattle.protocol.specs.Folds.{sum}
 use Rattle.protocol.specs.Floor.{Floor, limits, Record, put, between, onTheLines}
 use Rattle.protocol.specs.Events.{Event}
@@ -16,12 +15,12 @@ use Rattle.protocol.proofs.Tests.{and-intro, eqb-self}
 use Rattle.protocol.proofs.Counting.{sum-term}
 use Rattle.protocol.proofs.FormFacts.{FormFacts}
 use Rattle.protocol.proofs.FormTest.{clauses-of, form-of, sized-of}
-use Rattle.protocol.proofs.Sized.{Sized, OnFloor, LinesFit}
+use Rattle.protocol.proofs.Sized.{Sized, OnFloor}
 use Rattle.protocol.proofs.Theorems.{form-closed, floor-records}
 use Rattle.lines.specs.Lines.{used}
 use Rattle.lines.specs.Words.{capacity}
 use Rattle.carts.specs.View.{cartsIn}
-use Rattle.view.specs.View.{Lent, lengthsIn, wordsIn, floorIn}
+use Rattle.view.specs.View.{Lent, floorIn}
 use Rattle.view.proofs.Lengths.{Lengths, lengths-of, nothing-beyond}
 use Rattle.view.proofs.Laid.{Laid, laid-of}
 use Rattle.view.proofs.Room.{used-view, put-counts, fewer-stations}

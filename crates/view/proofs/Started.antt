@@ -1,20 +1,19 @@
 -- THE FLOOR THAT A START LEAVES: all parts written afresh.
 use mathlib.Core.Path.{_≡_, refl, sym, ap, _∙_}
 use mathlib.Core.Bool.{Bool, true, false}
-use mathlib.Core.List.{List, []}
-use Prim.Native.Nat.{ℕ, _+_, _*_, _≤_, _<_}
+use mathlib.Core.List.{List}
+use Prim.Native.Nat.{ℕ, _+_, _*_}
 use native.Mathlib.Omega.{arith}
 use Rattle.protocol.specs.CartSets.{setOf}
-use Rattle.protocol.specs.Floor.{Floor, Carts, Record, localTo, outside, justStarted}
-use Rattle.protocol.proofs.Tests.{clash}
+use Rattle.protocol.specs.Floor.{Carts, localTo, outside, justStarted}
 use Rattle.protocol.proofs.SetLaws.{has-zero, has-setOf, setOf-lt, zero-below, same-members}
-use Rattle.stations.specs.View.{Head, Stations, head, headIn, stationsIn, noStations}
+use Rattle.stations.specs.View.{Stations, head, headIn, stationsIn, noStations}
 use Rattle.carts.specs.View.{cartsIn, canonicalIn, noCarts}
 use Rattle.messages.specs.View.{Rooms, roomsIn, noRooms}
 use Rattle.messages.specs.Texts.{textIn}
 use Rattle.lines.specs.Post.{Cleared}
-use Rattle.view.specs.Records.{linesIn, roomRight}
-use Rattle.view.specs.View.{Lent, lent, lengthsIn, wordsIn, textsIn, everyWord, floorOf, floorIn}
+use Rattle.view.specs.Records.{linesIn}
+use Rattle.view.specs.View.{Lent, lent, lengthsIn, wordsIn, textsIn, floorOf, floorIn}
 use Rattle.view.proofs.LinesView.{line-below, clear-view}
 use Rattle.view.proofs.Lengths.{Lengths, lengths-right}
 use Rattle.view.proofs.Laid.{Laid, words-right}

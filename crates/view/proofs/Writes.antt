@@ -1,17 +1,15 @@
 -- WHAT EACH WRITE OF A LENT PART IS IN THE FLOOR, for all stations, carts, rooms and lines. The two marks of the lent memory are named apart:
 -- Lengths and Laid say when they stay.
-use mathlib.Core.Path.{_≡_, refl, sym, ap, _∙_, fun-ext}
-use mathlib.Core.Bool.{Bool, true, false, cond}
-use mathlib.Core.List.{List, [], _∷_, map}
+use mathlib.Core.Path.{_≡_, ap, _∙_, fun-ext}
+use mathlib.Core.List.{List}
 use Prim.Native.Nat.{ℕ, _+_, _*_, _<_, _≤_}
-use lib.Dec.{eqb}
 use lib.ListN.{length}
 use borrow.Author.Tests.{eq-eqb, ne-eqb}
-use Rattle.protocol.specs.Folds.{update, update2, listOf}
-use Rattle.protocol.specs.Floor.{Floor, Place, Carts, Record, onStations, onCarts, onMessages, onCopies, onLines, setExpected, setPlace, setNext, setAcked, setWaiting, setCopy, setAcks, setQueue, push, between, behead, put}
+use Rattle.protocol.specs.Folds.{update, update2}
+use Rattle.protocol.specs.Floor.{Floor, Place, Record, onStations, onMessages, onLines, setExpected, setPlace, setNext, setAcked, setWaiting, setCopy, setAcks, setQueue, push, between, behead, put}
 use Rattle.protocol.specs.Handoff.{withRow, entryOf}
-use Rattle.protocol.proofs.Tests.{on-update, by-eq}
-use Rattle.stations.specs.View.{Head, Stations, head, headIn, stationsIn, withSent, withExpected, withLocal, withCopy, withAcks, withQueue}
+use Rattle.protocol.proofs.Tests.{by-eq}
+use Rattle.stations.specs.View.{Stations, headIn, stationsIn, withSent, withExpected, withLocal, withCopy, withAcks, withQueue}
 use Rattle.carts.specs.View.{cartsIn, withPlace, withNext}
 use Rattle.carts.specs.View as carts
 use Rattle.messages.specs.View.{Rooms, roomsIn, withAcked, withWaiting, withMessage}

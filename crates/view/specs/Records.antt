@@ -1,7 +1,7 @@
 -- RECORDS ON THE LINES, in words: kind + 8 × index + 2048 × number. The index is the room of the message, or the cart of a hand-off; the
 -- second word of a record is an ack list's carts. "the register record carries the cart's whole row of next numbers": while a cart travels,
 -- its row stays where it is, in the carts' table, and nothing changes it.
-use mathlib.Core.Bool.{Bool, true, false, cond, _&&_, not}
+use mathlib.Core.Bool.{Bool, true, cond, _&&_, not}
 use mathlib.Core.List.{List, [], map}
 use Prim.Native.Nat.{ℕ, _+_, _*_, _/_, _%_}
 use lib.Dec.{eqb, ltb}

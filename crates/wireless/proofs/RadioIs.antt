@@ -1,28 +1,27 @@
 -- A MESSAGE HANDED OVER in the lent parts is the written radio step: the floor that they then say is the floor of that step.
-use mathlib.Core.Path.{_≡_, refl, sym, ap, ap₂, _∙_, subst, fun-ext}
-use mathlib.Core.Bool.{Bool, true, false, cond, _&&_, not}
+use mathlib.Core.Path.{_≡_, refl, sym, ap, ap₂, _∙_, subst}
+use mathlib.Core.Bool.{Bool, true, false, cond, _&&_}
 use mathlib.Core.List.{List, [], _∷_, _++_, append-nil}
 use mathlib.Core.Option.{Option, none, some}
-use Prim.Native.Nat.{ℕ, suc, _+_, _-_, _*_, _≤_, _<_, _^_}
+use Prim.Native.Nat.{ℕ, suc, _+_, _-_, _≤_, _<_, _^_}
 use native.Mathlib.Omega.{arith}
 use lib.Dec.{eqb}
 use borrow.Author.Tests.{eq-eqb}
-use Rattle.protocol.specs.Folds.{update, update2, byOption}
-use Rattle.protocol.specs.CartSets.{setOf, minus, with}
-use Rattle.protocol.specs.Floor.{Floor, limits, Place, Carts, at, travelling, Record, ackList, put, between, localTo, push, setNext, setCopy, setAcks, setQueue}
-use Rattle.protocol.specs.Form.{handoffs, handoffOf}
-use Rattle.protocol.specs.Handoff.{Stop, catchUp, catchUpStop, enqueue, rowOf}
-use Rattle.protocol.specs.Wireless.{receive, allAcked, sendAcks, sendAcksIfAll, handOver, onRadio, queueHead}
+use Rattle.protocol.specs.Folds.{update2, byOption}
+use Rattle.protocol.specs.CartSets.{setOf, with}
+use Rattle.protocol.specs.Floor.{Floor, limits, Carts, at, travelling, Record, ackList, put, between, localTo, setNext}
+use Rattle.protocol.specs.Form.{handoffs}
+use Rattle.protocol.specs.Handoff.{catchUp, catchUpStop, enqueue, rowOf}
+use Rattle.protocol.specs.Wireless.{receive, allAcked, sendAcks, sendAcksIfAll, handOver, onRadio}
 use Rattle.protocol.proofs.Tests.{on-update, on-update2, on-cond, update2-at, by-test, both-differ, eqb-self}
 use Rattle.protocol.proofs.FloorLaws.{at-is}
 use Rattle.protocol.proofs.Accepted.{MayRadio}
 use Rattle.protocol.proofs.Invariant.{Queued}
 use Rattle.protocol.proofs.Updates.{handoffs-append}
-use Rattle.stations.specs.View.{Stations, Head, headIn, stationsIn, withCopy, withAcks, withQueue}
+use Rattle.stations.specs.View.{Stations, Head, headIn, stationsIn, withQueue}
 use Rattle.carts.specs.View.{cartsIn, canonicalIn, withNext}
-use Rattle.messages.specs.View.{Rooms, roomsIn}
-use Rattle.lines.specs.Post.{Pushed}
-use Rattle.view.specs.Records.{linesIn, wordsOf, recordIn, isIn}
+use Rattle.messages.specs.View.{roomsIn}
+use Rattle.view.specs.Records.{linesIn, wordsOf, isIn}
 use Rattle.view.specs.View.{Lent, lent, lengthsIn, wordsIn, localRight, textsIn, floorOf, floorIn}
 use Rattle.view.proofs.LinesView.{push-view}
 use Rattle.view.proofs.Lengths.{Lengths, lengths-right}
@@ -30,7 +29,7 @@ use Rattle.view.proofs.Laid.{Laid, words-right, laid-stations, laid-carts, laid
 use Rattle.view.proofs.Registers.{NoRegister, none-unless-travelling, lines-kept}
 use Rattle.view.proofs.RecordWords.{ack-list-is, ack-list-right}
 use Rattle.view.proofs.Standing.{Standing}
-use Rattle.queue.specs.Rooms.{tablesFloor, roomCode, roomIn}
+use Rattle.queue.specs.Rooms.{tablesFloor, roomCode}
 use Rattle.queue.proofs.AckLaws.{all-acked}
 use Rattle.catchup.proofs.ClosedForm.{same-stop}
 use Rattle.catchup.proofs.RoomLaws.{nearest-decoded}
@@ -38,7 +37,7 @@ use Rattle.catchup.proofs.QueueLaws.{queued-none}
 use Rattle.catchup.proofs.Stops.{lent-agree, stops-there, stop-found}
 use Rattle.catchup.specs.Nearest.{nearestAmong, stopBy}
 use Rattle.catchup.specs.Arrival.{isFound, queuedFor}
-use Rattle.wireless.specs.Handed.{tookFrom, Received, holdNone, AcksSent, nearestFrom, CaughtUp, HandedOver}
+use Rattle.wireless.specs.Handed.{Received, holdNone, AcksSent, nearestFrom, CaughtUp, HandedOver}
 
 -- THE FIRST PART: from any lent parts that lie right
 module _ (S S₁ C C₁ M W T : List ℕ) (m s t c : ℕ) (sizes : Lengths (lent S C M W T)) (laid : Laid (lent S C M W T))

@@ -1,7 +1,6 @@
 -- `wireless::send_acks_if_all` meets its contract.
 use mathlib.Core.Path.{refl, sym, subst, _∙_, ap}
-use mathlib.Core.Bool.{Bool, not}
-use Prim.Native.Nat.{ℕ, _+_, _*_}
+use Prim.Native.Nat.{_+_, _*_}
 use borrow.Author.Tests.{not-true, not-false}
 use Rattle.protocol.proofs.Tests.{clash}
 use Rattle.stations.specs.View.{stationsIn}

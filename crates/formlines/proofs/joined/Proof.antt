@@ -1,0 +1,16 @@
+-- `formlines::joined` meets its contract.
+use borrow.Author.Needs.{needs}
+use Rattle.formlines.proofs.joined.Statement.{statement}
+use Rattle.formlines.proofs.joined.Tie as tie
+
+with-cart-requires : tie.Need-with-cart-requires
+with-cart-requires c κs = search needs
+
+returns : tie.Need-returns
+returns c = rw (c .before .if1 .taken) (c .with-cart .ensures)
+
+returns-2 : tie.Need-returns-2
+returns-2 c = search needs
+
+pub joined-spec : {M : Type 1} → statement M
+joined-spec = tie.close (tie.spec with-cart-requires returns returns-2)
