@@ -38,6 +38,7 @@ use Rattle.catchup.proofs.Stops.{lent-agree, stops-there, stop-found}
 use Rattle.catchup.specs.Nearest.{nearestAmong, stopBy}
 use Rattle.catchup.specs.Arrival.{isFound, queuedFor}
 use Rattle.wireless.specs.Handed.{Received, holdNone, AcksSent, nearestFrom, CaughtUp, HandedOver}
+use Rattle.wireless.proofs.Asks.{radio-numbers}
 
 -- THE FIRST PART: from any lent parts that lie right
 module _ (S S₁ C C₁ M W T : List ℕ) (m s t c : ℕ) (sizes : Lengths (lent S C M W T)) (laid : Laid (lent S C M W T))
@@ -252,18 +253,6 @@ module _ (S S′ C C′ M W W′ T : List ℕ) (m t c p w : ℕ) (X : Standing (
   is-queued : Queued limits (F .waiting) (F .initiator) (F .number) (F .named) (F .place) (F .next) m t c
   is-queued = X .facts .queues m t c (may .queued)
 
-  -- what the code asks
-  pub radio-numbers : (m < 32) × (t < 16) × (c < 64) × (i₀ < 16) × (n₀ < 65536) × (F .next c i₀ ≡ n₀)
-  radio-numbers =
-      let a = X .facts .kept m (is-queued .held) in
-      let b = X .facts .senders i₀ (omega arith) in
-      let d = X .sized .counts .stations in
-      let e = X .sized .counts .carts in
-      let f = X .sized .numbers i₀ in
-      let g = may .station in
-      let h = may .cart in
-      (is-queued .held .slot, omega arith, omega arith, omega arith, omega arith, is-queued .due)
-
   not-travelling : (a b : ℕ) → F .place c ≡ travelling a b → ⊥
   not-travelling a b q = let z : at t ≡ travelling a b = sym (at-is (F .place c) t (may .is-at)) ∙ q in let y : _≡_ {A = ℕ} 0 1 = cc in omega arith
 
@@ -275,7 +264,7 @@ module _ (S S′ C C′ M W W′ T : List ℕ) (m t c p w : ℕ) (X : Standing (
 
   two : Lengths K₂ × Laid K₂ × (floorIn K₂ ≡ sendAcksIfAll (floorIn K₁) m t) × (w ≡ cond (allAcked (floorIn K₁) m t) 1 0)
   two =
-      let r = radio-numbers in
+      let r = radio-numbers K₀ X t c m may in
       let top = over .received .head in
       let many : headIn (over .S₁) .carts ≡ headIn S .carts = ap (λ (h : Head). h .carts) top in
       let copy : stationsIn (over .S₁) .copy m t ≡ stationsIn S .copy m t = ap (λ (Y : Stations). Y .copy m t) (over .received .stations) in
@@ -322,3 +311,10 @@ module _ (S S′ C C′ M W W′ T : List ℕ) (m t c p w : ℕ) (X : Standing (
   pub radio-is : floorIn (lent S′ C′ M W′ T) ≡ onRadio limits F t c .floor
   unfolding onRadio
   radio-is = rw (may .is-head) over-is
+
+  -- "4": radio, with the message's initiator, number and text
+  pub radio-reports : onRadio limits F t c .report ≡ record { kind = 4; a = i₀; b = n₀; p = p; w = w; text = textsIn T (roomsIn M) m }
+  unfolding onRadio handOver
+  radio-reports =
+      rw (may .is-head)
+      (λ i. record { kind = 4; a = i₀; b = n₀; p = sym (over-reports .0) i; w = sym (over-reports .1) i; text = textsIn T (roomsIn M) m })

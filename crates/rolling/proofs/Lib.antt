@@ -1,0 +1,2 @@
+pub mod MoveChecks
+pub mod MoveMeets

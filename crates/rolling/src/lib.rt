@@ -1,0 +1,75 @@
+// WHAT CARTS DO on a floor that passes the form rule: enter, and move. Each is refused first, "Checks run down the table", and then is its
+// step of the hand-off module.
+use answers::Answer;
+use carts::Place;
+use ids::CartNumber;
+use ids::Station;
+ghost use mathlib.Core.Path.{_≡_};
+ghost use mathlib.Core.Bool.{true, false};
+ghost use mathlib.Core.List.{List, []};
+ghost use Prim.Native.Nat.{ℕ, _≤_};
+ghost use lib.ListN.{length};
+ghost use Rattle.protocol.specs.Floor.{limits, at};
+ghost use Rattle.protocol.specs.Events.{enter, move};
+ghost use Rattle.protocol.specs.Form.{passesForm};
+ghost use Rattle.protocol.specs.Refusals.{refusalIf};
+ghost use Rattle.stations.specs.View.{headIn};
+ghost use Rattle.carts.specs.Words.{HasRow};
+ghost use Rattle.carts.specs.View.{cartsIn};
+ghost use Rattle.view.specs.View.{lent, floorIn};
+ghost use Rattle.answers.specs.Answers.{answerIn};
+ghost use Rattle.answers.specs.Met.{Met};
+
+// The refusal of a move, 8, 9 and 18 to 20, or 0.
+fn move_refusal(stations: &[u64], carts: &[u64], cart: CartNumber, to: Station) -> u64
+    requires { ⌜ (length (now stations) ≡ 1938) × (length (now carts) ≡ 1216) × (headIn (now stations) .carts ≤ 64) ⌝ }
+    ensures { λ r. ⌜ ((M W T : List ℕ) → r ≡ refusalIf limits (floorIn (lent (now (stations .entry)) (now (carts .entry)) M W T)) false (move (cart .0) (to .0))) ⌝ }
+{
+    if stations::station_count(stations) <= to.0 {
+        return 8;
+    }
+    if stations::cart_count(stations) <= cart.0 {
+        return 9;
+    }
+    let place = carts::place_of(carts, cart);
+    match place {
+        Place::Outside => 18,
+        Place::Leaving(_, _) => 19,
+        Place::Travelling(_, _) => 19,
+        Place::At(here) => { if here.0 == to.0 { 20 } else { 0 } }
+    }
+}
+
+// Where a cart is that is at a station.
+fn station_of(carts: &[u64], cart: CartNumber) -> Station
+    requires { ⌜ HasRow (now carts) (cart .0) ⌝ }
+    ensures { λ r. ⌜ ((s : ℕ) → cartsIn (now (carts .entry)) .place (cart .0) ≡ at s → r .0 ≡ s) ⌝ }
+{
+    let place = carts::place_of(carts, cart);
+    match place {
+        Place::At(here) => here,
+        _ => Station(0),
+    }
+}
+
+// "Move (cart, to)".
+pub fn move_cart(
+    stations: &[u64],
+    carts: &mut [u64],
+    messages: &[u64],
+    lines: &mut [u64],
+    texts: &[u8],
+    cart: CartNumber,
+    to: Station,
+) -> Answer
+    requires { ⌜ passesForm limits (floorIn (lent (now stations) (now carts) (now messages) (now lines) (now texts))) ≡ true ⌝ }
+    ensures { λ a. ⌜ Met (lent (now (stations .entry)) (now (carts .entry)) (now (messages .entry)) (now (lines .entry)) (now (texts .entry))) (lent (now (stations .entry)) (now (carts .exit)) (now (messages .entry)) (now (lines .exit)) (now (texts .entry))) (move (cart .0) (to .0)) (answerIn a []) ⌝ }
+{
+    let refusal = move_refusal(stations, carts, cart, to);
+    if refusal != 0 {
+        return Answer::Refused(refusal);
+    }
+    let old = station_of(carts, cart);
+    handoff::on_move(carts, lines, cart, old, to);
+    Answer::Moved(cart, to)
+}
