@@ -1,2 +1,4 @@
 pub mod MoveChecks
 pub mod MoveMeets
+pub mod EnterChecks
+pub mod EnterMeets

@@ -20,6 +20,45 @@ ghost use Rattle.view.specs.View.{lent, floorIn};
 ghost use Rattle.answers.specs.Answers.{answerIn};
 ghost use Rattle.answers.specs.Met.{Met};
 
+// The refusal of an enter, 8 to 10, or 0.
+fn enter_refusal(stations: &[u64], carts: &[u64], station: Station, cart: CartNumber) -> u64
+    requires { ⌜ (length (now stations) ≡ 1938) × (length (now carts) ≡ 1216) × (headIn (now stations) .carts ≤ 64) ⌝ }
+    ensures { λ r. ⌜ ((M W T : List ℕ) → r ≡ refusalIf limits (floorIn (lent (now (stations .entry)) (now (carts .entry)) M W T)) false (enter (station .0) (cart .0))) ⌝ }
+{
+    if stations::station_count(stations) <= station.0 {
+        return 8;
+    }
+    if stations::cart_count(stations) <= cart.0 {
+        return 9;
+    }
+    let place = carts::place_of(carts, cart);
+    match place {
+        Place::Outside => 0,
+        _ => 10,
+    }
+}
+
+// "Enter (station, cart)".
+pub fn enter(
+    stations: &mut [u64],
+    carts: &mut [u64],
+    messages: &[u64],
+    lines: &[u64],
+    texts: &[u8],
+    station: Station,
+    cart: CartNumber,
+) -> Answer
+    requires { ⌜ passesForm limits (floorIn (lent (now stations) (now carts) (now messages) (now lines) (now texts))) ≡ true ⌝ }
+    ensures { λ a. ⌜ Met (lent (now (stations .entry)) (now (carts .entry)) (now (messages .entry)) (now (lines .entry)) (now (texts .entry))) (lent (now (stations .exit)) (now (carts .exit)) (now (messages .entry)) (now (lines .entry)) (now (texts .entry))) (enter (station .0) (cart .0)) (answerIn a []) ⌝ }
+{
+    let refusal = enter_refusal(stations, carts, station, cart);
+    if refusal != 0 {
+        return Answer::Refused(refusal);
+    }
+    let p = handoff::on_enter(stations, carts, messages, station, cart);
+    Answer::Entered(station, cart, p)
+}
+
 // The refusal of a move, 8, 9 and 18 to 20, or 0.
 fn move_refusal(stations: &[u64], carts: &[u64], cart: CartNumber, to: Station) -> u64
     requires { ⌜ (length (now stations) ≡ 1938) × (length (now carts) ≡ 1216) × (headIn (now stations) .carts ≤ 64) ⌝ }

@@ -8,41 +8,28 @@ use Rattle.rolling.proofs.MoveMeets.{has-row, move-asks, meets-move}
 use borrow.Author.Needs.{needs}
 use Rattle.rolling.proofs.move_cart.Statement.{statement}
 use Rattle.rolling.proofs.move_cart.Tie as tie
-use Rattle.rolling.proofs.move_cart.Reads as reads
-use Rattle.rolling.proofs.move_cart.Lts as lts
-use Rattle.handoff.proofs.on_move.Reads as on-move-reads
-use Rattle.rolling.proofs.move_refusal.Reads as move-refusal-reads
-use Rattle.rolling.proofs.station_of.Reads as station-of-reads
 
--- src/lib.rt:74:9
 move-refusal-requires : tie.Need-move-refusal-requires
 move-refusal-requires c κs = let a = c .before .before .before .before .before .before .args in checks-ready (lent (now (a .stations)) (now (a .carts)) (now (a .messages)) (now (a .lines)) (now (a .texts))) (c .before .before .before .before .before .before .pre)
 
--- src/lib.rt:76:9
 same-length : tie.Need-same-length
 same-length c = search needs
 
--- src/lib.rt:76:9
 returns : tie.Need-returns
 returns c = let a = c .before .before .before .before .before .before .before .before .args in meets-no (lent (now (a .stations)) (now (a .carts)) (now (a .messages)) (now (a .lines)) (now (a .texts))) (move (a .cart .0) (a .to .0)) _ (c .before .before .before .before .before .before .before .before .pre) (c .before .move-refusal .ensures (now (a .messages)) (now (a .lines)) (now (a .texts))) (c .if1 .taken)
 
--- src/lib.rt:78:9
 station-of-requires : tie.Need-station-of-requires
 station-of-requires c κs = let a = c .before .before .before .before .before .before .before .before .before .args in has-row (now (a .stations)) (now (a .carts)) (now (a .messages)) (now (a .lines)) (now (a .texts)) (a .cart .0) (a .to .0) (c .before .before .before .before .before .before .before .before .before .pre) (sym (c .before .if1 .left) ∙ (c .before .before .move-refusal .ensures (now (a .messages)) (now (a .lines)) (now (a .texts))))
 
--- src/lib.rt:79:5
 on-move-requires : tie.Need-on-move-requires
 on-move-requires c κs = let a = c .before .before .before .before .before .before .before .before .before .before .before .before .args in move-asks (now (a .stations)) (now (a .carts)) (now (a .messages)) (now (a .lines)) (now (a .texts)) (a .cart .0) (a .to .0) (c .before .before .before .before .before .before .before .before .before .before .before .before .pre) (sym (c .before .before .before .before .if1 .left) ∙ (c .before .before .before .before .before .move-refusal .ensures (now (a .messages)) (now (a .lines)) (now (a .texts)))) _ (c .before .before .station-of .ensures)
 
--- src/lib.rt:62:1
 same-length-2 : tie.Need-same-length-2
 same-length-2 c = search needs
 
--- src/lib.rt:62:1
 same-length-3 : tie.Need-same-length-3
 same-length-3 c = search needs
 
--- src/lib.rt:62:1
 returns-2 : tie.Need-returns-2
 returns-2 c = let a = c .before .before .before .before .before .before .before .before .before .before .before .before .before .before .before .before .before .args in meets-move (now (a .stations)) (now (a .carts)) (now (a .messages)) (now (a .lines)) (now (a .texts)) (a .cart .0) (a .to .0) (c .before .before .before .before .before .before .before .before .before .before .before .before .before .before .before .before .before .pre) (sym (c .before .before .before .before .before .before .before .before .before .if1 .left) ∙ (c .before .before .before .before .before .before .before .before .before .before .move-refusal .ensures (now (a .messages)) (now (a .lines)) (now (a .texts)))) _ (c .before .before .before .before .before .before .before .station-of .ensures) _ _ (c .before .before .before .before .on-move .ensures)
 

@@ -1,70 +1,50 @@
 -- `rolling::move_refusal` meets its contract.
-use Prim.Native.Nat.{ℕ}
 use native.Mathlib.Omega.{arith}
 use denote.Ref.{now}
 use Rattle.rolling.proofs.MoveChecks.{move-no-station, move-no-cart, move-outside, move-leaving, move-travelling, move-there, move-passes}
 use borrow.Author.Needs.{needs}
 use Rattle.rolling.proofs.move_refusal.Statement.{statement}
 use Rattle.rolling.proofs.move_refusal.Tie as tie
-use Rattle.rolling.proofs.move_refusal.Reads as reads
-use Rattle.rolling.proofs.move_refusal.Lts as lts
-use Rattle.carts.proofs.place_of.Reads as place-of-reads
-use Rattle.stations.proofs.cart_count.Reads as cart-count-reads
-use Rattle.stations.proofs.station_count.Reads as station-count-reads
 
--- src/lib.rt:28:8
 station-count-requires : tie.Need-station-count-requires
 station-count-requires c κs = search needs
 
--- src/lib.rt:29:9
 returns : tie.Need-returns
 returns c = let a = c .before .before .before .before .before .args in λ M W T. move-no-station (now (a .stations)) (now (a .carts)) (a .cart .0) (a .to .0) M W T (omega (arith, c .before .before .station-count .ensures, c .if1 .taken))
 
--- src/lib.rt:31:8
 cart-count-requires : tie.Need-cart-count-requires
 cart-count-requires c κs = search needs
 
--- src/lib.rt:32:9
 returns-2 : tie.Need-returns-2
 returns-2 c = let a = c .before .before .before .before .before .before .before .before .args in λ M W T. move-no-cart (now (a .stations)) (now (a .carts)) (a .cart .0) (a .to .0) M W T (omega (arith, c .before .before .before .before .before .station-count .ensures, c .before .before .before .if1 .left)) (omega (arith, c .before .before .cart-count .ensures, c .if2 .taken))
 
--- src/lib.rt:34:9
 place-of-requires : tie.Need-place-of-requires
 place-of-requires c κs = let p = c .before .before .before .before .before .before .before .before .pre in omega (arith, p, c .before .before .cart-count .ensures, c .if2 .left)
 
--- src/lib.rt:36:27
 enum-told : tie.Need-enum-told
 enum-told c = search needs
 
--- src/lib.rt:37:33
 enum-told-2 : tie.Need-enum-told-2
 enum-told-2 c = search needs
 
--- src/lib.rt:38:36
 enum-told-3 : tie.Need-enum-told-3
 enum-told-3 c = search needs
 
--- src/lib.rt:39:19
 enum-known-place : tie.Need-enum-known-place
 enum-known-place c = search needs
 
--- src/lib.rt:24:1
 returns-3 : tie.Need-returns-3
 returns-3 c = let a = c .before .before .before .before .before .before .before .before .before .before .before .args in λ M W T. move-outside (now (a .stations)) (now (a .carts)) (a .cart .0) (a .to .0) M W T (omega (arith, c .before .before .before .before .before .before .before .before .station-count .ensures, c .before .before .before .before .before .before .if1 .left)) (omega (arith, c .before .before .before .before .before .cart-count .ensures, c .before .before .before .if2 .left)) (c .before .before .place-of .result) (c .before .before .place-of .ensures) (c .before .match .keys1)
 
--- src/lib.rt:24:1
 returns-4 : tie.Need-returns-4
 returns-4 c = let a = c .before .before .before .before .before .before .before .before .before .before .before .args in λ M W T. move-leaving (now (a .stations)) (now (a .carts)) (a .cart .0) (a .to .0) M W T (omega (arith, c .before .before .before .before .before .before .before .before .station-count .ensures, c .before .before .before .before .before .before .if1 .left)) (omega (arith, c .before .before .before .before .before .cart-count .ensures, c .before .before .before .if2 .left)) (c .before .before .place-of .result) (c .before .before .place-of .ensures) (c .before .match .keys2)
 
--- src/lib.rt:24:1
 returns-5 : tie.Need-returns-5
 returns-5 c = let a = c .before .before .before .before .before .before .before .before .before .before .before .args in λ M W T. move-travelling (now (a .stations)) (now (a .carts)) (a .cart .0) (a .to .0) M W T (omega (arith, c .before .before .before .before .before .before .before .before .station-count .ensures, c .before .before .before .before .before .before .if1 .left)) (omega (arith, c .before .before .before .before .before .cart-count .ensures, c .before .before .before .if2 .left)) (c .before .before .place-of .result) (c .before .before .place-of .ensures) (c .before .match .keys3)
 
--- src/lib.rt:24:1
 returns-6 : tie.Need-returns-6
 returns-6 c = let a = c .before .before .before .before .before .before .before .before .before .before .before .before .before .before .before .args in λ M W T. move-there (now (a .stations)) (now (a .carts)) (a .cart .0) (a .to .0) M W T (omega (arith, c .before .before .before .before .before .before .before .before .before .before .before .before .station-count .ensures, c .before .before .before .before .before .before .before .before .before .before .if1 .left)) (omega (arith, c .before .before .before .before .before .before .before .before .before .cart-count .ensures, c .before .before .before .before .before .before .before .if2 .left)) (c .before .before .before .before .before .before .place-of .result) (c .before .before .before .before .before .before .place-of .ensures) (c .before .before .before .before .place .given .0 .0) (c .before .before .before .before .place .given .1) (c .if3 .taken)
 
--- src/lib.rt:24:1
 returns-7 : tie.Need-returns-7
 returns-7 c = let a = c .before .before .before .before .before .before .before .before .before .before .before .before .before .before .before .args in λ M W T. move-passes (now (a .stations)) (now (a .carts)) (a .cart .0) (a .to .0) M W T (omega (arith, c .before .before .before .before .before .before .before .before .before .before .before .before .station-count .ensures, c .before .before .before .before .before .before .before .before .before .before .if1 .left)) (omega (arith, c .before .before .before .before .before .before .before .before .before .cart-count .ensures, c .before .before .before .before .before .before .before .if2 .left)) (c .before .before .before .before .before .before .place-of .result) (c .before .before .before .before .before .before .place-of .ensures) (c .before .before .before .before .place .given .0 .0) (c .before .before .before .before .place .given .1) (c .if3 .left)
 

@@ -3,23 +3,16 @@ use Rattle.rolling.proofs.MoveChecks.{at-there, never-at}
 use borrow.Author.Needs.{needs}
 use Rattle.rolling.proofs.station_of.Statement.{statement}
 use Rattle.rolling.proofs.station_of.Tie as tie
-use Rattle.rolling.proofs.station_of.Reads as reads
-use Rattle.rolling.proofs.station_of.Lts as lts
-use Rattle.carts.proofs.place_of.Reads as place-of-reads
 
--- src/lib.rt:54:9
 place-of-requires : tie.Need-place-of-requires
 place-of-requires c κs = search needs
 
--- src/lib.rt:56:19
 enum-known-place : tie.Need-enum-known-place
 enum-known-place c = search needs
 
--- src/lib.rt:50:1
 returns : tie.Need-returns
 returns c = λ s q. at-there (c .before .before .before .place-of .result) _ (c .before .place .given .0 .0) s (c .before .before .before .place-of .ensures) (c .before .place .given .1) q
 
--- src/lib.rt:50:1
 returns-2 : tie.Need-returns-2
 returns-2 c = λ s q. never-at (c .before .place-of .result) _ s (c .before .place-of .ensures) (c .match .keys2) q
 
