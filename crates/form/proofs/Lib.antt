@@ -6,4 +6,3 @@ pub mod Places
 pub mod Names
 pub mod Queues
 pub mod Copies
-pub mod Split

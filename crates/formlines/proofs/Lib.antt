@@ -14,4 +14,3 @@ pub mod Theorem
 pub mod CodeLaws
 pub mod StepLaws
 pub mod PassLaws
-pub mod Whole

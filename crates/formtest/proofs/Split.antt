@@ -1,0 +1,177 @@
+-- THE FORM RULE IS THE LENGTHS, THE TABLES' PART, THE POOL'S WORDS AND THE LINES' PART: what the parts of the test decide of the whole floor.
+use mathlib.Core.Path.{_≡_, refl, sym, _∙_}
+use mathlib.Core.Bool.{Bool, true, false}
+use mathlib.Core.List.{List, []}
+use Prim.Native.Nat.{ℕ, _*_, _≤_, _<_}
+use native.Mathlib.Omega.{arith}
+use lib.ListN.{length, drop, length-take}
+use borrow.Author.Tests.{eqb-true, eq-eqb, leb-true, le-leb}
+use Rattle.protocol.specs.CartSets.{setOf}
+use Rattle.protocol.specs.Floor.{limits, localTo}
+use Rattle.protocol.specs.Claims.{Claim, True, test, is, both}
+use Rattle.protocol.specs.Form.{roomRule, passesForm}
+use Rattle.protocol.proofs.Tests.{same-test, clash}
+use Rattle.protocol.proofs.ClaimLaws.{reflect}
+use Rattle.protocol.proofs.FormTest.{Clauses, clauses-of, passes-of}
+use Rattle.stations.specs.View.{stationsIn}
+use Rattle.carts.specs.View.{cartsIn}
+use Rattle.messages.specs.View.{roomsIn}
+use Rattle.messages.specs.Texts.{textIn}
+use Rattle.lines.specs.Form.{form}
+use Rattle.view.specs.View.{Lent, lent, floorIn, lengthsIn, localRight, shortText, lineRight}
+use Rattle.view.proofs.Laid.{Laid, laid-of, words-right}
+use Rattle.view.proofs.Lengths.{lengths-of}
+use Rattle.form.specs.Tables.{tablesRule}
+use Rattle.form.proofs.Answers.{no}
+use Rattle.formlines.specs.LinesRule.{linesClaim}
+use Rattle.formlines.specs.Pass.{linesPass}
+use Rattle.formlines.proofs.Clauses.{TableClauses}
+use Rattle.formlines.proofs.Theorem.{pass-is-test}
+
+-- "text 0 to 32 octets": no text is longer than its length says
+text-fits : (T : List ℕ) (n m : ℕ) → n ≤ 32 → length (textIn T n m) ≤ 32
+unfolding textIn
+text-fits T n m h = omega (arith, length-take n (drop (m * 32) T))
+
+-- the pool is well-formed
+pub whole-pool : (W : List ℕ) (r : Bool) → r ≡ form W → r ≡ true → form W ≡ true
+whole-pool W r e q = sym e ∙ q
+
+module _ (S C M W T : List ℕ) where
+  abbrev L : Lent
+  L = lent S C M W T
+
+  -- the parts, in the order of the test
+  abbrev parts : Claim
+  parts = both (is (lengthsIn L)) (both (tablesRule S C M) (both (is (form W)) (linesClaim L)))
+
+  -- no text is longer than its part
+  short : True (tablesRule S C M) → (m : ℕ) → m < 32 → roomsIn M .length m ≤ 32
+  unfolding shortText
+  short a m l = leb-true (roomsIn M .length m) 32 (a .1 .1 .1 .0 m l)
+
+  -- each room
+  room : True (tablesRule S C M) → (m : ℕ) → m < 32 → True (roomRule limits (floorIn L) m)
+  room a m l =
+      let r = a .1 .1 .1 .1 .1 .1 .0 m l in
+      (r .0, (r .1 .0, (r .1 .1, text-fits T (roomsIn M .length m) m (short a m l))))
+
+  -- the facts of the words
+  laid : True parts → Laid L
+  unfolding localRight lineRight
+  laid (_, (a, (f, b))) =
+      record {
+        chains = f;
+        canonical = a .1 .1 .0;
+        local = λ t l. eqb-true (stationsIn S .local t) (setOf 64 (λ c. localTo (cartsIn C .place c) t)) (a .1 .1 .1 .1 .0 t l);
+        short = short a;
+        rooms = λ i j li lj. b .0 i li j lj;
+      }
+
+  -- THE PARTS ARE ALL CLAUSES
+  joined : True parts → Clauses limits (floorIn L)
+  joined p =
+      let X = words-right L (laid p) in
+      let a = p .1 .0 in
+      let b = p .1 .1 .1 .1 in
+      record {
+        floor = (a .0 .0, (p .0, (X, a .0 .1)));
+        station = a .1 .0;
+        cart = a .1 .1 .1 .1 .1 .0;
+        room = room a;
+        held = λ m l h. let r = a .1 .1 .1 .1 .1 .1 .1 .0 m l h in (r .0, (r .1 .0, (r .1 .1, b .1 .1 .1 .0 m l h)));
+        entry = a .1 .1 .1 .1 .1 .1 .1 .1 .0;
+        copy = λ m l h t lt. let r = a .1 .1 .1 .1 .1 .1 .1 .1 .1 m l h t lt in (r .0, (r .1, b .1 .1 .1 .1 m l h t lt));
+        line = b .0;
+        order = b .1 .0;
+        handoff = b .1 .1 .0;
+      }
+
+  -- AND ALL CLAUSES ARE THE PARTS
+  of-tables : Clauses limits (floorIn L) → True (tablesRule S C M)
+  unfolding localRight shortText
+  of-tables P =
+      let X = laid-of L (P .floor .1 .1 .0) in (
+        (P .floor .0, P .floor .1 .1 .1),
+        (
+          P .station,
+          (
+            X .canonical,
+            (
+              (λ m l. le-leb (roomsIn M .length m) 32 (X .short m l)),
+              (
+                (λ t l. eq-eqb (stationsIn S .local t) (setOf 64 (λ c. localTo (cartsIn C .place c) t)) (X .local t l)),
+                (
+                  P .cart,
+                  (
+                    (λ m l. let r = P .room m l in (r .0, (r .1 .0, r .1 .1 .0))),
+                    (
+                      (λ m l h. let r = P .held m l h in (r .0, (r .1 .0, r .1 .1 .0))),
+                      (
+                        P .entry,
+                        λ m l h t lt. let r = P .copy m l h t lt in (r .0, r .1 .0),
+                      ),
+                    ),
+                  ),
+                ),
+              ),
+            ),
+          ),
+        ),
+      )
+
+  of-lines : Clauses limits (floorIn L) → True (linesClaim L)
+  unfolding lineRight
+  of-lines P =
+      let X = laid-of L (P .floor .1 .1 .0) in
+      ((λ i li j lj. X .rooms i j li lj), (P .line, (P .order, (P .handoff, ((λ m l h. P .held m l h .1 .1 .1), λ m l h t lt. P .copy m l h t lt .1 .1)))))
+
+  of-parts : Clauses limits (floorIn L) → True parts
+  of-parts P = (P .floor .1 .0, (of-tables P, (laid-of L (P .floor .1 .1 .0) .chains, of-lines P)))
+
+  -- THE FORM RULE passes just where the parts do
+  pub form-split : passesForm limits (floorIn L) ≡ test parts
+  form-split =
+      same-test (passesForm limits (floorIn L)) (test parts)
+      (λ e. reflect parts .1 (of-parts (clauses-of limits (floorIn L) e)))
+      (λ e. passes-of limits (floorIn L) (joined (reflect parts .0 e)))
+
+  -- WHERE ONE OF THEM DOES NOT, it fails
+  fails : (True parts → ⊥) → false ≡ passesForm limits (floorIn L)
+  fails h = no parts h ∙ sym form-split
+
+  pub fails-lengths : (r : Bool) → r ≡ lengthsIn L → r ≡ false → false ≡ passesForm limits (floorIn L)
+  fails-lengths r e q = fails (λ p. clash r (e ∙ p .0) q)
+
+  pub fails-tables : (r : Bool) → r ≡ test (tablesRule S C M) → r ≡ false → false ≡ passesForm limits (floorIn L)
+  fails-tables r e q = fails (λ p. clash r (e ∙ reflect (tablesRule S C M) .1 (p .1 .0)) q)
+
+  pub fails-pool : (r : Bool) → r ≡ form W → r ≡ false → false ≡ passesForm limits (floorIn L)
+  fails-pool r e q = fails (λ p. clash r (e ∙ p .1 .1 .0) q)
+
+  -- what the pass over the lines builds on
+  tables-right : lengthsIn L ≡ true → True (tablesRule S C M) → TableClauses L
+  tables-right e a =
+      record {
+        lengths = lengths-of L e;
+        stations = a .0 .1 .0 .1;
+        carts = a .0 .1 .1 .1;
+        cart = a .1 .1 .1 .1 .1 .0;
+        room = room a;
+        names = λ m l h. a .1 .1 .1 .1 .1 .1 .1 .0 m l h .1 .0;
+        entry = a .1 .1 .1 .1 .1 .1 .1 .1 .0;
+      }
+
+  -- WHERE THE OTHERS DO, it rests on the pass over the lines
+  pub rests-on-lines : (a b f r : Bool) → a ≡ lengthsIn L → a ≡ true → b ≡ test (tablesRule S C M) → b ≡ true → f ≡ form W → f ≡ true → r ≡ linesPass L
+      → r ≡ passesForm limits (floorIn L)
+  rests-on-lines a b f r ea qa eb qb ef qf er =
+      let l : lengthsIn L ≡ true = sym ea ∙ qa in
+      let t = reflect (tablesRule S C M) .0 (sym eb ∙ qb) in
+      let w : form W ≡ true = sym ef ∙ qf in
+      er
+      ∙ pass-is-test L (tables-right l t)
+      ∙ same-test (test (linesClaim L)) (test parts)
+      (λ e. reflect parts .1 (l, (t, (w, reflect (linesClaim L) .0 e))))
+      (λ e. reflect (linesClaim L) .1 (reflect parts .0 e .1 .1 .1))
+      ∙ sym form-split

@@ -1,0 +1,54 @@
+// THE FORM TEST of the lent floor: "The form rule is a written yes-or-no test of the floor alone, the lengths of its lent parts included."
+// Any words, of any number, may be asked about.
+ghost use mathlib.Core.Path.{_≡_};
+ghost use Rattle.protocol.specs.Floor.{limits};
+ghost use Rattle.protocol.specs.Form.{passesForm};
+ghost use Rattle.view.specs.View.{lent, floorIn, lengthsIn};
+
+// "a lent part of the floor has the wrong length" is no.
+pub fn lengths_ok(
+    stations: &[u64],
+    carts: &[u64],
+    messages: &[u64],
+    lines: &[u64],
+    texts: &[u8],
+) -> bool
+    ensures { λ r. ⌜ r ≡ lengthsIn (lent (now (stations .entry)) (now (carts .entry)) (now (messages .entry)) (now (lines .entry)) (now (texts .entry))) ⌝ }
+{
+    if stations.len() != 1938 {
+        return false;
+    }
+    if carts.len() != 1216 {
+        return false;
+    }
+    if messages.len() != 192 {
+        return false;
+    }
+    if lines.len() != 10226 {
+        return false;
+    }
+    texts.len() == 1024
+}
+
+// The lent floor passes the form rule. Each part makes the next one safe to ask: the tables are read where they have their lengths, and the
+// lines are walked where their chains are whole. An unstarted floor ends it at once.
+pub fn passes(
+    stations: &[u64],
+    carts: &[u64],
+    messages: &[u64],
+    lines: &[u64],
+    texts: &[u8],
+) -> bool
+    ensures { λ r. ⌜ r ≡ passesForm limits (floorIn (lent (now (stations .entry)) (now (carts .entry)) (now (messages .entry)) (now (lines .entry)) (now (texts .entry)))) ⌝ }
+{
+    if !lengths_ok(stations, carts, messages, lines, texts) {
+        return false;
+    }
+    if !form::tables_pass(stations, carts, messages) {
+        return false;
+    }
+    if !lines::form_ok(lines) {
+        return false;
+    }
+    formlines::lines_pass(stations, carts, messages, lines)
+}
