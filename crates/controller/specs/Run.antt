@@ -1,0 +1,42 @@
+-- A RUN OF CALLS: "Each event is handed the floor, lent parts included, as the last one left it, and nobody else writes it."
+use mathlib.Core.Path.{_≡_}
+use mathlib.Core.List.{List, [], _∷_, map}
+use Prim.Native.Nat.{ℕ, _<_}
+use Rattle.protocol.specs.Floor.{limits}
+use Rattle.protocol.specs.Events.{Event, Answer}
+use Rattle.protocol.specs.Step.{floorAfter, answers}
+use Rattle.protocol.specs.TwoLists.{Lists, bothEmpty, listsStep, owes, TwoListRule}
+use Rattle.view.specs.View.{Lent, floorIn}
+use Rattle.answers.specs.Met.{Met}
+
+-- a call: the event that it was made for, what it answered, and the lent parts that it left
+pub record Call : Type 0 where
+  pub event : Event
+  pub answered : Answer
+  pub left : Lent
+
+-- every call met its event, the first of them handed L
+unfoldable pub Calls : Lent → List Call → Type 0
+Calls L [] = Unit {0}
+Calls L (k ∷ ks) = Met L (k .left) (k .event) (k .answered) × Calls (k .left) ks
+
+-- the lent parts after all of them
+unfoldable pub leftBy : Lent → List Call → Lent
+leftBy L [] = L
+leftBy L (k ∷ ks) = leftBy (k .left) ks
+
+-- the two lists of demand 3, from the events and from what the calls answered
+unfoldable pub listsOf : Lists → List Call → Lists
+listsOf l [] = l
+listsOf l (k ∷ ks) = listsOf (listsStep (k .event) (k .answered) l) ks
+
+abbrev pub eventsOf : List Call → List Event
+eventsOf ks = map (λ (k : Call). k .event) ks
+
+-- THE CLAIM of a run of calls on a floor of so many carts, from L on, that an accepted start left: answers and floor are those of the written
+-- run over the same events, and the two-list rule holds of what was sent and received in these calls
+pub record RunIs (L : Lent) (carts : ℕ) (ks : List Call) : Type 0 where
+  pub floor : floorIn (leftBy L ks) ≡ floorAfter limits (floorIn L) (eventsOf ks)
+  pub answered : map (λ (k : Call). k .answered) ks ≡ answers limits (floorIn L) (eventsOf ks)
+  pub two-lists : (s c : ℕ) → c < carts
+      → TwoListRule (owes limits (floorAfter limits (floorIn L) (eventsOf ks)) s c) (listsOf bothEmpty ks .sent s c) (listsOf bothEmpty ks .received s c)
