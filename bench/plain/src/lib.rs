@@ -6,6 +6,7 @@
 //! * [`frames`]: frames taken apart into events.
 //! * [`report`]: the printed run.
 //! * [`run`]: frames in, printed run out.
+//! * [`words`]: a floor in the words of the proved controller.
 
 #![forbid(unsafe_code)]
 
@@ -14,6 +15,7 @@ pub mod frames;
 pub mod report;
 pub mod run;
 pub mod steps;
+pub mod words;
 
 pub use floor::{CartNo, Floor, MessageNo, Place, StationNo};
 pub use steps::{Refusal, Step};

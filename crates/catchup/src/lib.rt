@@ -7,7 +7,7 @@ ghost use mathlib.Core.Path.{_≡_};
 ghost use Prim.Native.Nat.{_+_, _<_, _≤_};
 ghost use lib.ListN.{length};
 ghost use Rattle.protocol.specs.Folds.{listOf};
-ghost use Rattle.stations.specs.View.{HasStation, stationsIn, headIn};
+ghost use Rattle.stations.specs.View.{initiators, rooms, HasStation, stationsIn, headIn};
 ghost use Rattle.queue.specs.Rooms.{tablesFloor, HasRooms, roomCode, roomIn};
 ghost use Rattle.catchup.specs.Nearest.{wouldStop, nearerWith, nearestAmong, stopBy};
 ghost use Rattle.catchup.specs.Arrival.{CanStop, nearestRow, stopIn, Rises, Small, risen, isFound, occurs, queuedFor};
@@ -25,7 +25,7 @@ fn would_stop(
     next: u64,
     m: usize,
 ) -> bool
-    requires { ⌜ HasStation (now stations) (station .0) × HasRooms (now messages) × (station .0 < 16) × (cart .0 < 64) × (initiator .0 < 16) × (m < 32) ⌝ }
+    requires { ⌜ HasStation (now stations) (station .0) × HasRooms (now messages) × (station .0 < 16) × (cart .0 < 64) × (initiator .0 < initiators) × (m < rooms) ⌝ }
     ensures { λ r. ⌜ r ≡ wouldStop (tablesFloor (now (stations .entry)) (now (messages .entry))) (station .0) (cart .0) (initiator .0) next m ⌝ }
 {
     let waiting = messages::waiting_of(messages, m);
@@ -60,7 +60,7 @@ fn nearer(
     m: usize,
     nearest: usize,
 ) -> usize
-    requires { ⌜ HasStation (now stations) (station .0) × HasRooms (now messages) × (station .0 < 16) × (cart .0 < 64) × (initiator .0 < 16) × (m < 32) × (nearest ≤ 32) ⌝ }
+    requires { ⌜ HasStation (now stations) (station .0) × HasRooms (now messages) × (station .0 < 16) × (cart .0 < 64) × (initiator .0 < initiators) × (m < rooms) × (nearest ≤ rooms) ⌝ }
     ensures { λ r. ⌜ r ≡ roomCode (nearerWith (tablesFloor (now (stations .entry)) (now (messages .entry))) (station .0) (cart .0) (initiator .0) next m (roomIn nearest)) ⌝ }
 {
     if !would_stop(stations, messages, station, cart, initiator, next, m) {
@@ -85,7 +85,7 @@ pub fn nearest_of(
     initiator: Station,
     next: u64,
 ) -> usize
-    requires { ⌜ HasStation (now stations) (station .0) × HasRooms (now messages) × (station .0 < 16) × (cart .0 < 64) × (initiator .0 < 16) ⌝ }
+    requires { ⌜ HasStation (now stations) (station .0) × HasRooms (now messages) × (station .0 < 16) × (cart .0 < 64) × (initiator .0 < initiators) ⌝ }
     ensures { λ r. ⌜ r ≡ roomCode (nearestAmong (tablesFloor (now (stations .entry)) (now (messages .entry))) (station .0) (cart .0) (initiator .0) next 32) ⌝ }
 {
     let mut nearest = queue::NONE;
@@ -114,7 +114,7 @@ fn initiator_for(
     cart: CartNumber,
     m: usize,
 ) -> u64
-    requires { ⌜ HasStation (now stations) (station .0) × HasRooms (now messages) × (cart .0 < 64) × (m < 32) ⌝ }
+    requires { ⌜ HasStation (now stations) (station .0) × HasRooms (now messages) × (cart .0 < 64) × (m < rooms) ⌝ }
     ensures { λ r. ⌜ CanStop (tablesFloor (now (stations .entry)) (now (messages .entry))) (station .0) (cart .0) m r ⌝ }
 {
     if cartset::has(stations::copy_of(stations, m, station), cart.0) {
@@ -166,7 +166,7 @@ pub fn stop_of(
     next: u64,
     nearest: usize,
 ) -> u64
-    requires { ⌜ HasStation (now stations) (station .0) × HasRooms (now messages) × (initiator .0 < 16) ⌝ }
+    requires { ⌜ HasStation (now stations) (station .0) × HasRooms (now messages) × (initiator .0 < initiators) ⌝ }
     ensures { λ r. ⌜ r ≡ stopBy (tablesFloor (now (stations .entry)) (now (messages .entry))) (station .0) (initiator .0) next (roomIn nearest) .upto ⌝ }
 {
     if nearest < queue::NONE {

@@ -12,7 +12,7 @@ ghost use Rattle.protocol.specs.Floor.{Floor, limits, localTo, entered, isMessa
 ghost use Rattle.protocol.specs.CartSets.{has, setOf};
 ghost use Rattle.protocol.specs.Claims.{test, all, is, both, when, lt, le, eq};
 ghost use Rattle.protocol.specs.Form.{stationRule, placeInside, cartRule, entryRule};
-ghost use Rattle.stations.specs.View.{headIn, stationsIn};
+ghost use Rattle.stations.specs.View.{rooms, headIn, stationsIn};
 ghost use Rattle.carts.specs.Words.{HasRow};
 ghost use Rattle.carts.specs.Records.{seen};
 ghost use Rattle.carts.specs.View.{cartsIn, canonicalIn};
@@ -270,7 +270,7 @@ fn most_of(n: u64) -> u64
 
 // "its sets are of the floor": those of the message in room m.
 fn room_ok(stations: &[u64], messages: &[u64], m: usize) -> bool
-    requires { ⌜ (length (now stations) ≡ 1938) × (length (now messages) ≡ 192) × (m < 32) ⌝ }
+    requires { ⌜ (length (now stations) ≡ 1938) × (length (now messages) ≡ 192) × (m < rooms) ⌝ }
     ensures { λ r. ⌜ r ≡ test (roomSets (tables (now (stations .entry)) [] (now (messages .entry))) m) ⌝ }
 {
     let most = most_of(stations::cart_count(stations));
@@ -355,7 +355,7 @@ fn is_message(messages: &[u64], m: usize, s: u64, n: u64) -> bool
 
 // "no other held message has its name": no room before m has message n of s. A later room with it finds m.
 fn is_alone(messages: &[u64], m: usize, s: u64, n: u64) -> bool
-    requires { ⌜ (length (now messages) ≡ 192) × (m < 32) ⌝ }
+    requires { ⌜ (length (now messages) ≡ 192) × (m < rooms) ⌝ }
     ensures { λ r. ⌜ r ≡ test (all m (λ k. is (not (isMessage (tables [] [] (now (messages .entry))) s n k)))) ⌝ }
 {
     let mut k: usize = 0;
@@ -385,7 +385,7 @@ fn delete_ok(n: u64, waiting: u64, acked: u64, named: u64) -> bool
 // "its initiator has given its number; no other held message has its name; where a station has handled its delete, the whole set has
 // acknowledged": the message in room m and the rooms before it.
 fn held_ok(stations: &[u64], messages: &[u64], m: usize) -> bool
-    requires { ⌜ (length (now stations) ≡ 1938) × (length (now messages) ≡ 192) × (m < 32) ⌝ }
+    requires { ⌜ (length (now stations) ≡ 1938) × (length (now messages) ≡ 192) × (m < rooms) ⌝ }
     ensures { λ r. ⌜ r ≡ test (heldBefore (tables (now (stations .entry)) [] (now (messages .entry))) m) ⌝ }
 {
     let waiting = messages::waiting_of(messages, m);
@@ -442,7 +442,7 @@ fn all_next(carts: &[u64], set: u64, s: u64, n: u64) -> bool
 // "a queued cart is local, the message is held, names it, and is its next": the carts queued at station t for the message in room m. The
 // mask of the station's local carts is right, so it says which are local.
 fn queue_ok(stations: &[u64], carts: &[u64], messages: &[u64], m: usize, t: Station) -> bool
-    requires { ⌜ Sized (now stations) (now carts) (now messages) × (m < 32) × (t .0 < 16) × (localRight (lent (now stations) (now carts) [] [] []) (t .0) ≡ true) ⌝ }
+    requires { ⌜ Sized (now stations) (now carts) (now messages) × (m < rooms) × (t .0 < 16) × (localRight (lent (now stations) (now carts) [] [] []) (t .0) ≡ true) ⌝ }
     ensures { λ r. ⌜ r ≡ test (all 64 (queued (tables (now (stations .entry)) (now (carts .entry)) (now (messages .entry))) m (t .0))) ⌝ }
 {
     let queue = stations::queue_of(stations, m, t);
@@ -472,7 +472,7 @@ fn entry_ok(
     t: Station,
     most: u64,
 ) -> bool
-    requires { ⌜ Sized (now stations) (now carts) (now messages) × (m < 32) × (t .0 < 16) × (localRight (lent (now stations) (now carts) [] [] []) (t .0) ≡ true) × (most ≡ mostOf (headIn (now stations) .carts)) ⌝ }
+    requires { ⌜ Sized (now stations) (now carts) (now messages) × (m < rooms) × (t .0 < 16) × (localRight (lent (now stations) (now carts) [] [] []) (t .0) ≡ true) × (most ≡ mostOf (headIn (now stations) .carts)) ⌝ }
     ensures { λ r. ⌜ r ≡ test (entryRule limits (tables (now (stations .entry)) (now (carts .entry)) (now (messages .entry))) m (t .0)) ⌝ }
 {
     if most < stations::copy_of(stations, m, t) {
@@ -552,7 +552,7 @@ fn all_past(carts: &[u64], set: u64, k: u64, s: u64, n: u64) -> bool
 
 // "the copy has only named carts".
 fn copy_named(stations: &[u64], messages: &[u64], m: usize, t: Station) -> bool
-    requires { ⌜ (length (now stations) ≡ 1938) × (length (now messages) ≡ 192) × (m < 32) × (t .0 < 16) ⌝ }
+    requires { ⌜ (length (now stations) ≡ 1938) × (length (now messages) ≡ 192) × (m < rooms) × (t .0 < 16) ⌝ }
     ensures { λ r. ⌜ r ≡ test (copyNamed (tables (now (stations .entry)) [] (now (messages .entry))) m (t .0)) ⌝ }
 {
     let named = messages::named_of(messages, m);
@@ -562,7 +562,7 @@ fn copy_named(stations: &[u64], messages: &[u64], m: usize, t: Station) -> bool
 
 // "where the message has come": the named carts that the copy does not have.
 fn missing_at(stations: &[u64], messages: &[u64], m: usize, t: Station) -> u64
-    requires { ⌜ (length (now stations) ≡ 1938) × (length (now messages) ≡ 192) × (m < 32) × (t .0 < 16) ⌝ }
+    requires { ⌜ (length (now stations) ≡ 1938) × (length (now messages) ≡ 192) × (m < rooms) × (t .0 < 16) ⌝ }
     ensures { λ r. ⌜ r ≡ missingAt (tables (now (stations .entry)) [] (now (messages .entry))) m (t .0) ⌝ }
 {
     let s = messages::initiator_of(messages, m);
@@ -592,7 +592,7 @@ fn stations_of(stations: &[u64]) -> u64
 // all that are missing somewhere have received it, and each is looked at once, not once for each station. Beyond sixteen stations there is
 // no copy, and nothing has come.
 fn copies_of(stations: &[u64], carts: &[u64], messages: &[u64], m: usize) -> bool
-    requires { ⌜ Sized (now stations) (now carts) (now messages) × (m < 32) ⌝ }
+    requires { ⌜ Sized (now stations) (now carts) (now messages) × (m < rooms) ⌝ }
     ensures { λ r. ⌜ r ≡ test (copiesRule (tables (now (stations .entry)) (now (carts .entry)) (now (messages .entry))) m) ⌝ }
 {
     if messages::waiting_of(messages, m) == 0 {

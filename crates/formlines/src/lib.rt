@@ -13,7 +13,7 @@ ghost use Rattle.protocol.specs.Folds.{every, listOf};
 ghost use Rattle.protocol.specs.CartSets.{has, with};
 ghost use Rattle.protocol.specs.Floor.{moving};
 ghost use Rattle.cartset.specs.Masks.{within};
-ghost use Rattle.stations.specs.View.{stationsIn};
+ghost use Rattle.stations.specs.View.{rooms, stationsIn};
 ghost use Rattle.view.specs.View.{lent};
 ghost use Rattle.carts.specs.Records.{seen};
 ghost use Rattle.carts.specs.View.{cartsIn};
@@ -193,7 +193,7 @@ fn on_multicast(way: Way, right: bool, m: u64, number: u64) -> Way
 
 // An ack list is of carts that were not met.
 fn on_ack_list(masks: &mut [u64], way: Way, right: bool, m: u64, carts: u64) -> Way
-    requires { ⌜ (length (now masks) ≡ 32) × (right ≡ true → m < 32) ⌝ }
+    requires { ⌜ (length (now masks) ≡ 32) × (right ≡ true → m < rooms) ⌝ }
     ensures { λ r. ⌜ ((x : ℕ) → metOf r (now (masks .exit)) ≡ outcome (right && fresh (metOf way (now (masks .entry))) (anAckList m x carts)) (metOf way (now (masks .entry))) (anAckList m x carts)) ⌝ }
     ensures { λ _. ⌜ length (now (masks .exit)) ≡ length (now (masks .entry)) ⌝ }
 {
@@ -211,7 +211,7 @@ fn on_ack_list(masks: &mut [u64], way: Way, right: bool, m: u64, carts: u64) -> 
 
 // A delete is of a number passed before it, and met once.
 fn on_delete(way: Way, right: bool, m: u64, number: u64) -> Way
-    requires { ⌜ (right ≡ true → m < 32) ⌝ }
+    requires { ⌜ (right ≡ true → m < rooms) ⌝ }
     ensures { λ r. ⌜ ((seen : List ℕ) → metOf r seen ≡ outcome (right && fresh (metOf way seen) (aDelete m number)) (metOf way seen) (aDelete m number)) ⌝ }
 {
     if !right {
@@ -413,7 +413,7 @@ struct Acked {
 
 // Of the message in room m, on a floor of n stations.
 fn gather(stations: &[u64], messages: &[u64], n: u64, m: usize) -> Acked
-    requires { ⌜ (length (now stations) ≡ 1938) × (length (now messages) ≡ 192) × (n ≤ 16) × (m < 32) ⌝ }
+    requires { ⌜ (length (now stations) ≡ 1938) × (length (now messages) ≡ 192) × (n ≤ 16) × (m < rooms) ⌝ }
     ensures { λ r. ⌜ (r .apart ≡ apart (stationsIn (now (stations .entry))) (roomsIn (now (messages .entry))) m n) × (r .carts ≡ gathered (stationsIn (now (stations .entry))) (roomsIn (now (messages .entry))) m n) ⌝ }
 {
     let mut carts = messages::acked_of(messages, m);
@@ -477,7 +477,7 @@ fn is_above(carts: &[u64], k: u64, number: u64, initiator: u64, set: u64) -> boo
 
 // Whoever acknowledged the message in room m is named, and has passed it.
 fn has_ended(messages: &[u64], carts: &[u64], k: u64, m: usize, set: u64) -> bool
-    requires { ⌜ (length (now messages) ≡ 192) × (length (now carts) ≡ 1216) × (k ≤ 64) × (m < 32) ⌝ }
+    requires { ⌜ (length (now messages) ≡ 192) × (length (now carts) ≡ 1216) × (k ≤ 64) × (m < rooms) ⌝ }
     ensures { λ r. ⌜ r ≡ (not (isTaken (roomsIn (now (messages .entry))) m) || (within 64 set (roomsIn (now (messages .entry)) .named m) && passed k (cartsIn (now (carts .entry))) (roomsIn (now (messages .entry))) m set)) ⌝ }
 {
     let waiting = messages::waiting_of(messages, m);

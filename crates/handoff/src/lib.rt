@@ -8,7 +8,7 @@ ghost use Prim.Native.Nat.{ℕ, _<_, _≤_};
 ghost use lib.ListN.{length};
 ghost use Rattle.protocol.specs.Folds.{listOf};
 ghost use Rattle.protocol.specs.Floor.{at, leaving};
-ghost use Rattle.stations.specs.View.{HasStation, stationsIn, headIn};
+ghost use Rattle.stations.specs.View.{initiators, rooms, HasStation, stationsIn, headIn};
 ghost use Rattle.carts.specs.View.{cartsIn};
 ghost use Rattle.carts.specs.Words.{HasRow};
 ghost use Rattle.messages.specs.View.{roomsIn};
@@ -95,7 +95,7 @@ pub fn on_deregister(
 
 // Is the message in room m buffered at the station, "with a number below the cart's next number"?
 fn is_passed(stations: &[u64], messages: &[u64], station: Station, row: [u64; 16], m: usize) -> bool
-    requires { ⌜ HasStation (now stations) (station .0) × HasRooms (now messages) × (station .0 < 16) × (m < 32) ⌝ }
+    requires { ⌜ HasStation (now stations) (station .0) × HasRooms (now messages) × (station .0 < 16) × (m < rooms) ⌝ }
     ensures { λ r. ⌜ r ≡ isPassed (stationsIn (now (stations .entry))) (roomsIn (now (messages .entry))) (station .0) row m ⌝ }
 {
     let initiator = messages::initiator_of(messages, m);
@@ -122,7 +122,7 @@ fn struck_copy(
     row: [u64; 16],
     m: usize,
 ) -> u64
-    requires { ⌜ HasStation (now stations) (station .0) × HasRooms (now messages) × (station .0 < 16) × (cart .0 < 64) × (m < 32) ⌝ }
+    requires { ⌜ HasStation (now stations) (station .0) × HasRooms (now messages) × (station .0 < 16) × (cart .0 < 64) × (m < rooms) ⌝ }
     ensures { λ r. ⌜ r ≡ struckCopy (stationsIn (now (stations .entry))) (roomsIn (now (messages .entry))) (station .0) (cart .0) row m (stationsIn (now (stations .entry)) .copy m (station .0)) ⌝ }
 {
     let copy = stations::copy_of(stations, m, station);
@@ -174,7 +174,7 @@ fn dock(
     row: [u64; 16],
 ) -> Caught
     requires { ⌜ HasStation (now stations) (station .0) × HasRooms (now messages) × (station .0 < 16) × (cart .0 < 64) ⌝ }
-    requires { ⌜ ((s : ℕ) → s < 16 → stationsIn (now stations) .expected (station .0) s ≤ 65535) ⌝ }
+    requires { ⌜ ((s : ℕ) → s < initiators → stationsIn (now stations) .expected (station .0) s ≤ 65535) ⌝ }
     ensures { λ r. ⌜ Docked (now (stations .entry)) (now (stations .exit)) (now (messages .entry)) (station .0) (cart .0) row (r .row) (r .passed) ⌝ }
 {
     strike(stations, messages, station, cart, row);
@@ -195,7 +195,7 @@ fn on_arrive(
     row: [u64; 16],
 ) -> u64
     requires { ⌜ HasStation (now stations) (station .0) × HasRow (now carts) (number .0) × HasRooms (now messages) × (station .0 < 16) × (number .0 < 64) ⌝ }
-    requires { ⌜ ((s : ℕ) → s < 16 → stationsIn (now stations) .expected (station .0) s ≤ 65535) ⌝ }
+    requires { ⌜ ((s : ℕ) → s < initiators → stationsIn (now stations) .expected (station .0) s ≤ 65535) ⌝ }
     ensures { λ r. ⌜ Arrived (now (stations .entry)) (now (stations .exit)) (now (carts .entry)) (now (carts .exit)) (now (messages .entry)) (station .0) (number .0) row r ⌝ }
 {
     let caught = dock(stations, messages, station, number, row);
@@ -214,7 +214,7 @@ pub fn on_register(
     number: CartNumber,
 ) -> u64
     requires { ⌜ HasStation (now stations) (station .0) × HasRow (now carts) (number .0) × HasRooms (now messages) × (station .0 < 16) × (number .0 < 64) ⌝ }
-    requires { ⌜ ((s : ℕ) → s < 16 → stationsIn (now stations) .expected (station .0) s ≤ 65535) ⌝ }
+    requires { ⌜ ((s : ℕ) → s < initiators → stationsIn (now stations) .expected (station .0) s ≤ 65535) ⌝ }
     ensures { λ r. ⌜ Arrived (now (stations .entry)) (now (stations .exit)) (now (carts .entry)) (now (carts .exit)) (now (messages .entry)) (station .0) (number .0) (listOf 16 (cartsIn (now (carts .entry)) .next (number .0))) r ⌝ }
 {
     let row = carts::row_of(carts, number);
@@ -230,7 +230,7 @@ pub fn on_enter(
     number: CartNumber,
 ) -> u64
     requires { ⌜ HasStation (now stations) (station .0) × HasRow (now carts) (number .0) × HasRooms (now messages) × (station .0 < 16) × (number .0 < 64) ⌝ }
-    requires { ⌜ ((s : ℕ) → s < 16 → stationsIn (now stations) .expected (station .0) s ≤ 65535) ⌝ }
+    requires { ⌜ ((s : ℕ) → s < initiators → stationsIn (now stations) .expected (station .0) s ≤ 65535) ⌝ }
     ensures { λ r. ⌜ Arrived (now (stations .entry)) (now (stations .exit)) (now (carts .entry)) (now (carts .exit)) (now (messages .entry)) (station .0) (number .0) allZero r ⌝ }
 {
     let row = [0u64; 16];

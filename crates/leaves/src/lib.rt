@@ -1,4 +1,5 @@
-// The leaf functions for programs in other languages: bench/leaves measures them beside plain Rust. Each does what it calls does.
+// Leaf functions, and the form test, for programs in other languages: bench/leaves and bench/form measure them beside plain Rust. Each does
+// what it calls does.
 use ids::CartNumber;
 use ids::Station;
 use lines::Record;
@@ -8,9 +9,11 @@ ghost use Prim.Native.Nat.{ℕ, _+_, _*_, _<_, _≤_};
 ghost use lib.ListN.{length};
 ghost use Rattle.protocol.specs.CartSets.{minus};
 ghost use Rattle.protocol.specs.Floor.{limits};
+ghost use Rattle.protocol.specs.Form.{passesForm};
 ghost use Rattle.protocol.specs.Wireless.{queueHead};
+ghost use Rattle.view.specs.View.{lent, floorIn};
 ghost use Rattle.cartset.specs.Masks.{disjoint};
-ghost use Rattle.stations.specs.View.{HasStation, stationsIn};
+ghost use Rattle.stations.specs.View.{initiators, rooms, HasStation, stationsIn};
 ghost use Rattle.carts.specs.View.{cartsIn};
 ghost use Rattle.carts.specs.Words.{HasRow};
 ghost use Rattle.protocol.specs.Folds.{listOf};
@@ -68,7 +71,7 @@ pub extern "C" fn mekhturia_head(stations: &[u64], messages: &[u64], t: u64) -> 
 // "every local cart in the copy is in the ack list"
 #[no_mangle]
 pub extern "C" fn mekhturia_all_acked(stations: &[u64], m: usize, t: u64) -> bool
-    requires { ⌜ HasStation (now stations) t × (m < 32) ⌝ }
+    requires { ⌜ HasStation (now stations) t × (m < rooms) ⌝ }
     ensures { λ r. ⌜ r ≡ disjoint 64 (stationsIn (now (stations .entry)) .local t) (minus (stationsIn (now (stations .entry)) .copy m t) (stationsIn (now (stations .entry)) .acks m t)) ⌝ }
 {
     queue::all_acked(stations, m, Station(t))
@@ -84,11 +87,25 @@ pub extern "C" fn mekhturia_catch_up(
     c: u64,
 ) -> u64
     requires { ⌜ HasStation (now stations) t × HasRooms (now messages) × HasRow (now carts) c × (t < 16) × (c < 64) ⌝ }
-    requires { ⌜ ((s : ℕ) → s < 16 → stationsIn (now stations) .expected t s ≤ 65535) ⌝ }
+    requires { ⌜ ((s : ℕ) → s < initiators → stationsIn (now stations) .expected t s ≤ 65535) ⌝ }
     ensures { λ r. ⌜ r ≡ passedBy (tablesFloor (now (stations .entry)) (now (messages .entry))) t c (listOf 16 (cartsIn (now (carts .entry)) .next c)) ⌝ }
 {
     let row = carts::row_of(carts, CartNumber(c));
     let nearest = catchup::nearest_of_all(stations, messages, Station(t), CartNumber(c), row);
     let caught = catchup::raised(stations, messages, Station(t), row, nearest);
     caught.passed
+}
+
+// The form test of the lent floor.
+#[no_mangle]
+pub extern "C" fn mekhturia_passes(
+    stations: &[u64],
+    carts: &[u64],
+    messages: &[u64],
+    lines: &[u64],
+    texts: &[u8],
+) -> bool
+    ensures { λ r. ⌜ r ≡ passesForm limits (floorIn (lent (now (stations .entry)) (now (carts .entry)) (now (messages .entry)) (now (lines .entry)) (now (texts .entry)))) ⌝ }
+{
+    formtest::passes(stations, carts, messages, lines, texts)
 }

@@ -1,5 +1,5 @@
 -- "every local cart in the copy is in the ack list", on masks.
-use mathlib.Core.Path.{_≡_, refl, sym, ap, _∙_}
+use mathlib.Core.Path.{_≡_, refl, sym, ap, ap₂, _∙_}
 use mathlib.Core.Bool.{Bool, true, false, _&&_, _||_, not}
 use Prim.Native.Nat.{ℕ, _<_, _≤_, _^_}
 use native.Mathlib.Omega.{arith}
@@ -11,8 +11,13 @@ use Rattle.protocol.specs.Wireless.{allAcked}
 use Rattle.protocol.proofs.Tests.{by-test, by-lt, same-test, every-at, every-all, and-false}
 use Rattle.protocol.proofs.SetLaws.{has-minus, has-setOf, member-below}
 use Rattle.cartset.specs.Masks.{disjoint}
-use Rattle.stations.specs.View.{stationsIn}
+use Rattle.stations.specs.View.{Stations, stationsIn}
 use Rattle.view.specs.View.{Lent, floorIn, localRight}
+
+-- the test by its parts
+pub tested : (X : Stations) (m t copy acks local missing : ℕ) (r : Bool) → copy ≡ X .copy m t → acks ≡ X .acks m t → local ≡ X .local t → missing ≡ minus copy acks → r ≡ disjoint 64 local missing
+    → r ≡ disjoint 64 (X .local t) (minus (X .copy m t) (X .acks m t))
+tested X m t copy acks local missing r e₁ e₂ e₃ e₄ e₅ = e₅ ∙ ap₂ (disjoint 64) e₃ (e₄ ∙ ap₂ minus e₁ e₂)
 
 one-cart : (l x y : Bool) → not (l && (x && not y)) ≡ (not (l && x) || y)
 one-cart true true true = refl

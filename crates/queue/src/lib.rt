@@ -7,7 +7,7 @@ ghost use Rattle.protocol.specs.CartSets.{minus};
 ghost use Rattle.protocol.specs.Floor.{limits};
 ghost use Rattle.protocol.specs.Wireless.{standsBefore, headWith, queueHead};
 ghost use Rattle.cartset.specs.Masks.{disjoint};
-ghost use Rattle.stations.specs.View.{HasStation, stationsIn};
+ghost use Rattle.stations.specs.View.{rooms, HasStation, stationsIn};
 ghost use Rattle.messages.specs.View.{HasRoom};
 ghost use Rattle.queue.specs.Rooms.{tablesFloor, HasRooms, roomCode, roomIn};
 
@@ -32,7 +32,7 @@ fn stands_before(messages: &[u64], m: usize, k: usize) -> bool
 
 // The head once room m is looked at too. "A queue has one entry per message": an empty entry is none.
 fn head_with(stations: &[u64], messages: &[u64], station: Station, m: usize, head: usize) -> usize
-    requires { ⌜ HasStation (now stations) (station .0) × HasRooms (now messages) × (m < 32) × (head ≤ 32) ⌝ }
+    requires { ⌜ HasStation (now stations) (station .0) × HasRooms (now messages) × (m < rooms) × (head ≤ rooms) ⌝ }
     ensures { λ r. ⌜ r ≡ roomCode (headWith (tablesFloor (now (stations .entry)) (now (messages .entry))) (station .0) m (roomIn head)) ⌝ }
 {
     if stations::queue_of(stations, m, station) == 0 {
@@ -64,7 +64,7 @@ pub fn head(stations: &[u64], messages: &[u64], station: Station) -> usize
 
 // "every local cart in the copy is in the ack list": none of the local carts is in the copy and not in the ack list.
 pub fn all_acked(stations: &[u64], m: usize, station: Station) -> bool
-    requires { ⌜ HasStation (now stations) (station .0) × (m < 32) ⌝ }
+    requires { ⌜ HasStation (now stations) (station .0) × (m < rooms) ⌝ }
     ensures { λ r. ⌜ r ≡ disjoint 64 (stationsIn (now (stations .entry)) .local (station .0)) (minus (stationsIn (now (stations .entry)) .copy m (station .0)) (stationsIn (now (stations .entry)) .acks m (station .0))) ⌝ }
 {
     let copy = stations::copy_of(stations, m, station);

@@ -13,7 +13,8 @@ use Rattle.protocol.specs.Wired.{freeRoom}
 use Rattle.protocol.proofs.Tests.{by-lt, by-eq, by-option, clash, first-some, first-none, first-least}
 use Rattle.messages.specs.View.{roomsIn}
 use Rattle.view.specs.View.{Lent, floorIn}
-use Rattle.sending.specs.Rooms.{foundBelow32, firstFree}
+use Rattle.queue.specs.Rooms.{roomCode}
+use Rattle.sending.specs.Rooms.{firstFree}
 
 -- FIRST
 
@@ -50,14 +51,14 @@ module _ (messages : List ℕ) (m : ℕ) where
   pub free-here : (w : ℕ) → w ≡ roomsIn messages .waiting m → w ≡ 0 → m < 32 → TakenTo messages m → m ≡ firstFree messages
   unfolding firstFree
   free-here w e nobody l before =
-      sym (ap foundBelow32 (found-first 32 (isFree messages) m l (eq-eqb (roomsIn messages .waiting m) 0 (sym e ∙ nobody)) before))
+      sym (ap roomCode (found-first 32 (isFree messages) m l (eq-eqb (roomsIn messages .waiting m) 0 (sym e ∙ nobody)) before))
 
   -- no room is
   pub free-nowhere : m ≤ 32 → 32 ≤ m → TakenTo messages m → m ≡ firstFree messages
   unfolding firstFree
   free-nowhere l g before =
       let z : m ≡ 32 = omega arith in
-      z ∙ sym (ap foundBelow32 (found-none 32 (isFree messages) (λ k h. before k (omega arith))))
+      z ∙ sym (ap roomCode (found-none 32 (isFree messages) (λ k h. before k (omega arith))))
 
 -- so of the floor that the lent parts say
 module _ (L : Lent) (m : ℕ) (e : m ≡ firstFree (L .messages)) where
@@ -65,19 +66,19 @@ module _ (L : Lent) (m : ℕ) (e : m ≡ firstFree (L .messages)) where
   unfolding freeRoom firstFree
   room-found l =
       by-option (freeRoom limits (floorIn L))
-      (λ q. absurd (let z : m ≡ 32 = e ∙ ap foundBelow32 q in omega arith))
-      (λ k q. let z : m ≡ k = e ∙ ap foundBelow32 q in q ∙ ap some (sym z))
+      (λ q. absurd (let z : m ≡ 32 = e ∙ ap roomCode q in omega arith))
+      (λ k q. let z : m ≡ k = e ∙ ap roomCode q in q ∙ ap some (sym z))
 
   pub none-found : 32 ≤ m → freeRoom limits (floorIn L) ≡ none
   unfolding freeRoom firstFree
   none-found g =
       by-option (freeRoom limits (floorIn L))
       (λ q. q)
-      (λ k q. absurd (let z : m ≡ k = e ∙ ap foundBelow32 q in let y = first-some 32 (isFree (L .messages)) k q in omega (arith, y .0)))
+      (λ k q. absurd (let z : m ≡ k = e ∙ ap roomCode q in let y = first-some 32 (isFree (L .messages)) k q in omega (arith, y .0)))
 
   all-taken : 32 ≤ m → m ≡ 32
   unfolding freeRoom firstFree
-  all-taken g = e ∙ ap foundBelow32 (none-found g)
+  all-taken g = e ∙ ap roomCode (none-found g)
 
   -- the test of refusal 14
   pub none-is-32 : isNone (freeRoom limits (floorIn L)) ≡ eqb m 32

@@ -8,15 +8,13 @@ ghost use lib.ListN.{length};
 ghost use Rattle.lines.specs.Form.{form};
 ghost use Rattle.lines.specs.Lines.{used};
 ghost use Rattle.lines.specs.Words.{capacity};
-ghost use Rattle.stations.specs.View.{HasStation, headIn, stationsIn};
+ghost use Rattle.stations.specs.View.{rooms, HasStation, headIn, stationsIn};
 ghost use Rattle.sending.specs.Rooms.{firstFree};
 ghost use Rattle.sending.specs.Copies.{withoutCopy, withoutCopies};
 ghost use Rattle.sending.specs.Begun.{Begun};
 ghost use Rattle.sending.specs.Sent.{Kept, Sent};
 
-// How many rooms there are for held messages, and how many rows for stations.
-const ROOMS: usize = 32;
-
+// "Stations 1 to 16": as many rows.
 const STATIONS: u64 = 16;
 
 // The mark that says started.
@@ -28,7 +26,7 @@ pub fn free_room(messages: &[u64]) -> usize
     ensures { λ r. ⌜ r ≡ firstFree (now (messages .entry)) ⌝ }
 {
     let mut m: usize = 0;
-    while m < ROOMS {
+    while m < queue::ROOMS {
         if messages::waiting_of(messages, m) == 0 {
             return m;
         }
@@ -39,7 +37,7 @@ pub fn free_room(messages: &[u64]) -> usize
 
 // One station has no copy of the message in room m, no ack list and no entry for it.
 fn clear_copy(stations: &mut [u64], m: usize, station: Station)
-    requires { ⌜ HasStation (now stations) (station .0) × (m < 32) ⌝ }
+    requires { ⌜ HasStation (now stations) (station .0) × (m < rooms) ⌝ }
     ensures { λ _. ⌜ stationsIn (now (stations .exit)) ≡ withoutCopy (stationsIn (now (stations .entry))) m (station .0) ⌝ }
     ensures { λ _. ⌜ headIn (now (stations .exit)) ≡ headIn (now (stations .entry)) ⌝ }
     ensures { λ _. ⌜ length (now (stations .exit)) ≡ length (now (stations .entry)) ⌝ }
@@ -51,7 +49,7 @@ fn clear_copy(stations: &mut [u64], m: usize, station: Station)
 
 // No station has a copy of the message in room m yet, an ack list or an entry for it.
 pub fn clear_copies(stations: &mut [u64], m: usize)
-    requires { ⌜ (length (now stations) ≡ 1938) × (m < 32) ⌝ }
+    requires { ⌜ (length (now stations) ≡ 1938) × (m < rooms) ⌝ }
     ensures { λ _. ⌜ stationsIn (now (stations .exit)) ≡ withoutCopies (stationsIn (now (stations .entry))) m ⌝ }
     ensures { λ _. ⌜ headIn (now (stations .exit)) ≡ headIn (now (stations .entry)) ⌝ }
     ensures { λ _. ⌜ length (now (stations .exit)) ≡ length (now (stations .entry)) ⌝ }
@@ -94,7 +92,7 @@ fn keep_message(
     set: u64,
     text: &[u8],
 )
-    requires { ⌜ (length (now messages) ≡ 192) × (length (now texts) ≡ 1024) × (length (now text) ≤ 32) × (m < 32) × (n ≤ 16) ⌝ }
+    requires { ⌜ (length (now messages) ≡ 192) × (length (now texts) ≡ 1024) × (length (now text) ≤ 32) × (m < rooms) × (n ≤ 16) ⌝ }
     ensures { λ _. ⌜ Kept (now (messages .entry)) (now (messages .exit)) (now (texts .entry)) (now (texts .exit)) m (s .0) n (number .0) set (now (text .entry)) ⌝ }
 {
     messages::put_message(
@@ -124,7 +122,7 @@ pub fn on_send(
     text: &[u8],
 )
     requires { ⌜ (length (now stations) ≡ 1938) × (length (now messages) ≡ 192) × (length (now texts) ≡ 1024) × (length (now text) ≤ 32) ⌝ }
-    requires { ⌜ (m < 32) × (s .0 < 16) × (n ≤ 16) × (number .0 < 65536) ⌝ }
+    requires { ⌜ (m < rooms) × (s .0 < 16) × (n ≤ 16) × (number .0 < 65536) ⌝ }
     requires { ⌜ (form (now lines) ≡ true) × (used (now lines) + n ≤ capacity (now lines)) ⌝ }
     ensures { λ _. ⌜ Sent (now (stations .entry)) (now (stations .exit)) (now (messages .entry)) (now (messages .exit)) (now (lines .entry)) (now (lines .exit)) (now (texts .entry)) (now (texts .exit)) m (s .0) n (number .0) set (now (text .entry)) ⌝ }
 {

@@ -4,6 +4,7 @@ use ids::MessageNumber;
 use lines::Record;
 ghost use mathlib.Core.Path.{_≡_};
 ghost use Prim.Native.Nat.{_<_};
+ghost use Rattle.stations.specs.View.{rooms};
 ghost use Rattle.view.specs.Records.{kindOf, indexOf, numberOf, wordOf, wordsOf};
 
 // A record's word has its kind in 3 bits, then 8 bits of index, then the number.
@@ -31,7 +32,7 @@ fn word_of(kind: u64, index: u64, number: u64) -> u64
 
 // "multicast (1)": of the message in room m.
 pub fn multicast(m: usize, number: MessageNumber) -> Record
-    requires { ⌜ (m < 32) × (number .0 < 65536) ⌝ }
+    requires { ⌜ (m < rooms) × (number .0 < 65536) ⌝ }
     ensures { λ r. ⌜ r ≡ wordsOf 1 m (number .0) 0 ⌝ }
 {
     Record(word_of(MULTICAST, m as u64, number.0), 0)
@@ -39,7 +40,7 @@ pub fn multicast(m: usize, number: MessageNumber) -> Record
 
 // "ack list (2)": of the message in room m, with its carts.
 pub fn ack_list(m: usize, number: MessageNumber, carts: u64) -> Record
-    requires { ⌜ (m < 32) × (number .0 < 65536) ⌝ }
+    requires { ⌜ (m < rooms) × (number .0 < 65536) ⌝ }
     ensures { λ r. ⌜ r ≡ wordsOf 2 m (number .0) carts ⌝ }
 {
     Record(word_of(ACK_LIST, m as u64, number.0), carts)
@@ -47,7 +48,7 @@ pub fn ack_list(m: usize, number: MessageNumber, carts: u64) -> Record
 
 // "delete (3)": of the message in room m.
 pub fn delete(m: usize, number: MessageNumber) -> Record
-    requires { ⌜ (m < 32) × (number .0 < 65536) ⌝ }
+    requires { ⌜ (m < rooms) × (number .0 < 65536) ⌝ }
     ensures { λ r. ⌜ r ≡ wordsOf 3 m (number .0) 0 ⌝ }
 {
     Record(word_of(DELETE, m as u64, number.0), 0)

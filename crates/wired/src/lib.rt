@@ -8,7 +8,7 @@ ghost use mathlib.Core.Bool.{true, cond};
 ghost use Prim.Native.Nat.{_+_, _<_, _≤_};
 ghost use lib.ListN.{length};
 ghost use Rattle.protocol.specs.CartSets.{union, with};
-ghost use Rattle.stations.specs.View.{HasStation, stationsIn};
+ghost use Rattle.stations.specs.View.{initiators, rooms, HasStation, stationsIn};
 ghost use Rattle.carts.specs.View.{cartsIn};
 ghost use Rattle.messages.specs.View.{HasRoom, roomsIn};
 ghost use Rattle.lines.specs.Form.{form};
@@ -34,7 +34,7 @@ fn with_if(set: u64, cart: u64, joins: bool) -> u64
 
 // "For each local cart: next number equal ..; greater ..".
 fn meet(carts: &[u64], local: u64, initiator: Station, number: u64) -> Met
-    requires { ⌜ (length (now carts) ≡ 1216) × (initiator .0 < 16) ⌝ }
+    requires { ⌜ (length (now carts) ≡ 1216) × (initiator .0 < initiators) ⌝ }
     ensures { λ r. ⌜ r .0 ≡ dueAmong (cartsIn (now (carts .entry))) local (initiator .0) number ⌝ }
     ensures { λ r. ⌜ r .1 ≡ pastAmong (cartsIn (now (carts .entry))) local (initiator .0) number ⌝ }
 {
@@ -53,7 +53,7 @@ fn meet(carts: &[u64], local: u64, initiator: Station, number: u64) -> Met
 
 // "its next number rises": that of each cart of the set.
 fn raise(carts: &mut [u64], over: u64, initiator: Station, number: u64)
-    requires { ⌜ (length (now carts) ≡ 1216) × (initiator .0 < 16) ⌝ }
+    requires { ⌜ (length (now carts) ≡ 1216) × (initiator .0 < initiators) ⌝ }
     ensures { λ _. ⌜ Raised (now (carts .entry)) (now (carts .exit)) over (initiator .0) number ⌝ }
 {
     let mut left = over;
@@ -66,7 +66,7 @@ fn raise(carts: &mut [u64], over: u64, initiator: Station, number: u64)
 
 // The copy and the queue's entry of the message in room m; "the expected number rises by one".
 fn store(stations: &mut [u64], m: usize, initiator: Station, to: Station, copy: u64, queue: u64)
-    requires { ⌜ HasStation (now stations) (to .0) × (m < 32) × (initiator .0 < 16) × (stationsIn (now stations) .expected (to .0) (initiator .0) < 65536) ⌝ }
+    requires { ⌜ HasStation (now stations) (to .0) × (m < rooms) × (initiator .0 < initiators) × (stationsIn (now stations) .expected (to .0) (initiator .0) < 65536) ⌝ }
     ensures { λ _. ⌜ Stored (now (stations .entry)) (now (stations .exit)) m (initiator .0) (to .0) copy queue ⌝ }
 {
     let expected = stations::expected_of(stations, to, initiator);
@@ -85,8 +85,8 @@ pub fn on_multicast(
     initiator: Station,
     to: Station,
 ) -> u64
-    requires { ⌜ HasStation (now stations) (to .0) × (initiator .0 < 16) × (stationsIn (now stations) .expected (to .0) (initiator .0) < 65536) ⌝ }
-    requires { ⌜ (length (now carts) ≡ 1216) × HasRoom (now messages) (indexOf (said .0)) × (indexOf (said .0) < 32) × (numberOf (said .0) < 65536) ⌝ }
+    requires { ⌜ HasStation (now stations) (to .0) × (initiator .0 < initiators) × (stationsIn (now stations) .expected (to .0) (initiator .0) < 65536) ⌝ }
+    requires { ⌜ (length (now carts) ≡ 1216) × HasRoom (now messages) (indexOf (said .0)) × (indexOf (said .0) < rooms) × (numberOf (said .0) < 65536) ⌝ }
     ensures { λ r. ⌜ Buffered (now (stations .entry)) (now (stations .exit)) (now (carts .entry)) (now (carts .exit)) (now (messages .entry)) (indexOf (said .0)) (numberOf (said .0)) (initiator .0) (to .0) r ⌝ }
 {
     let m = view::index_of(said) as usize;
@@ -125,8 +125,8 @@ pub fn on_ack_list(
     initiator: Station,
     n: u64,
 ) -> u64
-    requires { ⌜ HasRoom (now messages) (indexOf (said .0)) × (indexOf (said .0) < 32) × (numberOf (said .0) < 65536) ⌝ }
-    requires { ⌜ (initiator .0 < 16) × (n ≤ 16) × (form (now lines) ≡ true) ⌝ }
+    requires { ⌜ HasRoom (now messages) (indexOf (said .0)) × (indexOf (said .0) < rooms) × (numberOf (said .0) < 65536) ⌝ }
+    requires { ⌜ (initiator .0 < initiators) × (n ≤ 16) × (form (now lines) ≡ true) ⌝ }
     requires { ⌜ (union (roomsIn (now messages) .acked (indexOf (said .0))) (said .1) ≡ roomsIn (now messages) .named (indexOf (said .0)) → used (now lines) + n ≤ capacity (now lines)) ⌝ }
     ensures { λ r. ⌜ Acknowledged (now (messages .entry)) (now (messages .exit)) (now (lines .entry)) (now (lines .exit)) (indexOf (said .0)) (numberOf (said .0)) (said .1) (initiator .0) n r ⌝ }
 {

@@ -5,7 +5,7 @@ use ids::Station;
 ghost use mathlib.Core.Path.{_≡_};
 ghost use mathlib.Core.Bool.{true};
 ghost use Prim.Native.Nat.{_+_, _<_};
-ghost use Rattle.stations.specs.View.{HasStation, stationsIn};
+ghost use Rattle.stations.specs.View.{initiators, rooms, HasStation, stationsIn};
 ghost use Rattle.carts.specs.View.{cartsIn};
 ghost use Rattle.carts.specs.Words.{HasRow};
 ghost use Rattle.queue.specs.Rooms.{HasRooms};
@@ -23,7 +23,7 @@ fn receive(
     station: Station,
     number: CartNumber,
 )
-    requires { ⌜ HasStation (now stations) (station .0) × (m < 32) × (initiator .0 < 16) ⌝ }
+    requires { ⌜ HasStation (now stations) (station .0) × (m < rooms) × (initiator .0 < initiators) ⌝ }
     requires { ⌜ HasRow (now carts) (number .0) × (number .0 < 64) × (cartsIn (now carts) .next (number .0) (initiator .0) < 65536) ⌝ }
     ensures { λ _. ⌜ Received (now (stations .entry)) (now (stations .exit)) (now (carts .entry)) (now (carts .exit)) m (initiator .0) (station .0) (number .0) ⌝ }
 {
@@ -45,7 +45,7 @@ fn send_acks_if_all(
     n: MessageNumber,
     station: Station,
 ) -> u64
-    requires { ⌜ HasStation (now stations) (station .0) × (station .0 < 16) × (m < 32) × (initiator .0 < 16) × (n .0 < 65536) ⌝ }
+    requires { ⌜ HasStation (now stations) (station .0) × (station .0 < 16) × (m < rooms) × (initiator .0 < initiators) × (n .0 < 65536) ⌝ }
     requires { ⌜ (form (now lines) ≡ true) × (holdNone (stationsIn (now stations)) m (station .0) ≡ true → used (now lines) < capacity (now lines)) ⌝ }
     ensures { λ r. ⌜ AcksSent (now (stations .entry)) (now (stations .exit)) (now (lines .entry)) (now (lines .exit)) m (initiator .0) (n .0) (station .0) r ⌝ }
 {
@@ -75,7 +75,7 @@ fn catch_up(
     number: CartNumber,
     next: u64,
 ) -> u64
-    requires { ⌜ HasStation (now stations) (station .0) × HasRooms (now messages) × (station .0 < 16) × (initiator .0 < 16) × (number .0 < 64) × HasRow (now carts) (number .0) ⌝ }
+    requires { ⌜ HasStation (now stations) (station .0) × HasRooms (now messages) × (station .0 < 16) × (initiator .0 < initiators) × (number .0 < 64) × HasRow (now carts) (number .0) ⌝ }
     ensures { λ r. ⌜ CaughtUp (now (stations .entry)) (now (stations .exit)) (now (carts .entry)) (now (carts .exit)) (now (messages .entry)) (initiator .0) (station .0) (number .0) next r ⌝ }
 {
     let nearest = catchup::nearest_of(stations, messages, station, number, initiator, next);
@@ -103,7 +103,7 @@ pub fn hand_over(
     station: Station,
     number: CartNumber,
 ) -> Handed
-    requires { ⌜ HasStation (now stations) (station .0) × (station .0 < 16) × (m < 32) × (initiator .0 < 16) × (n .0 < 65536) × HasRooms (now messages) ⌝ }
+    requires { ⌜ HasStation (now stations) (station .0) × (station .0 < 16) × (m < rooms) × (initiator .0 < initiators) × (n .0 < 65536) × HasRooms (now messages) ⌝ }
     requires { ⌜ HasRow (now carts) (number .0) × (number .0 < 64) × (cartsIn (now carts) .next (number .0) (initiator .0) < 65536) ⌝ }
     requires { ⌜ (form (now lines) ≡ true) × (holdNone (tookFrom (stationsIn (now stations)) m (station .0) (number .0)) m (station .0) ≡ true → used (now lines) < capacity (now lines)) ⌝ }
     ensures { λ r. ⌜ HandedOver (now (stations .entry)) (now (stations .exit)) (now (carts .entry)) (now (carts .exit)) (now (messages .entry)) (now (lines .entry)) (now (lines .exit)) m (initiator .0) (n .0) (station .0) (number .0) (r .passed) (r .sent) ⌝ }

@@ -1,5 +1,7 @@
 -- `queue::all_acked` meets its contract.
 use borrow.Author.Needs.{needs}
+use Rattle.stations.specs.View.{stationsIn}
+use Rattle.queue.proofs.AckLaws.{tested}
 use Rattle.queue.proofs.all_acked.Statement.{statement}
 use Rattle.queue.proofs.all_acked.Tie as tie
 
@@ -20,8 +22,14 @@ is-disjoint-requires c κs = search needs
 
 returns : tie.Need-returns
 returns c =
-    cc
-    (c .before .before .before .before .copy-of .ensures, c .before .before .before .acks-of .ensures, c .before .before .local-of .ensures, c .before .minus .ensures, c .is-disjoint .ensures)
+    let a = c .before .before .before .before .before .before .args in
+    let copy = c .before .before .before .before .copy-of in
+    let acks = c .before .before .before .acks-of in
+    let local = c .before .before .local-of in
+    let missing = c .before .minus in
+    let test = c .is-disjoint in
+    tested (stationsIn (a .stations .now)) (a .m) (a .station .0) (copy .result) (acks .result) (local .result) (missing .result) (test .result)
+    (copy .ensures) (acks .ensures) (local .ensures) (missing .ensures) (test .ensures)
 
 pub all-acked-spec : {M : Type 1} → statement M
 all-acked-spec =

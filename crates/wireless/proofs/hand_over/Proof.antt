@@ -33,7 +33,17 @@ same-length-3 : tie.Need-same-length-3
 same-length-3 c = search needs
 
 returns : tie.Need-returns
-returns c = search needs
+returns c =
+    let received = c .before .before .before .before .before .before .before .before .before .before .before .before .before .before .before .before .before .before .before .receive in
+    let sent = c .before .before .before .before .before .before .before .before .before .before .before .before .send-acks-if-all in
+    record {
+      S₁ = received .last .0;
+      C₁ = received .last .1 .0;
+      S₂ = sent .last .0;
+      received = received .ensures;
+      acks = sent .ensures;
+      caught = c .before .before .before .before .catch-up .ensures;
+    }
 
 pub hand-over-spec : {M : Type 1} → statement M
 hand-over-spec =

@@ -1,0 +1,3 @@
+pub mod SetChecks
+pub mod SendChecks
+pub mod SendMeets

@@ -1,0 +1,20 @@
+-- THE CHECKS OF A SEND behind 8, in two parts of the table: "Checks run down the table; the first that applies is the answer."
+use mathlib.Core.Bool.{cond}
+use Prim.Native.Nat.{ℕ}
+use lib.Dec.{eqb, ltb}
+use Rattle.protocol.specs.Folds.{isNone}
+use Rattle.protocol.specs.Floor.{Floor, limits}
+use Rattle.protocol.specs.Wired.{freeRoom}
+use Rattle.protocol.specs.Refusals.{check, strangers, neverEntered}
+
+-- those of its set: "a cart in the set, not on the floor", "empty set", "a named cart never entered"
+abbrev pub setChecks : Floor → ℕ → ℕ
+setChecks F set = check 9 (strangers F set) (check 11 (eqb set 0) (check 12 (neverEntered F set) 0))
+
+-- those of the message's number and room: "the station has used number 65,534", "32 messages held"
+abbrev pub roomChecks : Floor → ℕ → ℕ
+roomChecks F s = check 13 (ltb (limits .last) (F .sent s)) (check 14 (isNone (freeRoom limits F)) 0)
+
+-- a refusal, or the next where there is none
+abbrev pub firstOf : ℕ → ℕ → ℕ
+firstOf r next = cond (eqb r 0) next r

@@ -1,0 +1,122 @@
+// WHAT A CART RECEIVES on a floor that passes the form rule: a radio step. It is refused first, "Checks run down the table", and then is its
+// step of the wireless module.
+use carts::Place;
+use ids::CartNumber;
+use ids::MessageNumber;
+use ids::Station;
+ghost use mathlib.Core.Path.{_≡_};
+ghost use mathlib.Core.Bool.{true};
+ghost use Prim.Native.Nat.{_≤_, _<_};
+ghost use lib.ListN.{length};
+ghost use Rattle.protocol.specs.Floor.{limits};
+ghost use Rattle.protocol.specs.Events.{radio};
+ghost use Rattle.protocol.specs.Form.{passesForm};
+ghost use Rattle.stations.specs.View.{HasStation, headIn};
+ghost use Rattle.view.specs.View.{lent, floorIn};
+ghost use Rattle.queue.specs.Rooms.{HasRooms, roomIn};
+ghost use Rattle.answers.specs.Met.{Met};
+ghost use Rattle.receiving.specs.Checks.{notHere, notServed};
+ghost use Rattle.receiving.specs.Handing.{handingIn, refusalOfHanding, Fits};
+
+// What a radio step comes to: a refusal's number, or the message that was handed over: its room, how many octets its text has, its initiator
+// and number, p and w. The text stays in its room's part of the lent octets: `messages::copy_text` "writes the text at the front of the lent
+// buffer and leaves the rest".
+pub enum Handing {
+    Refused(u64),
+    Over(usize, usize, Station, MessageNumber, u64, u64),
+}
+
+// The number of a refusal, 0 if a message was handed over.
+pub fn refusal(handing: Handing) -> u64
+    ensures { λ r. ⌜ r ≡ refusalOfHanding handing ⌝ }
+{
+    match handing {
+        Handing::Refused(number) => number,
+        _ => 0,
+    }
+}
+
+// 8, 9 or 16, or 0. "cart is not at this station (leaving counts as not at)".
+fn not_here(stations: &[u64], carts: &[u64], station: Station, cart: CartNumber) -> u64
+    requires { ⌜ (length (now stations) ≡ 1938) × (length (now carts) ≡ 1216) × (headIn (now stations) .carts ≤ 64) ⌝ }
+    ensures { λ r. ⌜ r ≡ notHere (now (stations .entry)) (now (carts .entry)) (station .0) (cart .0) ⌝ }
+{
+    if stations::station_count(stations) <= station.0 {
+        return 8;
+    }
+    if stations::cart_count(stations) <= cart.0 {
+        return 9;
+    }
+    let place = carts::place_of(carts, cart);
+    match place {
+        Place::At(here) => { if here.0 == station.0 { 0 } else { 16 } }
+        _ => 16,
+    }
+}
+
+// 17 or 21, or 0, of the room of the queue's head: "queue empty, or its head entry lacks the cart", "lent text buffer shorter than the text".
+fn not_served(
+    stations: &[u64],
+    messages: &[u64],
+    station: Station,
+    cart: CartNumber,
+    buffer: usize,
+    head: usize,
+) -> u64
+    requires { ⌜ HasStation (now stations) (station .0) × HasRooms (now messages) × (cart .0 < 64) × (head ≤ 32) ⌝ }
+    ensures { λ r. ⌜ r ≡ notServed (now (stations .entry)) (now (messages .entry)) (station .0) (cart .0) buffer (roomIn head) ⌝ }
+{
+    if head == queue::NONE {
+        return 17;
+    }
+    let queued = stations::queue_of(stations, head, station);
+    if !cartset::has(queued, cart.0) {
+        return 17;
+    }
+    if buffer < messages::length_of(messages, head) as usize {
+        21
+    } else {
+        0
+    }
+}
+
+// "Radio (station, cart)", with room for so many octets of text.
+pub fn radio(
+    stations: &mut [u64],
+    carts: &mut [u64],
+    messages: &[u64],
+    lines: &mut [u64],
+    texts: &[u8],
+    station: Station,
+    cart: CartNumber,
+    buffer: usize,
+) -> Handing
+    requires { ⌜ passesForm limits (floorIn (lent (now stations) (now carts) (now messages) (now lines) (now texts))) ≡ true ⌝ }
+    ensures { λ h. ⌜ Met (lent (now (stations .entry)) (now (carts .entry)) (now (messages .entry)) (now (lines .entry)) (now (texts .entry))) (lent (now (stations .exit)) (now (carts .exit)) (now (messages .entry)) (now (lines .exit)) (now (texts .entry))) (radio (station .0) (cart .0) buffer) (handingIn (now (texts .entry)) h) ⌝ }
+    ensures { λ h. ⌜ Fits buffer h ⌝ }
+{
+    let elsewhere = not_here(stations, carts, station, cart);
+    if elsewhere != 0 {
+        return Handing::Refused(elsewhere);
+    }
+    let m = queue::head(stations, messages, station);
+    let unserved = not_served(stations, messages, station, cart, buffer, m);
+    if unserved != 0 {
+        return Handing::Refused(unserved);
+    }
+    let size = messages::length_of(messages, m) as usize;
+    let initiator = messages::initiator_of(messages, m);
+    let n = messages::number_of(messages, m);
+    let handed = wireless::hand_over(
+        stations,
+        carts,
+        messages,
+        lines,
+        m,
+        initiator,
+        n,
+        station,
+        cart,
+    );
+    Handing::Over(m, size, initiator, n, handed.passed, handed.sent)
+}

@@ -1,0 +1,3 @@
+pub mod WireChecks
+pub mod HeadTaken
+pub mod WireMeets

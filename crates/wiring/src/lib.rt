@@ -1,0 +1,106 @@
+// WHAT THE WIRES DO on a floor that passes the form rule: "Wire (from, to): the head record of that line is handled at to". It is refused
+// first, "Checks run down the table", and then is the step of the record's kind.
+use answers::Answer;
+use ids::CartNumber;
+use ids::MessageNumber;
+use ids::Station;
+use lines::Record;
+ghost use mathlib.Core.Path.{_≡_};
+ghost use mathlib.Core.Bool.{true, false};
+ghost use mathlib.Core.List.{List, []};
+ghost use Prim.Native.Nat.{ℕ, _≤_};
+ghost use lib.ListN.{length};
+ghost use Rattle.protocol.specs.Floor.{limits};
+ghost use Rattle.protocol.specs.Events.{wire};
+ghost use Rattle.protocol.specs.Form.{passesForm};
+ghost use Rattle.protocol.specs.Refusals.{refusalIf};
+ghost use Rattle.stations.specs.View.{headIn};
+ghost use Rattle.lines.specs.Form.{form};
+ghost use Rattle.view.specs.View.{lent, floorIn};
+ghost use Rattle.answers.specs.Answers.{answerIn};
+ghost use Rattle.answers.specs.Met.{Met};
+ghost use Rattle.wiring.specs.Off.{TakenOff, IsOff};
+
+// The refusal of a wire event, 8 or 15, or 0.
+fn wire_refusal(stations: &[u64], lines: &[u64], from: Station, to: Station) -> u64
+    requires { ⌜ (length (now stations) ≡ 1938) × (headIn (now stations) .stations ≤ 16) × (form (now lines) ≡ true) ⌝ }
+    ensures { λ r. ⌜ ((C M T : List ℕ) → r ≡ refusalIf limits (floorIn (lent (now (stations .entry)) C M (now (lines .entry)) T)) false (wire (from .0) (to .0))) ⌝ }
+{
+    let n = stations::station_count(stations);
+    if n <= from.0 {
+        return 8;
+    }
+    if n <= to.0 {
+        return 8;
+    }
+    if lines::is_empty(lines, from.0 as usize, to.0 as usize) {
+        return 15;
+    }
+    0
+}
+
+// A record that came from one station is handled at the other, by its kind: "multicast (1)", "ack list (2)", "delete (3)", "deregister (4)",
+// "register (5)". There is no other kind on a line of a floor that passes.
+fn handle(
+    stations: &mut [u64],
+    carts: &mut [u64],
+    messages: &mut [u64],
+    lines: &mut [u64],
+    said: Record,
+    from: Station,
+    to: Station,
+) -> Answer
+    requires { ⌜ IsOff (now stations) (now carts) (now messages) (now lines) (from .0) (to .0) said ⌝ }
+    ensures { λ a. ⌜ ((W T : List ℕ) → TakenOff (now (stations .entry)) (now (carts .entry)) (now (messages .entry)) W (now (lines .entry)) T (from .0) (to .0) said → Met (lent (now (stations .entry)) (now (carts .entry)) (now (messages .entry)) W T) (lent (now (stations .exit)) (now (carts .exit)) (now (messages .exit)) (now (lines .exit)) T) (wire (from .0) (to .0)) (answerIn a [])) ⌝ }
+{
+    let kind = view::kind_of(said);
+    let number = MessageNumber(view::number_of(said));
+    let cart = CartNumber(view::index_of(said));
+    match kind {
+        1 => {
+            let passed = wired::on_multicast(stations, carts, messages, said, from, to);
+            Answer::Buffered(number, passed)
+        }
+        2 => {
+            let n = stations::station_count(stations);
+            let put = wired::on_ack_list(messages, lines, said, to, n);
+            Answer::Acknowledged(number, put)
+        }
+        3 => {
+            wired::on_delete(messages, said, to);
+            Answer::Deleted(number)
+        }
+        4 => {
+            handoff::on_deregister(stations, carts, lines, cart, to, from);
+            Answer::Deregistered(cart)
+        }
+        _ => {
+            let passed = handoff::on_register(stations, carts, messages, to, cart);
+            Answer::Registered(cart, passed)
+        }
+    }
+}
+
+// "Wire (from, to)".
+pub fn wire(
+    stations: &mut [u64],
+    carts: &mut [u64],
+    messages: &mut [u64],
+    lines: &mut [u64],
+    texts: &[u8],
+    from: Station,
+    to: Station,
+) -> Answer
+    requires { ⌜ passesForm limits (floorIn (lent (now stations) (now carts) (now messages) (now lines) (now texts))) ≡ true ⌝ }
+    ensures { λ a. ⌜ Met (lent (now (stations .entry)) (now (carts .entry)) (now (messages .entry)) (now (lines .entry)) (now (texts .entry))) (lent (now (stations .exit)) (now (carts .exit)) (now (messages .exit)) (now (lines .exit)) (now (texts .entry))) (wire (from .0) (to .0)) (answerIn a []) ⌝ }
+{
+    let refusal = wire_refusal(stations, lines, from, to);
+    if refusal != 0 {
+        return Answer::Refused(refusal);
+    }
+    let i = from.0 as usize;
+    let j = to.0 as usize;
+    let said = lines::front(lines, i, j);
+    lines::pop_front(lines, i, j);
+    handle(stations, carts, messages, lines, said, from, to)
+}
