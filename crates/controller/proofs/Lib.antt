@@ -1,3 +1,4 @@
 pub mod Broken
 pub mod Starts
+pub mod Radios
 pub mod Run

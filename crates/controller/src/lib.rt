@@ -4,12 +4,15 @@
 use answers::Answer;
 use ids::CartNumber;
 use ids::Station;
+use receiving::Handing;
 ghost use mathlib.Core.Path.{_≡_};
 ghost use mathlib.Core.List.{[]};
+ghost use lib.ListN.{length};
 ghost use Rattle.protocol.specs.Floor.{limits};
-ghost use Rattle.protocol.specs.Events.{start, enter, move};
+ghost use Rattle.protocol.specs.Events.{start, enter, send, wire, radio, move, bufferAfter};
 ghost use Rattle.protocol.specs.Refusals.{wrongSize};
-ghost use Rattle.view.specs.View.{lent};
+ghost use Rattle.protocol.specs.Step.{answer};
+ghost use Rattle.view.specs.View.{lent, floorIn};
 ghost use Rattle.answers.specs.Answers.{answerIn};
 ghost use Rattle.answers.specs.Met.{Met};
 
@@ -20,6 +23,9 @@ const STARTED: u64 = 1;
 const STATIONS: u64 = 16;
 
 const CARTS: u64 = 64;
+
+// "text 0 to 32 octets".
+const TEXT: usize = 32;
 
 // 7: "stations not 1 to 16, or carts not 1 to 64".
 fn wrong_size(n: u64, k: u64) -> bool
@@ -79,6 +85,73 @@ pub fn enter(
         return Answer::Refused(5);
     }
     rolling::enter(stations, carts, messages, lines, texts, station, cart)
+}
+
+// "Send (station, set, text)". A text longer than 32 octets is met before anything of the floor.
+pub fn send(
+    stations: &mut [u64],
+    carts: &[u64],
+    messages: &mut [u64],
+    lines: &mut [u64],
+    texts: &mut [u8],
+    station: Station,
+    set: u64,
+    text: &[u8],
+) -> Answer
+    ensures { λ a. ⌜ Met (lent (now (stations .entry)) (now (carts .entry)) (now (messages .entry)) (now (lines .entry)) (now (texts .entry))) (lent (now (stations .exit)) (now (carts .entry)) (now (messages .exit)) (now (lines .exit)) (now (texts .exit))) (send (station .0) set (now (text .entry))) (answerIn a []) ⌝ }
+{
+    if TEXT < text.len() {
+        return Answer::Refused(4);
+    }
+    if !formtest::passes(stations, carts, messages, lines, texts) {
+        return Answer::Refused(5);
+    }
+    posting::send(stations, carts, messages, lines, texts, station, set, text)
+}
+
+// "Wire (from, to)".
+pub fn wire(
+    stations: &mut [u64],
+    carts: &mut [u64],
+    messages: &mut [u64],
+    lines: &mut [u64],
+    texts: &[u8],
+    from: Station,
+    to: Station,
+) -> Answer
+    ensures { λ a. ⌜ Met (lent (now (stations .entry)) (now (carts .entry)) (now (messages .entry)) (now (lines .entry)) (now (texts .entry))) (lent (now (stations .exit)) (now (carts .exit)) (now (messages .exit)) (now (lines .exit)) (now (texts .entry))) (wire (from .0) (to .0)) (answerIn a []) ⌝ }
+{
+    if !formtest::passes(stations, carts, messages, lines, texts) {
+        return Answer::Refused(5);
+    }
+    wiring::wire(stations, carts, messages, lines, texts, from, to)
+}
+
+// "Radio (station, cart)": "writes the text at the front of the lent buffer and leaves the rest"; a refusal "changes no octet of a lent text
+// buffer".
+pub fn radio(
+    stations: &mut [u64],
+    carts: &mut [u64],
+    messages: &[u64],
+    lines: &mut [u64],
+    texts: &[u8],
+    station: Station,
+    cart: CartNumber,
+    buffer: &mut [u8],
+) -> Answer
+    ensures { λ a. ⌜ Met (lent (now (stations .entry)) (now (carts .entry)) (now (messages .entry)) (now (lines .entry)) (now (texts .entry))) (lent (now (stations .exit)) (now (carts .exit)) (now (messages .entry)) (now (lines .exit)) (now (texts .entry))) (radio (station .0) (cart .0) (length (now (buffer .entry)))) (answerIn a (now (buffer .exit))) ⌝ }
+    ensures { λ a. ⌜ now (buffer .exit) ≡ bufferAfter (answer limits (floorIn (lent (now (stations .entry)) (now (carts .entry)) (now (messages .entry)) (now (lines .entry)) (now (texts .entry)))) (radio (station .0) (cart .0) (length (now (buffer .entry))))) (now (buffer .entry)) ⌝ }
+{
+    if !formtest::passes(stations, carts, messages, lines, texts) {
+        return Answer::Refused(5);
+    }
+    let room = buffer.len();
+    let handing = receiving::radio(stations, carts, messages, lines, texts, station, cart, room);
+    let Handing::Over(m, size, initiator, number, p, w) = handing else {
+        return Answer::Refused(receiving::refusal(handing));
+    };
+    messages::copy_text(texts, m, size, buffer);
+    Answer::Received(initiator, number, p, w, size)
 }
 
 // "Move (cart, to)".

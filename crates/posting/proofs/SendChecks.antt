@@ -3,25 +3,24 @@ use mathlib.Core.Path.{_≡_, refl}
 use mathlib.Core.Bool.{Bool, true, false}
 use mathlib.Core.List.{List}
 use Prim.Native.Nat.{ℕ, _≤_, _<_}
-use native.Mathlib.Omega.{arith}
 use lib.Dec.{eqb}
 use lib.ListN.{length}
 use borrow.Author.Tests.{le-leb, lt-leb, lt-ltb, le-ltb, eq-eqb, ne-eqb}
 use Rattle.protocol.specs.Floor.{Floor, limits}
 use Rattle.protocol.specs.Events.{send}
 use Rattle.protocol.specs.Refusals.{check, strangers, neverEntered, refusalIf}
-use Rattle.stations.specs.View.{headIn, stationsIn}
+use Rattle.stations.specs.View.{stationsIn}
 use Rattle.view.specs.View.{lent, floorIn}
 use Rattle.sending.specs.Rooms.{firstFree}
 use Rattle.sending.proofs.RoomLaws.{none-is-32}
-use Rattle.posting.specs.Checks.{setChecks, roomChecks, firstOf}
+use Rattle.posting.specs.Checks.{setChecks, roomChecks, firstApplying}
 
 -- THE FIRST THAT APPLIES
 module _ (r next : ℕ) where
-  pub first-next : r ≡ 0 → next ≡ firstOf r next
+  pub first-next : r ≡ 0 → next ≡ firstApplying r next
   first-next z = rw (eq-eqb r 0 z) refl
 
-  pub first-stays : (r ≡ 0 → ⊥) → r ≡ firstOf r next
+  pub first-stays : (r ≡ 0 → ⊥) → r ≡ firstApplying r next
   first-stays n = rw (ne-eqb r 0 n) refl
 
 -- THE NUMBER AND THE ROOM
@@ -33,8 +32,8 @@ module _ (S : List ℕ) (s m : ℕ) (C M W T : List ℕ) (found : m ≡ firstFre
   room-numbers-used l = rw (lt-ltb 65534 (stationsIn S .sent s) l) refl
 
   module _ (l : stationsIn S .sent s ≤ 65534) where
-    pub room-none : m ≡ 32 → 14 ≡ roomChecks F s
-    room-none z = rw (le-ltb 65534 (stationsIn S .sent s) l, none-is-32 (lent S C M W T) m found, eq-eqb m 32 z) refl
+    pub rooms-full : m ≡ 32 → 14 ≡ roomChecks F s
+    rooms-full z = rw (le-ltb 65534 (stationsIn S .sent s) l, none-is-32 (lent S C M W T) m found, eq-eqb m 32 z) refl
 
     pub room-passes : (m ≡ 32 → ⊥) → 0 ≡ roomChecks F s
     room-passes n = rw (le-ltb 65534 (stationsIn S .sent s) l, none-is-32 (lent S C M W T) m found, ne-eqb m 32 n) refl
@@ -46,13 +45,13 @@ module _ (F : Floor) (s set : ℕ) (text : List ℕ) (short : length text ≤ 32
   send-no-station l = rw (le-ltb 32 (length text) short, le-leb (F .stations) s l) refl
 
   -- three checks, and what comes next
-  three : (a b d : Bool) (next : ℕ) → firstOf (check 9 a (check 11 b (check 12 d 0))) next ≡ check 9 a (check 11 b (check 12 d next))
+  three : (a b d : Bool) (next : ℕ) → firstApplying (check 9 a (check 11 b (check 12 d 0))) next ≡ check 9 a (check 11 b (check 12 d next))
   three true b d next = refl
   three false true d next = refl
   three false false true next = refl
   three false false false next = refl
 
-  pub send-checks : s < F .stations → (a b : ℕ) → a ≡ setChecks F set → b ≡ roomChecks F s → firstOf a b ≡ refusalIf limits F false (send s set text)
+  pub send-checks : s < F .stations → (a b : ℕ) → a ≡ setChecks F set → b ≡ roomChecks F s → firstApplying a b ≡ refusalIf limits F false (send s set text)
   unfolding refusalIf
   send-checks l a b p q =
       rw (p, q, le-ltb 32 (length text) short, lt-leb (F .stations) s l) (three (strangers F set) (eqb set 0) (neverEntered F set) (roomChecks F s))

@@ -7,7 +7,7 @@ use native.Mathlib.Omega.{arith}
 use borrow.Author.Tests.{le-leb, lt-leb, eq-eqb, ne-eqb, not-false}
 use Rattle.protocol.specs.Floor.{Floor, entered}
 use Rattle.protocol.specs.Floor as floor
-use Rattle.protocol.specs.CartSets.{has, setOf}
+use Rattle.protocol.specs.CartSets.{setOf}
 use Rattle.protocol.specs.Claims.{Claim, test, is}
 use Rattle.protocol.specs.Refusals.{neverEntered}
 use Rattle.protocol.proofs.Tests.{clash}
@@ -52,7 +52,7 @@ abbrev pub hasEntered : (ℕ → floor.Place) → ℕ → Claim
 hasEntered place c = is (entered (place c))
 
 -- a set of the first k carts has none beyond
-pub over-wider : (k set : ℕ) (P : ℕ → Claim) → k ≤ 64 → set < 2 ^ k → test (over 64 set P) ≡ test (over k set P)
+over-wider : (k set : ℕ) (P : ℕ → Claim) → k ≤ 64 → set < 2 ^ k → test (over 64 set P) ≡ test (over k set P)
 over-wider k set P few l =
     same-answer (over 64 set P) (over k set P) (λ h c b. h c (omega arith)) (λ h c b q. h c (member-below k set c l q) q)
 

@@ -16,5 +16,5 @@ abbrev pub roomChecks : Floor → ℕ → ℕ
 roomChecks F s = check 13 (ltb (limits .last) (F .sent s)) (check 14 (isNone (freeRoom limits F)) 0)
 
 -- a refusal, or the next where there is none
-abbrev pub firstOf : ℕ → ℕ → ℕ
-firstOf r next = cond (eqb r 0) next r
+abbrev pub firstApplying : ℕ → ℕ → ℕ
+firstApplying r next = cond (eqb r 0) next r

@@ -22,7 +22,7 @@ ghost use Rattle.view.specs.View.{lent, floorIn};
 ghost use Rattle.sending.specs.Rooms.{firstFree};
 ghost use Rattle.answers.specs.Answers.{answerIn};
 ghost use Rattle.answers.specs.Met.{Met};
-ghost use Rattle.posting.specs.Checks.{setChecks, roomChecks, firstOf};
+ghost use Rattle.posting.specs.Checks.{setChecks, roomChecks, firstApplying};
 
 // "last number 65,534".
 const LAST: u64 = 65534;
@@ -88,7 +88,7 @@ fn room_refusal(stations: &[u64], station: Station, m: usize) -> u64
 
 // "Checks run down the table; the first that applies is the answer": a refusal, or the next where there is none.
 fn first_of(refusal: u64, next: u64) -> u64
-    ensures { λ r. ⌜ r ≡ firstOf refusal next ⌝ }
+    ensures { λ r. ⌜ r ≡ firstApplying refusal next ⌝ }
 {
     if refusal == 0 { next } else { refusal }
 }

@@ -42,14 +42,28 @@ module _ (S C : List ℕ) (t c : ℕ) where
     unfolding notHere
     is-there s q n = rw (lt-leb (headIn S .stations) t lt, lt-leb (headIn S .carts) c lc, sym met, q, ne-eqb (s .0) t n) refl
 
-    -- outside, leaving or travelling: at no station
-    pub is-nowhere : OneOf (0 ∷ 2 ∷ 3 ∷ []) (tagOf place-type p) → 16 ≡ notHere S C t c
+    -- a place at no station
+    nowhere : isAt (seen p) t ≡ false → 16 ≡ notHere S C t c
     unfolding notHere
-    is-nowhere k = rw (lt-leb (headIn S .stations) t lt, lt-leb (headIn S .carts) c lc, sym met, by-key p k) refl
+    nowhere e = rw (lt-leb (headIn S .stations) t lt, lt-leb (headIn S .carts) c lc, sym met, e) refl
+
+    -- "leaving counts as not at"
+    pub is-leaving : OneOf (2 ∷ []) (tagOf place-type p) → 16 ≡ notHere S C t c
+    is-leaving k = nowhere (by-key p k)
       where
-        by-key : (q : Place) → OneOf (0 ∷ 2 ∷ 3 ∷ []) (tagOf place-type q) → isAt (seen q) t ≡ false
+        by-key : (q : Place) → OneOf (2 ∷ []) (tagOf place-type q) → isAt (seen q) t ≡ false
         by-key Outside k = refl
-        by-key (At s) k = absurd (miss (0 ∷ 2 ∷ 3 ∷ []) 1 tt k)
+        by-key (At s) k = absurd (miss (2 ∷ []) 1 tt k)
+        by-key (Leaving s u) k = refl
+        by-key (Travelling s u) k = refl
+
+    -- outside, or travelling
+    pub is-away : OneOf (0 ∷ 3 ∷ []) (tagOf place-type p) → 16 ≡ notHere S C t c
+    is-away k = nowhere (by-key p k)
+      where
+        by-key : (q : Place) → OneOf (0 ∷ 3 ∷ []) (tagOf place-type q) → isAt (seen q) t ≡ false
+        by-key Outside k = refl
+        by-key (At s) k = absurd (miss (0 ∷ 3 ∷ []) 1 tt k)
         by-key (Leaving s u) k = refl
         by-key (Travelling s u) k = refl
 

@@ -1,2 +1,3 @@
+pub mod Values
 pub mod Checks
 pub mod RadioMeets

@@ -1,5 +1,5 @@
 -- A RADIO STEP MEETS ITS EVENT: what the code asks on the way, and what it leaves.
-use mathlib.Core.Path.{_≡_, refl, sym, ap, _∙_, subst}
+use mathlib.Core.Path.{_≡_, refl, sym, ap, _∙_}
 use mathlib.Core.Bool.{Bool, true, false, not}
 use mathlib.Core.List.{List}
 use mathlib.Core.Option.{Option, some, none}
@@ -157,21 +157,23 @@ module _ (S C M W T : List ℕ) (t c buffer : ℕ) (p : passesForm limits (floor
         pub has-room : HasRoom M m
         has-room = let a = X .lengths .messages in let b = is-room in omega arith
 
-        -- its size, initiator and number, as the code read them
-        pub fits : (size : ℕ) → size ≡ roomsIn M .length m → (m < 32) × (size ≤ longest) × (size ≤ buffer)
-        fits size e = let a = X .laid .short m is-room in let b = is-served .1 in (is-room, omega arith, omega arith)
-
+        -- its initiator and number, as the code read them
         module _ (s n : ℕ) (es : s ≡ roomsIn M .initiator m) (en : n ≡ roomsIn M .number m) where
           pub over-asks : (HasStation S t × (t < 16) × (m < 32) × (s < 16) × (n < 65536) × HasRooms M)
               × ((HasRow C c × (c < 64) × (cartsIn C .next c s < 65536))
               × ((form W ≡ true) × (holdNone (tookFrom (stationsIn S) m t c) m t ≡ true → used W < capacity W)))
           over-asks = rw (es, en) (radio-asks L X t c m may)
 
+          -- and how many octets its text has
           pub meets-radio : (size : ℕ) → size ≡ roomsIn M .length m → (S′ C′ W′ : List ℕ) (q w : ℕ) → HandedOver S S′ C C′ M W W′ m s n t c q w
-              → Met L (lent S′ C′ M W′ T) (radio t c buffer) (says 4 s n q w (textIn T size m))
+              → Met L (lent S′ C′ M W′ T) (radio t c buffer) (says 4 s n q w (textIn T size m)) × ((m < 32) × (size ≤ longest) × (size ≤ buffer))
           unfolding accept
           meets-radio size ez S′ C′ W′ q w over =
               let over₀ : HandedOver S S′ C C′ M W W′ m (roomsIn M .initiator m) (roomsIn M .number m) t c q w = rw (es, en) at over in
-              meets-done L (radio t c buffer) (lent S′ C′ M W′ T) _ (refusal-standing L (radio t c buffer) p ∙ sym served-is ∙ free)
-              (radio-is S S′ C C′ M W W′ T m t c q w X may over₀)
-              (rw (es, en, ez) (sym (radio-reports S S′ C C′ M W W′ T m t c q w X may over₀)))
+              let short = X .laid .short m is-room in
+              let served = is-served .1 in (
+                meets-done L (radio t c buffer) (lent S′ C′ M W′ T) _ (refusal-standing L (radio t c buffer) p ∙ sym served-is ∙ free)
+                    (radio-is S S′ C C′ M W W′ T m t c q w X may over₀)
+                    (rw (es, en, ez) (sym (radio-reports S S′ C C′ M W W′ T m t c q w X may over₀))),
+                (is-room, omega arith, omega arith),
+              )

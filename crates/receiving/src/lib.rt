@@ -50,6 +50,7 @@ fn not_here(stations: &[u64], carts: &[u64], station: Station, cart: CartNumber)
     let place = carts::place_of(carts, cart);
     match place {
         Place::At(here) => { if here.0 == station.0 { 0 } else { 16 } }
+        Place::Leaving(_, _) => 16,
         _ => 16,
     }
 }
@@ -80,7 +81,7 @@ fn not_served(
     }
 }
 
-// "Radio (station, cart)", with room for so many octets of text.
+// "Radio (station, cart)", with a lent buffer of so many octets: "the head message of the queue is handed to the cart".
 pub fn radio(
     stations: &mut [u64],
     carts: &mut [u64],

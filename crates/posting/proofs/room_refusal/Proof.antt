@@ -1,7 +1,7 @@
 -- `posting::room_refusal` meets its contract.
 use native.Mathlib.Omega.{arith}
 use denote.Ref.{now}
-use Rattle.posting.proofs.SendChecks.{room-numbers-used, room-none, room-passes}
+use Rattle.posting.proofs.SendChecks.{room-numbers-used, rooms-full, room-passes}
 use borrow.Author.Needs.{needs}
 use Rattle.posting.proofs.room_refusal.Statement.{statement}
 use Rattle.posting.proofs.room_refusal.Tie as tie
@@ -10,13 +10,19 @@ sent-of-requires : tie.Need-sent-of-requires
 sent-of-requires c κs = search needs
 
 returns : tie.Need-returns
-returns c = let a = c .before .before .before .args in λ C M W T found. room-numbers-used (now (a .stations)) (a .station .0) (a .m) C M W T found (omega (arith, c .before .sent-of .ensures, c .if1 .taken))
+returns c =
+    let a = c .before .before .before .args in
+    λ C M W T found. room-numbers-used (now (a .stations)) (a .station .0) (a .m) C M W T found (omega (arith, c .before .sent-of .ensures, c .if1 .taken))
 
 returns-2 : tie.Need-returns-2
-returns-2 c = let a = c .before .before .before .before .args in λ C M W T found. room-none (now (a .stations)) (a .station .0) (a .m) C M W T found (omega (arith, c .before .before .sent-of .ensures, c .before .if1 .left)) (c .if2 .taken)
+returns-2 c =
+    let a = c .before .before .before .before .args in
+    λ C M W T found. rooms-full (now (a .stations)) (a .station .0) (a .m) C M W T found (omega (arith, c .before .before .sent-of .ensures, c .before .if1 .left)) (c .if2 .taken)
 
 returns-3 : tie.Need-returns-3
-returns-3 c = let a = c .before .before .before .before .args in λ C M W T found. room-passes (now (a .stations)) (a .station .0) (a .m) C M W T found (omega (arith, c .before .before .sent-of .ensures, c .before .if1 .left)) (c .if2 .left)
+returns-3 c =
+    let a = c .before .before .before .before .args in
+    λ C M W T found. room-passes (now (a .stations)) (a .station .0) (a .m) C M W T found (omega (arith, c .before .before .sent-of .ensures, c .before .if1 .left)) (c .if2 .left)
 
 pub room-refusal-spec : {M : Type 1} → statement M
 room-refusal-spec = tie.close (tie.spec sent-of-requires returns returns-2 returns-3)

@@ -1,6 +1,5 @@
 -- `posting::set_refusal` meets its contract.
 use native.Mathlib.Omega.{arith}
-use mathlib.Core.Path.{ap, _∙_}
 use denote.Ref.{now}
 use Rattle.posting.proofs.SetChecks.{set-stranger, set-empty, set-outside, set-passes, all-of}
 use borrow.Author.Needs.{needs}
@@ -14,19 +13,27 @@ all-below-requires : tie.Need-all-below-requires
 all-below-requires c κs = search needs
 
 returns : tie.Need-returns
-returns c = let a = c .before .before .before .before .before .args in λ M W T. set-stranger (now (a .stations)) (now (a .carts)) (a .set) (c .before .all-below .result) M W T (all-of _ _ _ (c .before .all-below .ensures) (c .before .before .cart-count .ensures)) (c .if1 .taken)
+returns c =
+    let a = c .before .before .before .before .before .args in
+    λ M W T. set-stranger (now (a .stations)) (now (a .carts)) (a .set) (c .before .all-below .result) M W T (all-of _ _ _ (c .before .all-below .ensures) (c .before .before .cart-count .ensures)) (c .if1 .taken)
 
 returns-2 : tie.Need-returns-2
-returns-2 c = let a = c .before .before .before .before .before .before .args in λ M W T. set-empty (now (a .stations)) (now (a .carts)) (a .set) (c .before .before .all-below .result) M W T (all-of _ _ _ (c .before .before .all-below .ensures) (c .before .before .before .cart-count .ensures)) (omega (arith, c .before .if1 .left)) (c .if2 .taken)
+returns-2 c =
+    let a = c .before .before .before .before .before .before .args in
+    λ M W T. set-empty (now (a .stations)) (now (a .carts)) (a .set) (c .before .before .all-below .result) M W T (all-of _ _ _ (c .before .before .all-below .ensures) (c .before .before .before .cart-count .ensures)) (omega (arith, c .before .if1 .left)) (c .if2 .taken)
 
 all-entered-requires : tie.Need-all-entered-requires
 all-entered-requires c κs = search needs
 
 returns-3 : tie.Need-returns-3
-returns-3 c = let a = c .before .before .before .before .before .before .before .before .args in λ M W T. set-passes (now (a .stations)) (now (a .carts)) (a .set) (c .before .before .before .before .all-below .result) M W T (all-of _ _ _ (c .before .before .before .before .all-below .ensures) (c .before .before .before .before .before .cart-count .ensures)) (omega (arith, c .before .before .before .if1 .left)) (c .before .before .before .before .before .before .before .before .pre .2) (c .before .before .if2 .left) (c .before .all-entered .result) (c .before .all-entered .ensures) (c .if3 .taken)
+returns-3 c =
+    let a = c .before .before .before .before .before .before .before .before .args in
+    λ M W T. set-passes (now (a .stations)) (now (a .carts)) (a .set) (c .before .before .before .before .all-below .result) M W T (all-of _ _ _ (c .before .before .before .before .all-below .ensures) (c .before .before .before .before .before .cart-count .ensures)) (omega (arith, c .before .before .before .if1 .left)) (c .before .before .before .before .before .before .before .before .pre .2) (c .before .before .if2 .left) (c .before .all-entered .result) (c .before .all-entered .ensures) (c .if3 .taken)
 
 returns-4 : tie.Need-returns-4
-returns-4 c = let a = c .before .before .before .before .before .before .before .before .args in λ M W T. set-outside (now (a .stations)) (now (a .carts)) (a .set) (c .before .before .before .before .all-below .result) M W T (all-of _ _ _ (c .before .before .before .before .all-below .ensures) (c .before .before .before .before .before .cart-count .ensures)) (omega (arith, c .before .before .before .if1 .left)) (c .before .before .before .before .before .before .before .before .pre .2) (c .before .before .if2 .left) (c .before .all-entered .result) (c .before .all-entered .ensures) (c .if3 .left)
+returns-4 c =
+    let a = c .before .before .before .before .before .before .before .before .args in
+    λ M W T. set-outside (now (a .stations)) (now (a .carts)) (a .set) (c .before .before .before .before .all-below .result) M W T (all-of _ _ _ (c .before .before .before .before .all-below .ensures) (c .before .before .before .before .before .cart-count .ensures)) (omega (arith, c .before .before .before .if1 .left)) (c .before .before .before .before .before .before .before .before .pre .2) (c .before .before .if2 .left) (c .before .all-entered .result) (c .before .all-entered .ensures) (c .if3 .left)
 
 pub set-refusal-spec : {M : Type 1} → statement M
 set-refusal-spec =

@@ -1,7 +1,7 @@
 -- `receiving::not_here` meets its contract.
 use native.Mathlib.Omega.{arith}
 use denote.Ref.{now}
-use Rattle.receiving.proofs.Checks.{no-station, no-cart, is-here, is-there, is-nowhere}
+use Rattle.receiving.proofs.Checks.{no-station, no-cart, is-here, is-there, is-leaving, is-away}
 use borrow.Author.Needs.{needs}
 use Rattle.receiving.proofs.not_here.Statement.{statement}
 use Rattle.receiving.proofs.not_here.Tie as tie
@@ -35,17 +35,53 @@ place-of-requires c κs = omega (arith, c .before .before .before .before .befor
 enum-known-place : tie.Need-enum-known-place
 enum-known-place c = search needs
 
+-- src/lib.rt:53:33
+enum-told : tie.Need-enum-told
+enum-told c = search needs
+
 -- src/lib.rt:40:1
 returns-3 : tie.Need-returns-3
-returns-3 c = let a = c .before .before .before .before .before .before .before .before .before .before .before .before .before .before .before .args in is-here (now (a .stations)) (now (a .carts)) (a .station .0) (a .cart .0) (omega (arith, c .before .before .before .before .before .before .before .before .before .before .before .before .station-count .ensures, c .before .before .before .before .before .before .before .before .before .before .if1 .left)) (omega (arith, c .before .before .before .before .before .before .before .before .before .cart-count .ensures, c .before .before .before .before .before .before .before .if2 .left)) (c .before .before .before .before .before .before .place-of .result) (c .before .before .before .before .before .before .place-of .ensures) (c .before .before .before .before .place .given .0 .0) (c .before .before .before .before .place .given .1) (c .if3 .taken)
+returns-3 c =
+    let met = c .before .before .before .before .before .before in
+    let cart = met .before in
+    let station = cart .before .before .before in
+    let a = c .before .before .before .before .before .before .before .before .before .before .before .before .before .before .before .args in
+    is-here (now (a .stations)) (now (a .carts)) (a .station .0) (a .cart .0)
+    (omega (arith, station .before .before .station-count .ensures, station .if1 .left)) (omega (arith, cart .before .before .cart-count .ensures, cart .if2 .left))
+    (met .place-of .result) (met .place-of .ensures) _ (c .before .before .before .before .place .given .1) (c .if3 .taken)
 
 -- src/lib.rt:40:1
 returns-4 : tie.Need-returns-4
-returns-4 c = let a = c .before .before .before .before .before .before .before .before .before .before .before .before .before .before .before .args in is-there (now (a .stations)) (now (a .carts)) (a .station .0) (a .cart .0) (omega (arith, c .before .before .before .before .before .before .before .before .before .before .before .before .station-count .ensures, c .before .before .before .before .before .before .before .before .before .before .if1 .left)) (omega (arith, c .before .before .before .before .before .before .before .before .before .cart-count .ensures, c .before .before .before .before .before .before .before .if2 .left)) (c .before .before .before .before .before .before .place-of .result) (c .before .before .before .before .before .before .place-of .ensures) (c .before .before .before .before .place .given .0 .0) (c .before .before .before .before .place .given .1) (c .if3 .left)
+returns-4 c =
+    let met = c .before .before .before .before .before .before in
+    let cart = met .before in
+    let station = cart .before .before .before in
+    let a = c .before .before .before .before .before .before .before .before .before .before .before .before .before .before .before .args in
+    is-there (now (a .stations)) (now (a .carts)) (a .station .0) (a .cart .0)
+    (omega (arith, station .before .before .station-count .ensures, station .if1 .left)) (omega (arith, cart .before .before .cart-count .ensures, cart .if2 .left))
+    (met .place-of .result) (met .place-of .ensures) _ (c .before .before .before .before .place .given .1) (c .if3 .left)
 
 -- src/lib.rt:40:1
 returns-5 : tie.Need-returns-5
-returns-5 c = let a = c .before .before .before .before .before .before .before .before .before .before .args in is-nowhere (now (a .stations)) (now (a .carts)) (a .station .0) (a .cart .0) (omega (arith, c .before .before .before .before .before .before .before .station-count .ensures, c .before .before .before .before .before .if1 .left)) (omega (arith, c .before .before .before .before .cart-count .ensures, c .before .before .if2 .left)) (c .before .place-of .result) (c .before .place-of .ensures) (c .match .keys2)
+returns-5 c =
+    let met = c .before .before in
+    let cart = met .before in
+    let station = cart .before .before .before in
+    let a = c .before .before .before .before .before .before .before .before .before .before .before .args in
+    is-leaving (now (a .stations)) (now (a .carts)) (a .station .0) (a .cart .0)
+    (omega (arith, station .before .before .station-count .ensures, station .if1 .left)) (omega (arith, cart .before .before .cart-count .ensures, cart .if2 .left))
+    (met .place-of .result) (met .place-of .ensures) (c .before .match .keys2)
+
+-- src/lib.rt:40:1
+returns-6 : tie.Need-returns-6
+returns-6 c =
+    let met = c .before in
+    let cart = met .before in
+    let station = cart .before .before .before in
+    let a = c .before .before .before .before .before .before .before .before .before .before .args in
+    is-away (now (a .stations)) (now (a .carts)) (a .station .0) (a .cart .0)
+    (omega (arith, station .before .before .station-count .ensures, station .if1 .left)) (omega (arith, cart .before .before .cart-count .ensures, cart .if2 .left))
+    (met .place-of .result) (met .place-of .ensures) (c .match .keys3)
 
 pub not-here-spec : {M : Type 1} → statement M
 not-here-spec =
@@ -57,6 +93,8 @@ not-here-spec =
     returns-2
     place-of-requires
     enum-known-place
+    enum-told
     returns-3
     returns-4
-    returns-5)
+    returns-5
+    returns-6)

@@ -6,111 +6,84 @@ use borrow.Author.Needs.{needs}
 use Rattle.wiring.proofs.handle.Statement.{statement}
 use Rattle.wiring.proofs.handle.Tie as tie
 
--- src/lib.rt:56:9
 kind-of-requires : tie.Need-kind-of-requires
 kind-of-requires c κs = search needs
 
--- src/lib.rt:57:32
 number-of-requires : tie.Need-number-of-requires
 number-of-requires c κs = search needs
 
--- src/lib.rt:58:27
 index-of-requires : tie.Need-index-of-requires
 index-of-requires c κs = search needs
 
--- src/lib.rt:61:17
 on-multicast-requires : tie.Need-on-multicast-requires
 on-multicast-requires c κs = let a = c .before .before .before .before .before .before .before .before .before .before .before .args in let p = c .before .before .before .before .before .before .before .before .before .before .before .pre in multicast-asks (now (a .stations)) (now (a .carts)) (now (a .messages)) (p .lines) (now (a .lines)) (p .texts) (a .from .0) (a .to .0) (a .said) (p .taken) (sym (c .before .before .before .before .before .before .kind-of .ensures) ∙ c .before .before .before .match .keys1)
 
--- src/lib.rt:65:17
 station-count-requires : tie.Need-station-count-requires
 station-count-requires c κs = let a = c .before .before .before .before .before .before .before .before .before .args in let p = c .before .before .before .before .before .before .before .before .before .pre in has-head (now (a .stations)) (now (a .carts)) (now (a .messages)) (p .lines) (now (a .lines)) (p .texts) (a .from .0) (a .to .0) (a .said) (p .taken)
 
--- src/lib.rt:66:17
 on-ack-list-requires : tie.Need-on-ack-list-requires
 on-ack-list-requires c κs = let a = c .before .before .before .before .before .before .before .before .before .before .before .before .args in let p = c .before .before .before .before .before .before .before .before .before .before .before .before .pre in ack-list-asks (now (a .stations)) (now (a .carts)) (now (a .messages)) (p .lines) (now (a .lines)) (p .texts) (a .from .0) (a .to .0) (a .said) (p .taken) (sym (c .before .before .before .before .before .before .before .kind-of .ensures) ∙ c .before .before .before .before .match .keys2) _ (c .before .before .station-count .ensures)
 
--- src/lib.rt:70:13
 on-delete-requires : tie.Need-on-delete-requires
 on-delete-requires c κs = let a = c .before .before .before .before .before .before .before .before .before .args in let p = c .before .before .before .before .before .before .before .before .before .pre in delete-asks (now (a .stations)) (now (a .carts)) (now (a .messages)) (p .lines) (now (a .lines)) (p .texts) (a .from .0) (a .to .0) (a .said) (p .taken) (sym (c .before .before .before .before .kind-of .ensures) ∙ c .before .match .keys3)
 
--- src/lib.rt:74:13
 on-deregister-requires : tie.Need-on-deregister-requires
 on-deregister-requires c κs = let a = c .before .before .before .before .before .before .before .before .before .before .before .args in let p = c .before .before .before .before .before .before .before .before .before .before .before .pre in deregister-asks (now (a .stations)) (now (a .carts)) (now (a .messages)) (p .lines) (now (a .lines)) (p .texts) (a .from .0) (a .to .0) (a .said) (p .taken) _ (c .before .before .before .before .index-of .ensures) (sym (c .before .before .before .before .before .before .kind-of .ensures) ∙ c .before .before .before .match .keys4)
 
--- src/lib.rt:78:17
 on-register-requires : tie.Need-on-register-requires
 on-register-requires c κs = let a = c .before .before .before .before .before .before .before .before .before .before .before .args in let p = c .before .before .before .before .before .before .before .before .before .before .before .pre in register-asks (now (a .stations)) (now (a .carts)) (now (a .messages)) (p .lines) (now (a .lines)) (p .texts) (a .from .0) (a .to .0) (a .said) (p .taken) _ (c .before .before .before .before .index-of .ensures) (λ z. c .before .before .before .match .rest .0 .0 .0 .1 (c .before .before .before .before .before .before .kind-of .ensures ∙ z)) (λ z. c .before .before .before .match .rest .0 .0 .1 (c .before .before .before .before .before .before .kind-of .ensures ∙ z)) (λ z. c .before .before .before .match .rest .0 .1 (c .before .before .before .before .before .before .kind-of .ensures ∙ z)) (λ z. c .before .before .before .match .rest .1 (c .before .before .before .before .before .before .kind-of .ensures ∙ z))
 
--- src/lib.rt:44:1
 same-length : tie.Need-same-length
 same-length c = search needs
 
--- src/lib.rt:44:1
 same-length-2 : tie.Need-same-length-2
 same-length-2 c = search needs
 
--- src/lib.rt:44:1
 same-length-3 : tie.Need-same-length-3
 same-length-3 c = search needs
 
--- src/lib.rt:44:1
 returns : tie.Need-returns
 returns c = let a = c .before .before .before .before .before .before .before .before .before .before .before .before .before .before .before .before .args in λ W T off. meets-multicast (now (a .stations)) (now (a .carts)) (now (a .messages)) W (now (a .lines)) T (a .from .0) (a .to .0) (a .said) off (sym (c .before .before .before .before .before .before .before .before .before .before .before .kind-of .ensures) ∙ c .before .before .before .before .before .before .before .before .match .keys1) _ _ _ _ (c .before .before .before .before .before .before .before .before .before .before .number-of .ensures) (c .before .before .before .before .on-multicast .ensures)
 
--- src/lib.rt:44:1
 same-length-4 : tie.Need-same-length-4
 same-length-4 c = search needs
 
--- src/lib.rt:44:1
 same-length-5 : tie.Need-same-length-5
 same-length-5 c = search needs
 
--- src/lib.rt:44:1
 same-length-6 : tie.Need-same-length-6
 same-length-6 c = search needs
 
--- src/lib.rt:44:1
 returns-2 : tie.Need-returns-2
 returns-2 c = let a = c .before .before .before .before .before .before .before .before .before .before .before .before .before .before .before .before .before .args in λ W T off. meets-ack-list (now (a .stations)) (now (a .carts)) (now (a .messages)) W (now (a .lines)) T (a .from .0) (a .to .0) (a .said) off (sym (c .before .before .before .before .before .before .before .before .before .before .before .before .kind-of .ensures) ∙ c .before .before .before .before .before .before .before .before .before .match .keys2) _ _ _ _ _ (c .before .before .before .before .before .before .before .before .before .before .before .number-of .ensures) (c .before .before .before .before .before .before .before .station-count .ensures) (c .before .before .before .before .on-ack-list .ensures)
 
--- src/lib.rt:44:1
 same-length-7 : tie.Need-same-length-7
 same-length-7 c = search needs
 
--- src/lib.rt:44:1
 returns-3 : tie.Need-returns-3
 returns-3 c = let a = c .before .before .before .before .before .before .before .before .before .before .before .before .args in λ W T off. meets-delete (now (a .stations)) (now (a .carts)) (now (a .messages)) W (now (a .lines)) T (a .from .0) (a .to .0) (a .said) off (sym (c .before .before .before .before .before .before .before .kind-of .ensures) ∙ c .before .before .before .before .match .keys3) _ _ (c .before .before .before .before .before .before .number-of .ensures) (c .before .before .on-delete .ensures)
 
--- src/lib.rt:44:1
 same-length-8 : tie.Need-same-length-8
 same-length-8 c = search needs
 
--- src/lib.rt:44:1
 same-length-9 : tie.Need-same-length-9
 same-length-9 c = search needs
 
--- src/lib.rt:44:1
 same-length-10 : tie.Need-same-length-10
 same-length-10 c = search needs
 
--- src/lib.rt:44:1
 returns-4 : tie.Need-returns-4
 returns-4 c = let a = c .before .before .before .before .before .before .before .before .before .before .before .before .before .before .before .before .before .before .args in λ W T off. meets-deregister (now (a .stations)) (now (a .carts)) (now (a .messages)) W (now (a .lines)) T (a .from .0) (a .to .0) (a .said) off _ (c .before .before .before .before .before .before .before .before .before .before .before .index-of .ensures) (sym (c .before .before .before .before .before .before .before .before .before .before .before .before .before .kind-of .ensures) ∙ c .before .before .before .before .before .before .before .before .before .before .match .keys4) _ _ _ (c .before .before .before .before .before .before .on-deregister .ensures)
 
--- src/lib.rt:44:1
 same-length-11 : tie.Need-same-length-11
 same-length-11 c = search needs
 
--- src/lib.rt:44:1
 same-length-12 : tie.Need-same-length-12
 same-length-12 c = search needs
 
--- src/lib.rt:44:1
 same-length-13 : tie.Need-same-length-13
 same-length-13 c = search needs
 
--- src/lib.rt:44:1
 returns-5 : tie.Need-returns-5
 returns-5 c = let a = c .before .before .before .before .before .before .before .before .before .before .before .before .before .before .before .before .args in λ W T off. meets-register (now (a .stations)) (now (a .carts)) (now (a .messages)) W (now (a .lines)) T (a .from .0) (a .to .0) (a .said) off _ (c .before .before .before .before .before .before .before .before .before .index-of .ensures) (λ z. c .before .before .before .before .before .before .before .before .match .rest .0 .0 .0 .1 (c .before .before .before .before .before .before .before .before .before .before .before .kind-of .ensures ∙ z)) (λ z. c .before .before .before .before .before .before .before .before .match .rest .0 .0 .1 (c .before .before .before .before .before .before .before .before .before .before .before .kind-of .ensures ∙ z)) (λ z. c .before .before .before .before .before .before .before .before .match .rest .0 .1 (c .before .before .before .before .before .before .before .before .before .before .before .kind-of .ensures ∙ z)) (λ z. c .before .before .before .before .before .before .before .before .match .rest .1 (c .before .before .before .before .before .before .before .before .before .before .before .kind-of .ensures ∙ z)) _ _ _ (c .before .before .before .before .on-register .ensures)
 

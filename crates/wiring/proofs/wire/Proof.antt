@@ -9,51 +9,39 @@ use borrow.Author.Needs.{needs}
 use Rattle.wiring.proofs.wire.Statement.{statement}
 use Rattle.wiring.proofs.wire.Tie as tie
 
--- src/lib.rt:97:9
 wire-refusal-requires : tie.Need-wire-refusal-requires
 wire-refusal-requires c κs = let a = c .before .before .before .before .before .before .before .args in checks-asks (now (a .stations)) (now (a .carts)) (now (a .messages)) (now (a .lines)) (now (a .texts)) (a .from .0) (a .to .0) (c .before .before .before .before .before .before .before .pre)
 
--- src/lib.rt:99:9
 same-length : tie.Need-same-length
 same-length c = search needs
 
--- src/lib.rt:99:9
 same-length-2 : tie.Need-same-length-2
 same-length-2 c = search needs
 
--- src/lib.rt:99:9
 returns : tie.Need-returns
 returns c = let a = c .before .before .before .before .before .before .before .before .before .args in meets-no (lent (now (a .stations)) (now (a .carts)) (now (a .messages)) (now (a .lines)) (now (a .texts))) (wire (a .from .0) (a .to .0)) _ (c .before .before .before .before .before .before .before .before .before .pre) (c .before .wire-refusal .ensures (now (a .carts)) (now (a .messages)) (now (a .texts))) (c .if1 .taken)
 
--- src/lib.rt:103:9
 front-requires : tie.Need-front-requires
 front-requires c κs = let a = c .before .before .before .before .before .before .before .before .before .before .args in head-asks (now (a .stations)) (now (a .carts)) (now (a .messages)) (now (a .lines)) (now (a .texts)) (a .from .0) (a .to .0) (c .before .before .before .before .before .before .before .before .before .before .pre) (sym (c .before .if1 .left) ∙ c .before .before .wire-refusal .ensures (now (a .carts)) (now (a .messages)) (now (a .texts)))
 
--- src/lib.rt:104:5
 pop-front-requires : tie.Need-pop-front-requires
 pop-front-requires c κs = let a = c .before .before .before .before .before .before .before .before .before .before .before .before .args in head-asks (now (a .stations)) (now (a .carts)) (now (a .messages)) (now (a .lines)) (now (a .texts)) (a .from .0) (a .to .0) (c .before .before .before .before .before .before .before .before .before .before .before .before .pre) (sym (c .before .before .before .if1 .left) ∙ c .before .before .before .before .wire-refusal .ensures (now (a .carts)) (now (a .messages)) (now (a .texts)))
 
--- src/lib.rt:105:5
 handle-requires : tie.Need-handle-requires
 handle-requires c κs = let a = c .before .before .before .before .before .before .before .before .before .before .before .before .before .before .before .before .before .before .before .args in is-off (now (a .stations)) (now (a .carts)) (now (a .messages)) (now (a .lines)) (now (a .texts)) (a .from .0) (a .to .0) (c .before .before .before .before .before .before .before .before .before .before .before .before .before .before .before .before .before .before .before .pre) (sym (c .before .before .before .before .before .before .before .before .before .before .if1 .left) ∙ c .before .before .before .before .before .before .before .before .before .before .before .wire-refusal .ensures (now (a .carts)) (now (a .messages)) (now (a .texts))) _ _ (c .before .before .before .before .before .before .before .before .front .ensures) (c .before .before .before .before .before .before .pop-front .ensures)
 
--- src/lib.rt:85:1
 same-length-3 : tie.Need-same-length-3
 same-length-3 c = search needs
 
--- src/lib.rt:85:1
 same-length-4 : tie.Need-same-length-4
 same-length-4 c = search needs
 
--- src/lib.rt:85:1
 same-length-5 : tie.Need-same-length-5
 same-length-5 c = search needs
 
--- src/lib.rt:85:1
 same-length-6 : tie.Need-same-length-6
 same-length-6 c = search needs
 
--- src/lib.rt:85:1
 returns-2 : tie.Need-returns-2
 returns-2 c = let a = c .before .before .before .before .before .before .before .before .before .before .before .before .before .before .before .before .before .before .before .before .before .before .before .before .before .before .before .before .args in c .before .before .before .before .before .before .before .before .handle .ensures (now (a .lines)) (now (a .texts)) (taken-off (now (a .stations)) (now (a .carts)) (now (a .messages)) (now (a .lines)) (now (a .texts)) (a .from .0) (a .to .0) (c .before .before .before .before .before .before .before .before .before .before .before .before .before .before .before .before .before .before .before .before .before .before .before .before .before .before .before .before .pre) (sym (c .before .before .before .before .before .before .before .before .before .before .before .before .before .before .before .before .before .before .before .if1 .left) ∙ c .before .before .before .before .before .before .before .before .before .before .before .before .before .before .before .before .before .before .before .before .wire-refusal .ensures (now (a .carts)) (now (a .messages)) (now (a .texts))) _ _ (c .before .before .before .before .before .before .before .before .before .before .before .before .before .before .before .before .before .front .ensures) (c .before .before .before .before .before .before .before .before .before .before .before .before .before .before .before .pop-front .ensures))
 
