@@ -4,7 +4,7 @@ use crate::numbers::Numbers;
 use plain::{CartNo, Floor, StationNo};
 
 const CARTS: u8 = 64;
-const HELD: usize = 32;
+const HELD: u8 = 32;
 
 fn started(stations: u8, carts: u8) -> Floor {
     let mut floor = Floor::new();
@@ -38,15 +38,15 @@ fn some_text(numbers: &mut Numbers) -> Vec<u8> {
     (0..numbers.below(33)).map(|_| numbers.next() as u8).collect()
 }
 
-/// Full size with few records: all messages are buffered everywhere, some carts have theirs, and the last hand-overs and moves are on the
-/// lines.
-pub fn few() -> Floor {
+/// Full size with few records, and with so many held messages: all are buffered everywhere, some carts have theirs, and the last hand-overs
+/// and moves are on the lines.
+pub fn few(held: u8) -> Floor {
     let mut numbers = Numbers(0x5eed);
     let mut floor = started(16, CARTS);
     for c in 0..CARTS {
         floor.enter(StationNo(c % 16), CartNo(c)).expect("it has not entered");
     }
-    for m in 0..HELD as u8 {
+    for m in 0..held {
         let set = numbers.next() | 1 << (m + 7);
         floor.send(StationNo(m % 16), set, &some_text(&mut numbers)).expect("there is room");
     }
@@ -83,7 +83,7 @@ pub fn many() -> Floor {
     for c in 0..CARTS {
         floor.enter(StationNo(GATE), CartNo(c)).expect("it has not entered");
     }
-    for m in 0..HELD as u8 {
+    for m in 0..HELD {
         floor.send(StationNo(m % 8), u64::MAX, &some_text(&mut numbers)).expect("there is room");
     }
     for from in 0..8 {
@@ -111,8 +111,7 @@ pub fn random(seed: u64) -> Floor {
     let (n, k) = (1 + numbers.below(16), 1 + numbers.below(64));
     let mut floor = started(n as u8, k as u8);
     for _ in 0..500 + 100 * numbers.below(60) {
-        let (s, t) =
-            (StationNo(numbers.below(n) as u8), StationNo(numbers.below(n) as u8));
+        let (s, t) = (StationNo(numbers.below(n) as u8), StationNo(numbers.below(n) as u8));
         let cart = CartNo(numbers.below(k) as u8);
         // A refused event is none.
         let _ = match numbers.below(12) {

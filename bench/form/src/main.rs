@@ -1,6 +1,7 @@
 //! The proved form test beside the same rule in plain Rust: their answers on floors that events reach and on damaged ones, where a difference
 //! ends the program with 1; then their times on full-size floors, in turns in one run.
 
+mod damage;
 mod floors;
 mod numbers;
 mod proved;
@@ -13,7 +14,7 @@ use std::hint::black_box;
 use std::process::ExitCode;
 use std::time::Instant;
 
-const ROUNDS: usize = 200;
+const ROUNDS: usize = 500;
 const CALLS: usize = 50;
 
 type Test = fn(&[u64], &[u64], &[u64], &[u64], &[u8]) -> bool;
@@ -29,63 +30,6 @@ fn in_order(k: usize) -> usize {
 
 fn scattered(k: usize) -> usize {
     k * 1_237 % ROWS
-}
-
-/// Another value for a word: any, a small one, one beside it, one bit of it, or another word's.
-fn other_value(numbers: &mut Numbers, words: &[u64], at: usize) -> u64 {
-    let old = words[at];
-    match numbers.below(6) {
-        0 => numbers.next(),
-        1 => numbers.below(70),
-        2 => old.wrapping_add(1),
-        3 => old.wrapping_sub(1),
-        4 => old ^ 1 << numbers.below(64),
-        _ => words[numbers.below(words.len() as u64) as usize],
-    }
-}
-
-/// A word of the lines that some record uses, more often than not.
-fn line_word(numbers: &mut Numbers, lines: &[u64]) -> usize {
-    let used: Vec<usize> = (0..ROWS).filter(|r| lines[r / 64] >> (r % 64) & 1 == 0).collect();
-    match numbers.below(4) {
-        0 => numbers.below(50) as usize,
-        1 => 50 + numbers.below(768) as usize,
-        2 if !used.is_empty() => {
-            818 + 3 * used[numbers.below(used.len() as u64) as usize] + numbers.below(3) as usize
-        }
-        _ => numbers.below(lines.len() as u64) as usize,
-    }
-}
-
-/// Changes a word or two; now and then a length.
-fn damage(numbers: &mut Numbers, w: &mut Words) {
-    for _ in 0..1 + numbers.below(8) / 7 {
-        let part = numbers.below(40);
-        if part == 0 {
-            w.texts.pop();
-            continue;
-        }
-        if part == 1 {
-            w.lines.push(0);
-            continue;
-        }
-        let words = match part % 4 {
-            0 => &mut w.stations,
-            1 => &mut w.carts,
-            2 => &mut w.messages,
-            _ => {
-                let at = line_word(numbers, &w.lines);
-                w.lines[at] = other_value(numbers, &w.lines, at);
-                continue;
-            }
-        };
-        if part == 2 {
-            words.pop();
-            continue;
-        }
-        let at = numbers.below(words.len() as u64) as usize;
-        words[at] = other_value(numbers, words, at);
-    }
 }
 
 /// Both answers on a floor; the clause that it breaks, if any.
@@ -108,7 +52,7 @@ fn compare_all(bases: &[Words], damaged: usize) -> Result<(), String> {
         }
         for d in 0..damaged {
             let mut w = base.clone();
-            damage(&mut numbers, &mut w);
+            damage::damage(&mut numbers, &mut w);
             match compare(&w, &format!("floor {b}, damage {d}"))? {
                 Some(fault) => *broken.entry(fault).or_insert(0) += 1,
                 None => passed += 1,
@@ -142,7 +86,7 @@ fn measure(name: &str, w: &Words) {
         least.1 = run(rule::passes).min(least.1);
     }
     println!(
-        "{name:<34} proved {:7.2} us   plain {:7.2} us   speed proved/plain {:.2}",
+        "{name:<36} proved {:7.2} us   plain {:7.2} us   speed proved/plain {:.2}",
         least.0 / 1e3,
         least.1 / 1e3,
         least.1 / least.0
@@ -150,18 +94,18 @@ fn measure(name: &str, w: &Words) {
 }
 
 fn main() -> ExitCode {
-    let (few, many) = (floors::few(), floors::many());
-    let mut bases = vec![few.words(scattered), many.words(in_order)];
+    let (usual, few, many) = (floors::few(8), floors::few(32), floors::many());
+    let mut bases = vec![usual.words(scattered), few.words(scattered), many.words(in_order)];
     bases.extend((0..60).map(|seed| floors::random(seed).words(scattered)));
     if let Err(difference) = compare_all(&bases, 500) {
         eprintln!("{difference}");
         return ExitCode::FAILURE;
     }
-    for (floor, name) in [(&few, "few"), (&many, "many")] {
-        let size = floors::records(floor);
-        assert!(floor.held() == 32 && floor.stations() == 16 && floor.carts() == 64);
-        measure(&format!("{size} records ({name}), in order"), &floor.words(in_order));
-        measure(&format!("{size} records ({name}), scattered"), &floor.words(scattered));
+    println!("16 stations, 64 carts:");
+    for floor in [&usual, &few, &many] {
+        let name = format!("{} held, {} records", floor.held(), floors::records(floor));
+        measure(&format!("{name}, rows in order"), &floor.words(in_order));
+        measure(&format!("{name}, rows apart"), &floor.words(scattered));
     }
     ExitCode::SUCCESS
 }

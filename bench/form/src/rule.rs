@@ -1,5 +1,6 @@
 //! The form rule in plain Rust: the written yes-or-no test of `crates/protocol/specs/Form.antt` over the words that
 //! docs/ARCHITECTURE.md lays out under "The lent parts", as one would write it by hand, with masks.
+//! It leans on nothing else here, so another program may include this file.
 
 const STATIONS: usize = 16;
 const CARTS: usize = 64;
@@ -330,10 +331,7 @@ impl Floor<'_> {
         ensure(kind != 0 && kind < 6 && index < ROOMS, RecordRoom)?;
         let room = &mut self.rooms[index & 31];
         let from = if kind == 2 { j } else { i };
-        ensure(
-            room.waiting != 0 && room.initiator == from && room.number == number,
-            RecordRoom,
-        )?;
+        ensure(room.waiting != 0 && room.initiator == from && room.number == number, RecordRoom)?;
         match kind {
             1 => {
                 ensure(room.waiting >> j & 1 == 1, Multicast)?;

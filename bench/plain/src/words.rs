@@ -35,11 +35,7 @@ impl Floor {
 
     fn station_words(&self) -> Vec<u64> {
         let mut words = vec![0; 114 * (1 + STATIONS)];
-        words[..3].copy_from_slice(&[
-            self.started as u64,
-            self.stations as u64,
-            self.carts as u64,
-        ]);
+        words[..3].copy_from_slice(&[self.started as u64, self.stations as u64, self.carts as u64]);
         for (row, station) in words.chunks_exact_mut(114).skip(1).zip(&self.station) {
             row[0] = station.sent as u64;
             row[17] = station.local;

@@ -2,19 +2,19 @@
 use mathlib.Core.Path.{_≡_, refl, sym, ap, ap₂, _∙_, fun-ext}
 use mathlib.Core.Bool.{Bool, true, false, cond, not, _&&_, _||_}
 use mathlib.Core.Option.{none, some}
-use Prim.Native.Nat.{ℕ, zero, suc, _+_, _-_, _*_, _/_, _%_, _^_, _≤_, _<_}
+use Prim.Native.Nat.{ℕ, zero, suc, _+_, _-_, _*_, _/_, _%_, _^_, _≤_, _<_, min}
 use native.Mathlib.Nat.{mod-lt, zero-lt-suc, pow-suc, div-one, lt-of-lt-of-le, one-mul, mod-eq-of-lt}
 use native.Mathlib.Omega.{arith}
 use lib.Dec.{eqb}
 use lib.Arith.{lt-one}
 use lib.Pow.{shr-shr, pow-pos, pow-mono, pow-lt}
-use lib.Bits.{or-add-and, and-le-r}
+use lib.Bits.{bitAnd, and-step, and-shr, or-add-and, and-le-l, and-le-r}
 use lib.Count.{ones, ones-step, trailingZeros}
-use borrow.Author.Tests.{eq-eqb, eqb-true}
+use borrow.Author.Tests.{eq-eqb, eqb-true, ne-eqb}
 use Rattle.protocol.specs.Folds.{every, first, count}
 use Rattle.protocol.specs.CartSets.{digit, has, union, minus, without, setOf}
 use Rattle.protocol.proofs.Tests.{by-test, by-lt, by-option, clash, and-false, same-test, eqb-self, every-at, every-all, first-some}
-use Rattle.protocol.proofs.SetLaws.{has-zero, has-union, has-minus, has-power, has-without, union-lt, minus-lt, without-lt, member-below, same-members, zero-below}
+use Rattle.protocol.proofs.SetLaws.{digit-lt, op-digit, by-digits, min-small, has-zero, has-union, has-minus, has-power, has-without, union-lt, minus-lt, without-lt, member-below, same-members, zero-below}
 use Rattle.cartset.specs.Masks.{within, disjoint, least, size}
 
 -- WITHIN, AND DISJOINT
@@ -209,6 +209,75 @@ without-less n x c h e =
         has-union (without x c) (2 ^ c) d
         ∙ ap₂ _||_ (has-without x c d) (has-power c d)
         ∙ rejoined (has x d) (eqb c d) (λ q. ap (has x) (sym (eqb-true c d q)) ∙ e)
+
+-- ONE LESS THAN A SET: the digits above the lowest are the same, and the lowest is gone
+none-low : (x : ℕ) → x % 2 ≡ 0 → has x 0 ≡ false
+none-low x h =
+    by-test (has x 0)
+    (λ e. absurd (let z : x % 2 ≡ 1 = low-digit x ∙ ap (λ (b : Bool). cond b 1 0) e in omega arith))
+    (λ e. e)
+
+record OneLess (t x : ℕ) : Type 0 where
+  pub gone : has (x - 1) t ≡ false
+  pub same : (d : ℕ) → t < d → has (x - 1) d ≡ has x d
+
+-- an odd number
+less-odd : (x : ℕ) → has x 0 ≡ true → OneLess 0 x
+less-odd x e = record { gone = none-low (x - 1) (let z = odd in omega arith); same = same }
+  where
+    odd : x % 2 ≡ 1
+    odd = low-digit x ∙ ap (λ (b : Bool). cond b 1 0) e
+
+    half : (x - 1) / 2 ≡ x / 2
+    half = let z = odd in omega arith
+
+    same : (d : ℕ) → 0 < d → has (x - 1) d ≡ has x d
+    same zero l = absurd (omega arith)
+    same (suc d) l = sym (has-half (x - 1) d) ∙ ap (λ (y : ℕ). has y d) half ∙ has-half x d
+
+-- an even one, by its half
+less-even : (t x : ℕ) → 0 < x → x % 2 ≡ 0 → OneLess t (x / 2) → OneLess (suc t) x
+less-even t x pos even r = record { gone = sym (has-half (x - 1) t) ∙ ap (λ (y : ℕ). has y t) half ∙ r .gone; same = same }
+  where
+    half : (x - 1) / 2 ≡ x / 2 - 1
+    half = omega arith
+
+    same : (d : ℕ) → suc t < d → has (x - 1) d ≡ has x d
+    same zero l = absurd (omega arith)
+    same (suc d) l = sym (has-half (x - 1) d) ∙ ap (λ (y : ℕ). has y d) half ∙ r .same d (omega arith) ∙ has-half x d
+
+one-less : (t x : ℕ) → 0 < x → has x t ≡ true → ((c : ℕ) → c < t → has x c ≡ false) → OneLess t x
+one-less zero x pos e b = less-odd x e
+one-less (suc t) x pos e b =
+    let even : x % 2 ≡ 0 = low-digit x ∙ ap (λ (b : Bool). cond b 1 0) (b 0 (omega arith)) in
+    less-even t x pos even (one-less t (x / 2) (omega arith) (has-half x t ∙ e) (λ c l. has-half x c ∙ b (suc c) (omega arith)))
+
+has-and : (x y c : ℕ) → has (bitAnd x y) c ≡ (has x c && has y c)
+unfolding has
+has-and x y c =
+    ap (λ (d : ℕ). eqb d 1) (op-digit bitAnd min and-step and-shr min-small x y c)
+    ∙ by-digits (λ a b. eqb (min a b) 1 ≡ (eqb a 1 && eqb b 1)) refl refl refl refl (digit x c) (digit y c) (digit-lt x c) (digit-lt y c)
+
+-- what a set has in common with one less is all but its least
+pub drop-lowest : (n x t : ℕ) → x < 2 ^ n → 0 < x → Lowest n x t → bitAnd x (x - 1) ≡ without x t
+drop-lowest n x t h pos W =
+    same-members n (bitAnd x (x - 1)) (without x t) (let z = and-le-l x (x - 1) in omega arith) (without-lt n x t h)
+    (λ c l. has-and x (x - 1) c ∙ each c ∙ sym (has-without x t c))
+  where
+    less : OneLess t x
+    less = one-less t x pos (W .member) (W .before)
+
+    twice : (a b e : Bool) → b ≡ a → e ≡ false → (a && b) ≡ (a && not e)
+    twice true b e p q = rw (p, q) refl
+    twice false b e p q = refl
+
+    each : (c : ℕ) → (has x c && has (x - 1) c) ≡ (has x c && not (eqb t c))
+    each c =
+        by-lt c t
+        (λ l. rw (W .before c l) refl)
+        (λ l. by-lt t c
+        (λ g. twice (has x c) (has (x - 1) c) (eqb t c) (less .same c g) (ne-eqb t c (λ q. let z : _≡_ {A = ℕ} t c = q in omega arith)))
+        (λ g. let q : t ≡ c = omega arith in rw (← q, less .gone, eqb-self t) refl))
 
 -- SHIFTS
 

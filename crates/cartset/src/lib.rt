@@ -2,7 +2,7 @@
 ghost use mathlib.Core.Path.{_≡_};
 ghost use mathlib.Core.Bool.{true};
 ghost use mathlib.Core.Option.{some};
-ghost use Prim.Native.Nat.{_<_, _≤_};
+ghost use Prim.Native.Nat.{ℕ, _<_, _≤_};
 ghost use Rattle.protocol.specs.CartSets.{has, union, minus, with, without, setOf};
 ghost use Rattle.cartset.specs.Masks.{within, disjoint, least, size};
 
@@ -64,6 +64,14 @@ pub fn first(set: u64) -> u64
     ensures { λ r. ⌜ least 64 set ≡ some r ⌝ }
 {
     u64::trailing_zeros(set) as u64
+}
+
+// The set but for its least one, in one step, so that a walk over a set need not wait for the name of each.
+pub fn without_first(set: u64) -> u64
+    requires { ⌜ 0 < set ⌝ }
+    ensures { λ r. ⌜ ((c : ℕ) → least 64 set ≡ some c → r ≡ without set c) ⌝ }
+{
+    set & (set - 1)
 }
 
 // How many are in the set.

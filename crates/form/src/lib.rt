@@ -434,7 +434,7 @@ fn all_next(carts: &[u64], set: u64, s: u64, n: u64) -> bool
         if next_by(carts, CartNumber(number), s) != n {
             return false;
         }
-        rest = cartset::without_cart(rest, number);
+        rest = cartset::without_first(rest);
     }
     true
 }
@@ -532,7 +532,7 @@ fn none_below(set: u64, k: u64) -> bool
 }
 
 // Of the first k, every cart in the set has received message n of s: its next number is above. They are walked from the least on.
-fn all_past(carts: &[u64], set: u64, k: u64, s: u64, n: u64) -> bool
+pub fn all_past(carts: &[u64], set: u64, k: u64, s: u64, n: u64) -> bool
     requires { ⌜ length (now carts) ≡ 1216 ⌝ }
     ensures { λ r. ⌜ r ≡ test (all k (λ c. when (is (has set c)) (lt n (cartsIn (now (carts .entry)) .next c s)))) ⌝ }
 {
@@ -545,7 +545,7 @@ fn all_past(carts: &[u64], set: u64, k: u64, s: u64, n: u64) -> bool
         if next_by(carts, CartNumber(number), s) <= n {
             return false;
         }
-        rest = cartset::without_cart(rest, number);
+        rest = cartset::without_first(rest);
     }
     true
 }

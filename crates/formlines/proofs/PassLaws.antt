@@ -5,10 +5,11 @@ use mathlib.Core.List.{List}
 use Prim.Native.Nat.{ℕ, _+_, _≤_, _<_}
 use native.Mathlib.Numerals.{add-one}
 use lib.Dec.{eqb, leb, ltb}
-use borrow.Author.Tests.{leb-true, le-leb, lt-leb, le-ltb, ltb-false, not-true}
+use borrow.Author.Tests.{ne-eqb, leb-true, le-leb, lt-leb, le-ltb, ltb-false, not-true}
 use Rattle.protocol.specs.Folds.{every, listOf}
-use Rattle.protocol.specs.CartSets.{union, with, setOf}
+use Rattle.protocol.specs.CartSets.{has, union, with, setOf}
 use Rattle.protocol.specs.Floor.{Carts}
+use Rattle.protocol.specs.Claims.{test, all, when, is, lt}
 use Rattle.protocol.proofs.Tests.{and-false, same-test}
 use Rattle.protocol.proofs.SetLaws.{setOf-suc}
 use Rattle.stations.specs.View.{Stations, stationsIn, headIn}
@@ -17,7 +18,7 @@ use Rattle.messages.specs.View.{Rooms, roomsIn}
 use Rattle.view.specs.View.{Lent}
 use Rattle.formlines.specs.declared.Way.{Way}
 use Rattle.formlines.specs.Said.{saidOn}
-use Rattle.formlines.specs.Pass.{Met, metSo, provided, along, onLine, fromStation, fromEach, gathered, apart, isTaken, begun, ended, movers, passes, linesPass}
+use Rattle.formlines.specs.Pass.{Met, metSo, provided, along, onLine, fromStation, fromEach, gathered, apart, isTaken, begun, passed, ended, movers, passes, linesPass}
 use Rattle.formlines.specs.Ways.{metOf}
 
 not-not : (b : Bool) → not (not b) ≡ b
@@ -103,3 +104,21 @@ module _ (L : Lent) (n : ℕ) (en : n ≡ headIn (L .stations) .stations) where
     pub lent-passes : (r : Bool) → n ≤ 16 → k ≤ 64 → r ≡ passes n k (stationsIn (L .stations)) (cartsIn (L .carts)) (roomsIn (L .messages)) (L .lines) → r ≡ linesPass L
     unfolding linesPass
     lent-passes r a b h = rw (← en, ← ek, le-leb n 16 a, le-leb k 64 b) h
+
+-- AFTER THE LINES, with an end at the first failure: room m is free
+pub ended-free : (R : Rooms) (m w : ℕ) (X : Bool) → w ≡ R .waiting m → w ≡ 0 → true ≡ (not (isTaken R m) || X)
+ended-free R m w X p z = rw (← p, z) refl
+
+-- it is not, and a cart acknowledged that is not named
+pub ended-stranger : (R : Rooms) (m w : ℕ) (b B A : Bool) → w ≡ R .waiting m → (w ≡ 0 → ⊥) → b ≡ B → b ≡ false → false ≡ (not (isTaken R m) || (B && A))
+ended-stranger R m w b B A p z e q = rw (← p, ne-eqb w 0 z, ← e, q) refl
+
+-- it is not, and all are named: it rests on their next numbers
+pub ended-named : (R : Rooms) (m w : ℕ) (b B r A : Bool) → w ≡ R .waiting m → (w ≡ 0 → ⊥) → b ≡ B → b ≡ true → r ≡ A → r ≡ (not (isTaken R m) || (B && A))
+ended-named R m w b B r A p z e q h = rw (← p, ne-eqb w 0 z, ← e, q) h
+
+-- the walk over those carts
+pub past-passed : (k : ℕ) (C : Carts) (R : Rooms) (m x s n : ℕ) (r : Bool) → s ≡ R .initiator m → n ≡ R .number m
+    → r ≡ test (all k (λ c. when (is (has x c)) (lt n (C .next c s)))) → r ≡ passed k C R m x
+unfolding passed test
+past-passed k C R m x s n r p q h = rw (← p, ← q) h

@@ -448,44 +448,20 @@ fn begin(masks: &mut [u64], stations: &[u64], messages: &[u64], n: u64) -> bool
 
 // ---- After the lines.
 
-// The cart's next number for an initiator; 0 beyond sixteen.
-fn next_number(carts: &[u64], cart: u64, initiator: u64) -> u64
-    requires { ⌜ (length (now carts) ≡ 1216) × (cart < 64) ⌝ }
-    ensures { λ r. ⌜ r ≡ cartsIn (now (carts .entry)) .next cart initiator ⌝ }
-{
-    if 16 <= initiator {
-        return 0;
-    }
-    carts::next_of(carts, CartNumber(cart), Station(initiator))
-}
-
-// The next number of whoever is in the set is above.
-fn is_above(carts: &[u64], k: u64, number: u64, initiator: u64, set: u64) -> bool
-    requires { ⌜ (length (now carts) ≡ 1216) × (k ≤ 64) ⌝ }
-    ensures { λ r. ⌜ r ≡ every k (λ x. not (has set x) || ltb number (cartsIn (now (carts .entry)) .next x initiator)) ⌝ }
-{
-    let mut ok = true;
-    let mut cart: u64 = 0;
-    while cart < k {
-        let met = cartset::has(set, cart);
-        let next = next_number(carts, cart, initiator);
-        ok = both(ok, either(!met, number < next));
-        cart += 1;
-    }
-    ok
-}
-
-// Whoever acknowledged the message in room m is named, and has passed it.
+// Whoever acknowledged the message in room m is named, and has passed it, if it is held.
 fn has_ended(messages: &[u64], carts: &[u64], k: u64, m: usize, set: u64) -> bool
     requires { ⌜ (length (now messages) ≡ 192) × (length (now carts) ≡ 1216) × (k ≤ 64) × (m < rooms) ⌝ }
     ensures { λ r. ⌜ r ≡ (not (isTaken (roomsIn (now (messages .entry))) m) || (within 64 set (roomsIn (now (messages .entry)) .named m) && passed k (cartsIn (now (carts .entry))) (roomsIn (now (messages .entry))) m set)) ⌝ }
 {
-    let waiting = messages::waiting_of(messages, m);
-    let named = messages::named_of(messages, m);
-    let number = messages::number_of(messages, m);
-    let initiator = messages::initiator_of(messages, m);
-    let above = is_above(carts, k, number.0, initiator.0, set);
-    either(waiting == 0, both(cartset::is_within(set, named), above))
+    if messages::waiting_of(messages, m) == 0 {
+        return true;
+    }
+    if !cartset::is_within(set, messages::named_of(messages, m)) {
+        return false;
+    }
+    let s = messages::initiator_of(messages, m);
+    let n = messages::number_of(messages, m);
+    form::all_past(carts, set, k, s.0, n.0)
 }
 
 // In every room.

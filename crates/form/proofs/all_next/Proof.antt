@@ -38,19 +38,15 @@ returns c =
     (walk-below 64 (a .set) P (l .rest) (least .result) (l .inv .1) (omega arith) (omega arith) (least .ensures))
     (λ h. c .if1 .taken (c .before .next-by .ensures ∙ h))
 
-without-cart-requires : tie.Need-without-cart-requires Inv-loop μ-loop
-without-cart-requires c κs =
-    let a = c .before .before .before .before .before .before .args in
-    let l = c .before .before .before .before .loop in
-    let least = c .before .before .first in
-    walk-below 64 (a .set) (nextIs (cartsIn (a .carts .now) .next) (a .s) (a .n)) (l .rest) (least .result) (l .inv .1) (omega arith) (omega arith) (least .ensures)
+without-first-requires : tie.Need-without-first-requires Inv-loop μ-loop
+without-first-requires c κs = omega arith
 
 loop-less : tie.Need-loop-less Inv-loop μ-loop
 loop-less c =
     let a = c .before .before .before .before .before .before .before .args in
     let l = c .before .before .before .before .before .loop in
     let least = c .before .before .before .first in
-    walk-less 64 (a .set) (nextIs (cartsIn (a .carts .now) .next) (a .s) (a .n)) (l .rest) (least .result) (l .inv .1) (omega arith) (omega arith) (least .ensures) (c .without-cart .result) (c .without-cart .ensures)
+    walk-less 64 (a .set) (nextIs (cartsIn (a .carts .now) .next) (a .s) (a .n)) (l .rest) (least .result) (l .inv .1) (omega arith) (omega arith) (least .ensures) (c .without-first .result) (c .without-first .ensures (least .result) (least .ensures))
 
 loop-again : tie.Need-loop-again Inv-loop μ-loop
 loop-again c =
@@ -58,7 +54,7 @@ loop-again c =
     let l = c .before .before .before .before .before .loop in
     let least = c .before .before .before .first in (
       omega arith,
-      walk-on 64 (a .set) (nextIs (cartsIn (a .carts .now) .next) (a .s) (a .n)) (l .rest) (least .result) (l .inv .1) (omega arith) (omega arith) (least .ensures) (c .without-cart .result) (c .without-cart .ensures)
+      walk-on 64 (a .set) (nextIs (cartsIn (a .carts .now) .next) (a .s) (a .n)) (l .rest) (least .result) (l .inv .1) (omega arith) (omega arith) (least .ensures) (c .without-first .result) (c .without-first .ensures (least .result) (least .ensures))
           (sym (c .before .before .next-by .ensures) ∙ c .before .if1 .left),
     )
 
@@ -78,7 +74,7 @@ all-next-spec =
     first-requires
     next-by-requires
     returns
-    without-cart-requires
+    without-first-requires
     loop-less
     loop-again
     returns-2)

@@ -41,26 +41,22 @@ returns-2 c =
     let least = c .before .before .before .first in
     walk-no (a .k) (a .set) (nextAbove (cartsIn (a .carts .now) .next) (a .s) (a .n)) (l .rest) (least .result) (l .inv .1) (omega arith) (omega arith) (least .ensures) (omega arith) (λ h. omega arith)
 
-without-cart-requires : tie.Need-without-cart-requires Inv-loop μ-loop
-without-cart-requires c κs =
-    let a = c .before .before .before .before .before .before .before .args in
-    let l = c .before .before .before .before .before .loop in
-    let least = c .before .before .before .first in
-    walk-below (a .k) (a .set) (nextAbove (cartsIn (a .carts .now) .next) (a .s) (a .n)) (l .rest) (least .result) (l .inv .1) (omega arith) (omega arith) (least .ensures)
+without-first-requires : tie.Need-without-first-requires Inv-loop μ-loop
+without-first-requires c κs = omega arith
 
 loop-less : tie.Need-loop-less Inv-loop μ-loop
 loop-less c =
     let a = c .before .before .before .before .before .before .before .before .args in
     let l = c .before .before .before .before .before .before .loop in
     let least = c .before .before .before .before .first in
-    walk-less (a .k) (a .set) (nextAbove (cartsIn (a .carts .now) .next) (a .s) (a .n)) (l .rest) (least .result) (l .inv .1) (omega arith) (omega arith) (least .ensures) (c .without-cart .result) (c .without-cart .ensures)
+    walk-less (a .k) (a .set) (nextAbove (cartsIn (a .carts .now) .next) (a .s) (a .n)) (l .rest) (least .result) (l .inv .1) (omega arith) (omega arith) (least .ensures) (c .without-first .result) (c .without-first .ensures (least .result) (least .ensures))
 
 loop-again : tie.Need-loop-again Inv-loop μ-loop
 loop-again c =
     let a = c .before .before .before .before .before .before .before .before .args in
     let l = c .before .before .before .before .before .before .loop in
     let least = c .before .before .before .before .first in
-    (omega arith, walk-on (a .k) (a .set) (nextAbove (cartsIn (a .carts .now) .next) (a .s) (a .n)) (l .rest) (least .result) (l .inv .1) (omega arith) (omega arith) (least .ensures) (c .without-cart .result) (c .without-cart .ensures) (omega arith))
+    (omega arith, walk-on (a .k) (a .set) (nextAbove (cartsIn (a .carts .now) .next) (a .s) (a .n)) (l .rest) (least .result) (l .inv .1) (omega arith) (omega arith) (least .ensures) (c .without-first .result) (c .without-first .ensures (least .result) (least .ensures)) (omega arith))
 
 returns-3 : tie.Need-returns-3 Inv-loop μ-loop
 returns-3 c =
@@ -79,7 +75,7 @@ all-past-spec =
     returns
     next-by-requires
     returns-2
-    without-cart-requires
+    without-first-requires
     loop-less
     loop-again
     returns-3)

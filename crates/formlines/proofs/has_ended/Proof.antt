@@ -1,58 +1,75 @@
--- `formlines::has_ended` meets its contract.
+-- `formlines::has_ended` meets its contract. A free room passes, a cart that is not named does not, and else the walk over the carts decides.
 use borrow.Author.Needs.{needs}
-use mathlib.Core.Path.{ap, ap₂, _∙_}
-use mathlib.Core.Bool.{Bool, _&&_, _||_, not}
+use borrow.Author.Tests.{not-true, not-false}
+use mathlib.Core.Path.{ap, _∙_}
+use mathlib.Core.Bool.{_&&_}
 use Prim.Native.Nat.{ℕ}
-use denote.Ref.{now}
-use lib.Dec.{ltb}
-use Rattle.protocol.specs.Folds.{every}
-use Rattle.protocol.specs.CartSets.{has}
 use Rattle.cartset.specs.Masks.{within}
 use Rattle.carts.specs.View.{cartsIn}
 use Rattle.messages.specs.View.{roomsIn}
 use Rattle.formlines.specs.Pass.{passed}
-use Rattle.formlines.proofs.PassLaws.{taken-test}
+use Rattle.formlines.proofs.PassLaws.{ended-free, ended-stranger, ended-named, past-passed}
 use Rattle.formlines.proofs.has_ended.Statement.{statement}
 use Rattle.formlines.proofs.has_ended.Tie as tie
 
 waiting-of-requires : tie.Need-waiting-of-requires
 waiting-of-requires c κs = search needs
 
+returns : tie.Need-returns
+returns c =
+    let a = c .before .before .before .before .args in
+    let R = roomsIn (a .messages .now) in
+    let w = c .before .waiting-of in
+    ended-free R (a .m) (w .result) (within 64 (a .set) (R .named (a .m)) && passed (a .k) (cartsIn (a .carts .now)) R (a .m) (a .set)) (w .ensures) (c .if1 .taken)
+
 named-of-requires : tie.Need-named-of-requires
 named-of-requires c κs = search needs
-
-number-of-requires : tie.Need-number-of-requires
-number-of-requires c κs = search needs
-
-initiator-of-requires : tie.Need-initiator-of-requires
-initiator-of-requires c κs = search needs
-
-is-above-requires : tie.Need-is-above-requires
-is-above-requires c κs = search needs
 
 is-within-requires : tie.Need-is-within-requires
 is-within-requires c κs = search needs
 
-both-requires : tie.Need-both-requires
-both-requires c κs = search needs
+returns-2 : tie.Need-returns-2
+returns-2 c =
+    let a = c .before .before .before .before .before .before .before .args in
+    let R = roomsIn (a .messages .now) in
+    let w = c .before .before .before .before .waiting-of in
+    let t = c .before .is-within in
+    ended-stranger R (a .m) (w .result) (t .result) (within 64 (a .set) (R .named (a .m))) (passed (a .k) (cartsIn (a .carts .now)) R (a .m) (a .set)) (w .ensures) (c .before .before .before .if1 .left)
+    (t .ensures ∙ ap (λ (x : ℕ). within 64 (a .set) x) (c .before .before .named-of .ensures)) (not-true _ (c .if2 .taken))
 
-either-requires : tie.Need-either-requires
-either-requires c κs = search needs
+initiator-of-requires : tie.Need-initiator-of-requires
+initiator-of-requires c κs = search needs
 
-returns : tie.Need-returns
-unfolding passed
-returns c = taken-test (roomsIn (now (c .before .before .before .before .before .before .before .before .before .before .args .messages))) (c .before .before .before .before .before .before .before .before .before .before .args .m) (c .before .before .before .before .before .before .before .waiting-of .result) (c .before .both .result) (within 64 (c .before .before .before .before .before .before .before .before .before .before .args .set) ((roomsIn (now (c .before .before .before .before .before .before .before .before .before .before .args .messages))) .named (c .before .before .before .before .before .before .before .before .before .before .args .m)) && passed (c .before .before .before .before .before .before .before .before .before .before .args .k) (cartsIn (now (c .before .before .before .before .before .before .before .before .before .before .args .carts))) (roomsIn (now (c .before .before .before .before .before .before .before .before .before .before .args .messages))) (c .before .before .before .before .before .before .before .before .before .before .args .m) (c .before .before .before .before .before .before .before .before .before .before .args .set)) (c .either .result) (c .before .before .before .before .before .before .before .waiting-of .ensures) (c .before .both .ensures ∙ ap₂ (λ (x y : Bool). x && y) (c .before .before .is-within .ensures ∙ ap (λ (x : ℕ). within 64 (c .before .before .before .before .before .before .before .before .before .before .args .set) x) (c .before .before .before .before .before .before .named-of .ensures)) (c .before .before .before .is-above .ensures ∙ ap₂ (λ (y z : ℕ). every (c .before .before .before .before .before .before .before .before .before .before .args .k) (λ x. not (has (c .before .before .before .before .before .before .before .before .before .before .args .set) x) || ltb y ((cartsIn (now (c .before .before .before .before .before .before .before .before .before .before .args .carts))) .next x z))) (c .before .before .before .before .before .number-of .ensures) (c .before .before .before .before .initiator-of .ensures))) (c .either .ensures)
+number-of-requires : tie.Need-number-of-requires
+number-of-requires c κs = search needs
+
+all-past-requires : tie.Need-all-past-requires
+all-past-requires c κs = search needs
+
+returns-3 : tie.Need-returns-3
+returns-3 c =
+    let a = c .before .before .before .before .before .before .before .before .before .before .args in
+    let R = roomsIn (a .messages .now) in
+    let C = cartsIn (a .carts .now) in
+    let w = c .before .before .before .before .before .before .before .waiting-of in
+    let t = c .before .before .before .before .is-within in
+    let s = c .before .before .initiator-of in
+    let n = c .before .number-of in
+    let p = c .all-past in
+    ended-named R (a .m) (w .result) (t .result) (within 64 (a .set) (R .named (a .m))) (p .result) (passed (a .k) C R (a .m) (a .set)) (w .ensures) (c .before .before .before .before .before .before .if1 .left)
+    (t .ensures ∙ ap (λ (x : ℕ). within 64 (a .set) x) (c .before .before .before .before .before .named-of .ensures)) (not-false _ (c .before .before .before .if2 .left))
+    (past-passed (a .k) C R (a .m) (a .set) (s .result .0) (n .result .0) (p .result) (s .ensures) (n .ensures) (p .ensures))
 
 pub has-ended-spec : {M : Type 1} → statement M
 has-ended-spec =
     tie.close
     (tie.spec
     waiting-of-requires
+    returns
     named-of-requires
-    number-of-requires
-    initiator-of-requires
-    is-above-requires
     is-within-requires
-    both-requires
-    either-requires
-    returns)
+    returns-2
+    initiator-of-requires
+    number-of-requires
+    all-past-requires
+    returns-3)

@@ -1,0 +1,86 @@
+//! Damage to the words of a floor: a word or two replaced, a record doubled, a length changed.
+
+use crate::numbers::Numbers;
+use plain::words::{Words, ROWS};
+
+/// Where the lines and the records begin among the words of the lines.
+const LINES: usize = 50;
+const RECORDS: usize = 818;
+
+/// Another value for a word: any, a small one, one beside it, one bit of it, or another word's.
+fn other_value(numbers: &mut Numbers, words: &[u64], at: usize) -> u64 {
+    let old = words[at];
+    match numbers.below(6) {
+        0 => numbers.next(),
+        1 => numbers.below(70),
+        2 => old.wrapping_add(1),
+        3 => old.wrapping_sub(1),
+        4 => old ^ 1 << numbers.below(64),
+        _ => words[numbers.below(words.len() as u64) as usize],
+    }
+}
+
+fn replace(numbers: &mut Numbers, words: &mut [u64], at: usize) {
+    words[at] = other_value(numbers, words, at);
+}
+
+/// A row that some record lies in.
+fn used_row(numbers: &mut Numbers, lines: &[u64]) -> Option<usize> {
+    let used: Vec<usize> = (0..ROWS).filter(|r| lines[r / 64] >> (r % 64) & 1 == 0).collect();
+    (!used.is_empty()).then(|| used[numbers.below(used.len() as u64) as usize])
+}
+
+/// The record after another on its line becomes the same.
+fn double(numbers: &mut Numbers, lines: &mut [u64]) {
+    let Some(row) = used_row(numbers, lines) else { return };
+    let (from, to) = (RECORDS + 3 * row, RECORDS + 3 * (lines[RECORDS + 3 * row] as usize % ROWS));
+    lines.copy_within(from + 1..from + 3, to + 1);
+}
+
+/// More often than not, a word of the lines that means something.
+fn line_word(numbers: &mut Numbers, lines: &[u64]) -> usize {
+    match numbers.below(4) {
+        0 => numbers.below(LINES as u64) as usize,
+        1 => LINES + numbers.below((RECORDS - LINES) as u64) as usize,
+        2 => match used_row(numbers, lines) {
+            Some(row) => RECORDS + 3 * row + numbers.below(3) as usize,
+            None => 0,
+        },
+        _ => numbers.below(lines.len() as u64) as usize,
+    }
+}
+
+fn one(numbers: &mut Numbers, w: &mut Words) {
+    if w.lines.len() != RECORDS + 3 * ROWS {
+        return;
+    }
+    match numbers.below(50) {
+        0 => drop(w.stations.pop()),
+        1 => w.carts.push(0),
+        2 => drop(w.messages.pop()),
+        3 => w.lines.push(0),
+        4 => drop(w.texts.pop()),
+        5..=8 => double(numbers, &mut w.lines),
+        9 => {
+            let room = numbers.below(w.messages.len() as u64 / 6) as usize;
+            w.messages[6 * room + 4] ^= 1 << numbers.below(16);
+        }
+        part => {
+            let words = [&mut w.stations, &mut w.carts, &mut w.messages, &mut w.lines];
+            let words = words.into_iter().nth(part as usize % 4).expect("there are four");
+            let at = match part % 4 {
+                3 => line_word(numbers, words),
+                _ => numbers.below(words.len() as u64) as usize,
+            };
+            replace(numbers, words, at);
+        }
+    }
+}
+
+/// Damages a floor in one place, now and then in two.
+pub fn damage(numbers: &mut Numbers, w: &mut Words) {
+    one(numbers, w);
+    if numbers.below(8) == 0 {
+        one(numbers, w);
+    }
+}
