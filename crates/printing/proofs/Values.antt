@@ -2,10 +2,9 @@
 use mathlib.Core.Path.{_≡_, refl, sym, ap, _∙_, subst}
 use mathlib.Core.List.{List, [], _∷_}
 use Prim.{tt}
-use Prim.Native.Nat.{ℕ}
+use Prim.Native.Nat.{ℕ, zero, suc, _≤_}
 use native.Mathlib.Omega.{arith}
 use lib.ListN.{length, take}
-use lib.Seq.{take-length}
 use denote.Enum.Declared.{tagOf}
 use types.Run.{OneOf, miss}
 use Rattle.protocol.specs.Events.{refused, accepted}
@@ -51,15 +50,18 @@ no-octets (Received s n p w size) h = absurd (miss textless 9 tt h)
 no-octets (Moved c to) h = refl
 
 -- THE LINE
-take-whole : (l : List ℕ) (n : ℕ) → length l ≡ n → take n l ≡ l
-take-whole l n e = ap (λ (k : ℕ). take k l) (sym e) ∙ take-length l
+take-whole : (l : List ℕ) (n : ℕ) → length l ≤ n → take n l ≡ l
+take-whole [] zero e = refl
+take-whole [] (suc n) e = refl
+take-whole (x ∷ l) zero e = absurd (omega arith)
+take-whole (x ∷ l) (suc n) e = ap (λ (m : List ℕ). x ∷ m) (take-whole l n (omega arith))
 
-no-text : (l : List ℕ) → length l ≡ 0 → [] ≡ l
+no-text : (l : List ℕ) → length l ≤ 0 → [] ≡ l
 no-text [] e = refl
 no-text (x ∷ l) e = absurd (omega arith)
 
 -- an accepted event's answer is its report with its text
-pub accepted-is : (a : Answer) (text : List ℕ) → OneOf others (tagOf answer-type a) → length text ≡ octetsIn a → accepted (reportIn (reportOf a) text) ≡ answerIn a text
+pub accepted-is : (a : Answer) (text : List ℕ) → OneOf others (tagOf answer-type a) → length text ≤ octetsIn a → accepted (reportIn (reportOf a) text) ≡ answerIn a text
 accepted-is (Refused r) text h e = absurd (miss others 0 tt h)
 accepted-is (Started n k) text h e = ap (λ (l : List ℕ). accepted (reportIn (values 0 n k 0 0) l)) (sym (no-text text e))
 accepted-is (Entered t c p) text h e = ap (λ (l : List ℕ). accepted (reportIn (values 1 (t .0) (c .0) p 0) l)) (sym (no-text text e))
@@ -79,7 +81,7 @@ module _ (index : ℕ) (a : Answer) (text out out′ : List ℕ) (at next : ℕ)
       subst (λ (b : Answer). Wrote longestLine (lineOf index (answerIn b text)) out out′ at next) (sym e)
       (let few = w .few in record { octets = w .octets; behind = w .behind; few = omega arith; kept = w .kept })
 
-  pub accepted-wrote : OneOf others (tagOf answer-type a) → length text ≡ octetsIn a → (r : Report) → r ≡ reportOf a
+  pub accepted-wrote : OneOf others (tagOf answer-type a) → length text ≤ octetsIn a → (r : Report) → r ≡ reportOf a
       → Wrote longestLine (lineOf index (accepted (reportIn r text))) out out′ at next → Wrote longestLine (lineOf index (answerIn a text)) out out′ at next
   accepted-wrote h e r q w =
       subst (λ (b : events.Answer). Wrote longestLine (lineOf index b) out out′ at next)

@@ -45,10 +45,10 @@ pub fn octets_of(answer: Answer) -> usize
     }
 }
 
-// The line of an answer, into lent octets; the text of a radio step is lent too, and is as long as the answer says. The position behind the
-// line is returned.
+// The line of an answer, into lent octets; the text of a radio step is lent too, and has no more octets than the answer says. The position
+// behind the line is returned.
 pub fn put_answer(out: &mut [u8], at: usize, index: u64, answer: Answer, text: &[u8]) -> usize
-    requires { ⌜ (at + longestLine ≤ length (now out)) × (length (now text) ≤ 32) × (length (now text) ≡ octetsIn answer) ⌝ }
+    requires { ⌜ (at + longestLine ≤ length (now out)) × (length (now text) ≤ 32) × (length (now text) ≤ octetsIn answer) ⌝ }
     ensures { λ n. ⌜ Wrote longestLine (lineOf index (answerIn answer (now (text .entry)))) (now (out .entry)) (now (out .exit)) at n ⌝ }
 {
     match answer {

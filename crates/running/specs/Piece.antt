@@ -1,0 +1,33 @@
+-- THE RUN OVER A PIECE OF INPUT: the first frames of these octets, from a floor and an index; "Refusals 1 to 4 end the run".
+use mathlib.Core.Bool.{Bool, true, false}
+use mathlib.Core.List.{List, [], _++_}
+use Prim.Native.Nat.{ℕ, zero, suc, _+_}
+use lib.ListN.{drop}
+use Rattle.protocol.specs.Floor.{Floor, limits}
+use Rattle.protocol.specs.Events.{refused}
+use Rattle.protocol.specs.Step.{step, answer}
+use Rattle.protocol.specs.Frames.{end, refusedFrame, taken, frameOf}
+use Rattle.protocol.specs.Printed.{lineOf}
+
+-- what so many frames printed, the floor that they left, how many octets they took, and whether one of them ended the run
+pub record Ran : Type 0 where
+  pub printed : List ℕ
+  pub floor : Floor
+  pub octets : ℕ
+  pub ended : Bool
+
+-- nothing was read
+abbrev pub still : Floor → Ran
+still F = record { printed = []; floor = F; octets = 0; ended = false }
+
+-- so many frames of these octets, or as many as there are
+unfoldable pub runFrom : ℕ → Floor → ℕ → List ℕ → Ran
+runFrom zero F index l = still F
+runFrom (suc n) F index l =
+    elim (frameOf limits l) [
+      | end ↦ still F
+      | refusedFrame r ↦ record { printed = lineOf index (refused r); floor = F; octets = 0; ended = true }
+      | taken e size ↦
+          let rest = runFrom n (step limits F e) (suc index) (drop size l) in
+          record { printed = lineOf index (answer limits F e) ++ rest .printed; floor = rest .floor; octets = size + rest .octets; ended = rest .ended }
+    ]

@@ -1,0 +1,187 @@
+// THE RUN: frames in, one line each out, over a lent floor that nothing is tested twice of. "The program floor reads frames from standard input
+// and prints one line each."
+use answers::Answer;
+use frames::Event;
+use frames::Reading;
+use ids::CartNumber;
+use ids::Station;
+use receiving::Handing;
+ghost use mathlib.Core.Path.{_≡_};
+ghost use mathlib.Core.Bool.{true, false};
+ghost use mathlib.Core.List.{List, [], _++_};
+ghost use Prim.Native.Nat.{ℕ, _+_, _*_, _<_, _≤_};
+ghost use lib.ListN.{length, take, drop};
+ghost use Rattle.protocol.specs.Floor.{limits};
+ghost use Rattle.protocol.specs.Form.{passesForm};
+ghost use Rattle.protocol.specs.Printed.{lineOf};
+ghost use Rattle.protocol.specs.Frames.{readAt};
+ghost use Rattle.view.specs.View.{lent, floorIn};
+ghost use Rattle.answers.specs.Answers.{answerIn};
+ghost use Rattle.answers.specs.Met.{Met};
+ghost use Rattle.receiving.specs.Handing.{handingIn, Fits};
+ghost use Rattle.frames.specs.Decoded.{eventIn, sizeOf};
+ghost use Rattle.report.specs.Lines.{Wrote, longestLine};
+ghost use Rattle.running.specs.Ready.{Ready};
+ghost use Rattle.running.specs.Told.{toldIn, Within};
+
+// "Sixteen octets", and a text's part of the lent octets.
+const FRAME: usize = 16;
+
+const TEXT: usize = 32;
+
+// The mark that says started.
+const STARTED: u64 = 1;
+
+// What an event came to; a radio step's text lies in its room's part of the texts, and has so many octets.
+struct Told {
+    answer: Answer,
+    room: usize,
+    size: usize,
+}
+
+// An answer that has no text.
+fn plainly(answer: Answer) -> Told
+    ensures { λ r. ⌜ Within r × ((T : List ℕ) → toldIn T r ≡ answerIn answer []) ⌝ }
+{
+    Told {
+        answer,
+        room: 0,
+        size: 0,
+    }
+}
+
+// A radio step's answer, and where its text lies.
+fn with_text(handing: Handing) -> Told
+    requires { ⌜ Fits 32 handing ⌝ }
+    ensures { λ r. ⌜ Within r × ((T : List ℕ) → toldIn T r ≡ handingIn T handing) ⌝ }
+{
+    match handing {
+        Handing::Refused(number) => plainly(Answer::Refused(number)),
+        Handing::Over(m, size, initiator, number, p, w) => Told {
+            answer: Answer::Received(initiator, number, p, w, size),
+            room: m,
+            size,
+        },
+    }
+}
+
+// An event on a floor that is not started: a start, or refusal 5, "not started".
+fn before_start(
+    stations: &mut [u64],
+    carts: &mut [u64],
+    messages: &mut [u64],
+    lines: &mut [u64],
+    texts: &[u8],
+    e: Event,
+) -> Answer
+    requires { ⌜ (floorIn (lent (now stations) (now carts) (now messages) (now lines) (now texts)) .started ≡ false) × (sizeOf e ≤ 48) ⌝ }
+    ensures { λ a. ⌜ ((l : List ℕ) → Met (lent (now (stations .entry)) (now (carts .entry)) (now (messages .entry)) (now (lines .entry)) (now (texts .entry))) (lent (now (stations .exit)) (now (carts .exit)) (now (messages .exit)) (now (lines .exit)) (now (texts .entry))) (eventIn l e) (answerIn a [])) ⌝ }
+{
+    match e {
+        Event::Start(n, k) => controller::start(stations, carts, messages, lines, texts, n, k),
+        _ => Answer::Refused(5),
+    }
+}
+
+// An event on a started floor, of the frame at a place: a send is followed by its text. A second start is refused, 6.
+fn on_floor(
+    stations: &mut [u64],
+    carts: &mut [u64],
+    messages: &mut [u64],
+    lines: &mut [u64],
+    texts: &mut [u8],
+    input: &[u8],
+    at: usize,
+    e: Event,
+) -> Told
+    requires { ⌜ passesForm limits (floorIn (lent (now stations) (now carts) (now messages) (now lines) (now texts))) ≡ true ⌝ }
+    requires { ⌜ (at + sizeOf e ≤ length (now input)) × (sizeOf e ≤ 48) ⌝ }
+    ensures { λ r. ⌜ Within r × Met (lent (now (stations .entry)) (now (carts .entry)) (now (messages .entry)) (now (lines .entry)) (now (texts .entry))) (lent (now (stations .exit)) (now (carts .exit)) (now (messages .exit)) (now (lines .exit)) (now (texts .exit))) (eventIn (drop at (now (input .entry))) e) (toldIn (now (texts .exit)) r) ⌝ }
+{
+    match e {
+        Event::Start(_, _) => plainly(Answer::Refused(6)),
+        Event::Enter(station, cart) => plainly(rolling::enter(
+            stations,
+            carts,
+            messages,
+            lines,
+            texts,
+            station,
+            cart,
+        )),
+        Event::Send(station, set, size) => {
+            let from = at + FRAME;
+            let end = from + size;
+            plainly(posting::send(
+                stations,
+                carts,
+                messages,
+                lines,
+                texts,
+                station,
+                set,
+                &input[from..end],
+            ))
+        }
+        Event::Wire(from, to) => plainly(wiring::wire(
+            stations,
+            carts,
+            messages,
+            lines,
+            texts,
+            from,
+            to,
+        )),
+        Event::Radio(station, cart) => with_text(receiving::radio(
+            stations,
+            carts,
+            messages,
+            lines,
+            texts,
+            station,
+            cart,
+            TEXT,
+        )),
+        Event::Move(cart, to) => plainly(rolling::move_cart(
+            stations,
+            carts,
+            messages,
+            lines,
+            texts,
+            cart,
+            to,
+        )),
+    }
+}
+
+// An event of the run, of the frame at a place.
+fn happen(
+    stations: &mut [u64],
+    carts: &mut [u64],
+    messages: &mut [u64],
+    lines: &mut [u64],
+    texts: &mut [u8],
+    input: &[u8],
+    at: usize,
+    e: Event,
+) -> Told
+    requires { ⌜ Ready (lent (now stations) (now carts) (now messages) (now lines) (now texts)) ⌝ }
+    requires { ⌜ (at + sizeOf e ≤ length (now input)) × (sizeOf e ≤ 48) ⌝ }
+    ensures { λ r. ⌜ Within r × Met (lent (now (stations .entry)) (now (carts .entry)) (now (messages .entry)) (now (lines .entry)) (now (texts .entry))) (lent (now (stations .exit)) (now (carts .exit)) (now (messages .exit)) (now (lines .exit)) (now (texts .exit))) (eventIn (drop at (now (input .entry))) e) (toldIn (now (texts .exit)) r) ⌝ }
+{
+    if stations::mark_of(stations) != STARTED {
+        return plainly(before_start(stations, carts, messages, lines, texts, e));
+    }
+    on_floor(stations, carts, messages, lines, texts, input, at, e)
+}
+
+// The line of what an event came to.
+fn print(out: &mut [u8], texts: &[u8], at: usize, index: u64, told: Told) -> usize
+    requires { ⌜ (at + longestLine ≤ length (now out)) × (length (now texts) ≡ 1024) × Within told ⌝ }
+    ensures { λ n. ⌜ Wrote longestLine (lineOf index (toldIn (now (texts .entry)) told)) (now (out .entry)) (now (out .exit)) at n ⌝ }
+{
+    let answer = told.answer;
+    let from = told.room * TEXT;
+    let end = from + told.size;
+    printing::put_answer(out, at, index, answer, &texts[from..end])
+}
