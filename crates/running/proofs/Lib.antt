@@ -1,2 +1,4 @@
 pub mod Pieces
 pub mod Events
+pub mod Turns
+pub mod Loop

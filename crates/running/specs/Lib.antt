@@ -1,3 +1,4 @@
 pub mod Piece
 pub mod Ready
 pub mod Told
+pub mod Went

@@ -7,11 +7,13 @@ use ids::CartNumber;
 use ids::Station;
 use receiving::Handing;
 ghost use mathlib.Core.Path.{_≡_};
-ghost use mathlib.Core.Bool.{true, false};
+ghost use mathlib.Core.Bool.{true, false, not, _&&_};
 ghost use mathlib.Core.List.{List, [], _++_};
 ghost use Prim.Native.Nat.{ℕ, _+_, _*_, _<_, _≤_};
+ghost use lib.Dec.{eqb, leb};
 ghost use lib.ListN.{length, take, drop};
 ghost use Rattle.protocol.specs.Floor.{limits};
+ghost use Rattle.protocol.specs.Events.{refused};
 ghost use Rattle.protocol.specs.Form.{passesForm};
 ghost use Rattle.protocol.specs.Printed.{lineOf};
 ghost use Rattle.protocol.specs.Frames.{readAt};
@@ -20,9 +22,10 @@ ghost use Rattle.answers.specs.Answers.{answerIn};
 ghost use Rattle.answers.specs.Met.{Met};
 ghost use Rattle.receiving.specs.Handing.{handingIn, Fits};
 ghost use Rattle.frames.specs.Decoded.{eventIn, sizeOf};
-ghost use Rattle.report.specs.Lines.{Wrote, longestLine};
+ghost use Rattle.report.specs.Lines.{Wrote, longestLine, longestRefusal};
 ghost use Rattle.running.specs.Ready.{Ready};
 ghost use Rattle.running.specs.Told.{toldIn, Within};
+ghost use Rattle.running.specs.Went.{Took, Turned, Went};
 
 // "Sixteen octets", and a text's part of the lent octets.
 const FRAME: usize = 16;
@@ -184,4 +187,167 @@ fn print(out: &mut [u8], texts: &[u8], at: usize, index: u64, told: Told) -> usi
     let from = told.room * TEXT;
     let end = from + told.size;
     printing::put_answer(out, at, index, answer, &texts[from..end])
+}
+
+// How far a piece of input was run: the octets read from its front, the octets written to the front of the output, the frames, and why it
+// stopped.
+pub struct Progress {
+    pub read: usize,
+    pub written: usize,
+    pub frames: u64,
+    pub state: u64,
+}
+
+// The output has no room for another line.
+pub const FULL: u64 = 0;
+
+// No whole frame is left in the piece.
+pub const WAITS: u64 = 1;
+
+// "Refusals 1 to 4 end the run."
+pub const ENDED: u64 = 2;
+
+// The refusal of a frame that is cut short.
+const CUT: u64 = 1;
+
+// The same, and no whole frame is left.
+fn waiting(p: Progress) -> Progress
+    ensures { λ r. ⌜ r ≡ record { read = p .read; written = p .written; frames = p .frames; state = 1 } ⌝ }
+{
+    Progress {
+        read: p.read,
+        written: p.written,
+        frames: p.frames,
+        state: WAITS,
+    }
+}
+
+// A frame that is cut short at the end of the piece, where more input may come, is not refused yet.
+fn may_come(number: u64, last: bool) -> bool
+    ensures { λ r. ⌜ r ≡ (eqb number 1 && not last) ⌝ }
+{
+    if number != CUT {
+        return false;
+    }
+    !last
+}
+
+// The event of a frame, and its line.
+fn take_event(
+    input: &[u8],
+    output: &mut [u8],
+    stations: &mut [u64],
+    carts: &mut [u64],
+    messages: &mut [u64],
+    lines: &mut [u64],
+    texts: &mut [u8],
+    index: u64,
+    p: Progress,
+    e: Event,
+) -> Progress
+    requires { ⌜ Ready (lent (now stations) (now carts) (now messages) (now lines) (now texts)) ⌝ }
+    requires { ⌜ (p .read + sizeOf e ≤ length (now input)) × (sizeOf e ≤ 48) × (p .written + longestLine ≤ length (now output)) ⌝ }
+    requires { ⌜ (p .frames ≤ p .read) × (index + length (now input) + 1 < 18446744073709551616) ⌝ }
+    ensures { λ r. ⌜ Took index (lent (now (stations .entry)) (now (carts .entry)) (now (messages .entry)) (now (lines .entry)) (now (texts .entry))) (lent (now (stations .exit)) (now (carts .exit)) (now (messages .exit)) (now (lines .exit)) (now (texts .exit))) (now (output .entry)) (now (output .exit)) p r (eventIn (drop (p .read) (now (input .entry))) e) (sizeOf e) ⌝ }
+{
+    let told = happen(stations, carts, messages, lines, texts, input, p.read, e);
+    let written = print(output, texts, p.written, index + p.frames, told);
+    Progress {
+        read: p.read + frames::size_of(e),
+        written,
+        frames: p.frames + 1,
+        state: FULL,
+    }
+}
+
+// The line of a frame that is refused, which ends the run.
+fn refuse(output: &mut [u8], index: u64, p: Progress, number: u64) -> Progress
+    requires { ⌜ (p .written + longestLine ≤ length (now output)) × (index + p .frames + 1 < 18446744073709551616) ⌝ }
+    ensures { λ r. ⌜ Wrote longestRefusal (lineOf (index + p .frames) (refused number)) (now (output .entry)) (now (output .exit)) (p .written) (r .written) ⌝ }
+    ensures { λ r. ⌜ (r .read ≡ p .read) × (r .frames ≡ p .frames + 1) × (r .state ≡ 2) ⌝ }
+{
+    let written = report::put_refusal(output, p.written, index + p.frames, number);
+    Progress {
+        read: p.read,
+        written,
+        frames: p.frames + 1,
+        state: ENDED,
+    }
+}
+
+// The frame behind those that were run, if a whole one is there; `last` says that no more input comes behind the piece.
+fn take_frame(
+    input: &[u8],
+    output: &mut [u8],
+    stations: &mut [u64],
+    carts: &mut [u64],
+    messages: &mut [u64],
+    lines: &mut [u64],
+    texts: &mut [u8],
+    index: u64,
+    p: Progress,
+    last: bool,
+) -> Progress
+    requires { ⌜ Ready (lent (now stations) (now carts) (now messages) (now lines) (now texts)) ⌝ }
+    requires { ⌜ (p .state ≡ 0) × (p .read ≤ length (now input)) × (p .written + longestLine ≤ length (now output)) ⌝ }
+    requires { ⌜ (p .frames ≤ p .read) × (index + length (now input) + 1 < 18446744073709551616) ⌝ }
+    ensures { λ r. ⌜ Turned (now (input .entry)) index last (lent (now (stations .entry)) (now (carts .entry)) (now (messages .entry)) (now (lines .entry)) (now (texts .entry))) (lent (now (stations .exit)) (now (carts .exit)) (now (messages .exit)) (now (lines .exit)) (now (texts .exit))) (now (output .entry)) (now (output .exit)) p r ⌝ }
+{
+    let reading = frames::frame_at(input, p.read);
+    match reading {
+        Reading::End => waiting(p),
+        Reading::Refused(number) => {
+            if may_come(number, last) {
+                waiting(p)
+            } else {
+                refuse(output, index, p, number)
+            }
+        }
+        Reading::Taken(e) => take_event(
+            input, output, stations, carts, messages, lines, texts, index, p, e,
+        ),
+    }
+}
+
+// Nothing stopped the run yet, and the output has room for another line.
+fn goes_on(output: &[u8], p: Progress) -> bool
+    requires { ⌜ p .written ≤ length (now output) ⌝ }
+    ensures { λ r. ⌜ r ≡ (eqb (p .state) 0 && leb (p .written + longestLine) (length (now (output .entry)))) ⌝ }
+{
+    if p.state != FULL {
+        return false;
+    }
+    report::LINE <= output.len() - p.written
+}
+
+// THE RUN OVER A PIECE: whole frames are taken from the front of the input while the output has room for their lines, from the frame with this
+// index on. What it writes is, octet for octet, the printed lines of the written run over those frames, and the floor that it leaves is that
+// run's.
+pub fn take_frames(
+    input: &[u8],
+    output: &mut [u8],
+    stations: &mut [u64],
+    carts: &mut [u64],
+    messages: &mut [u64],
+    lines: &mut [u64],
+    texts: &mut [u8],
+    index: u64,
+    last: bool,
+) -> Progress
+    requires { ⌜ Ready (lent (now stations) (now carts) (now messages) (now lines) (now texts)) ⌝ }
+    requires { ⌜ index + length (now input) + 1 < 18446744073709551616 ⌝ }
+    ensures { λ p. ⌜ Went (now (input .entry)) index last (lent (now (stations .entry)) (now (carts .entry)) (now (messages .entry)) (now (lines .entry)) (now (texts .entry))) (lent (now (stations .exit)) (now (carts .exit)) (now (messages .exit)) (now (lines .exit)) (now (texts .exit))) (now (output .entry)) (now (output .exit)) p ⌝ }
+{
+    let mut p = Progress {
+        read: 0,
+        written: 0,
+        frames: 0,
+        state: FULL,
+    };
+    while goes_on(output, p) {
+        p = take_frame(
+            input, output, stations, carts, messages, lines, texts, index, p, last,
+        );
+    }
+    p
 }

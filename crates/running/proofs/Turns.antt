@@ -1,0 +1,195 @@
+-- ONE FRAME OF THE RUN: from the state of a run to the state of the run with one frame more.
+use mathlib.Core.Path.{_≡_, refl, sym, ap, ap₂, _∙_, subst}
+use mathlib.Core.Bool.{Bool, true, false, not, cond, _&&_}
+use mathlib.Core.List.{List, [], _∷_, _++_}
+use Prim.{tt}
+use Prim.Native.Nat.{ℕ, zero, suc, _+_, _-_, _*_, _≤_, _<_}
+use native.Mathlib.Omega.{arith}
+use lib.Dec.{eqb}
+use lib.ListN.{length, drop, length-append}
+use borrow.Author.Tests.{eqb-true, eq-eqb, ne-eqb, not-true}
+use denote.Enum.Declared.{tagOf}
+use types.Run.{OneOf, miss}
+use Rattle.protocol.proofs.Tests.{and-left, and-right}
+use Rattle.protocol.specs.Floor.{Floor, limits}
+use Rattle.protocol.specs.Events.{refused}
+use Rattle.protocol.specs.Events as events
+use Rattle.protocol.specs.Step.{step, answer}
+use Rattle.protocol.specs.Frames.{Reading, end, refusedFrame, taken, readAt}
+use Rattle.protocol.specs.Printed.{lineOf}
+use Rattle.view.specs.View.{Lent, lent, floorIn}
+use Rattle.view.proofs.Lengths.{lengths-of}
+use Rattle.report.specs.Lines.{written, Wrote, longestLine, longestRefusal}
+use Rattle.report.proofs.Octets.{written-length, written-then}
+use Rattle.answers.specs.Met.{Met}
+use Rattle.frames.specs.declared.Event.{Event}
+use Rattle.frames.specs.declared.Event.the-variants.{Start, Enter, Send, Wire, Radio, Move}
+use Rattle.frames.specs.declared.Reading as decoder
+use Rattle.frames.specs.declared.Reading.the-variants.{End, Refused, Taken}
+use Rattle.frames.specs.Decoded.{eventIn, sizeOf, readingIn}
+use Rattle.frames.proofs.Reading.{the-type as reading-type}
+use Rattle.running.specs.declared.Progress.{Progress}
+use Rattle.running.specs.Piece.{Ran, runFrom}
+use Rattle.running.specs.Ready.{Ready}
+use Rattle.running.specs.Went.{InRun, NoneWhole, Took, Turned}
+use Rattle.running.proofs.Pieces.{more, onward, one-more}
+use Rattle.running.proofs.Events.{goes-on}
+
+pub texts-long : (L : Lent) → Ready L → length (L .texts) ≡ 1024
+texts-long L R = lengths-of L (R .lengths) .texts
+
+-- the event that happened and the line that was printed
+pub took : (index : ℕ) (L L′ : Lent) (out out′ : List ℕ) (p r : Progress) (e : events.Event) (size : ℕ) (a : events.Answer)
+    → Ready L → Met L L′ e a → Wrote longestLine (lineOf (index + p .frames) a) out out′ (p .written) (r .written)
+    → r .read ≡ p .read + size → r .frames ≡ p .frames + 1 → r .state ≡ 0 → Took index L L′ out out′ p r e size
+took index L L′ out out′ p r e size a R met line read frames state =
+    record {
+      ready = goes-on L L′ e a R met;
+      floor = met .floor;
+      line = subst (λ (x : events.Answer). Wrote longestLine (lineOf (index + p .frames) x) out out′ (p .written) (r .written)) (met .answers) line;
+      read = read;
+      frames = frames;
+      state = state;
+    }
+
+-- a cut frame at the end of a piece that is not the last
+pub not-cut : (number : ℕ) (last : Bool) → (number ≡ 1 → ⊥) → false ≡ (eqb number 1 && not last)
+not-cut number last n = rw (ne-eqb number 1 n) refl
+
+pub cut : (number : ℕ) (last : Bool) → number ≡ 1 → not last ≡ (eqb number 1 && not last)
+cut number last e = rw (eq-eqb number 1 e) refl
+
+-- THE STATE OF A RUN, one line further
+module _ (R : Ran) (L L′ : Lent) (out₀ out out′ : List ℕ) (p r : Progress) (most : ℕ) (line : List ℕ) (now-in : InRun R L out₀ out p)
+    (wrote : Wrote most line out out′ (p .written) (r .written)) (room : p .written + most ≤ length out) where
+  whole : length out ≡ length out₀
+  whole = let a = now-in .wrote in let b = now-in .fits in ap length (now-in .octets) ∙ written-length out₀ 0 (R .printed) (omega arith)
+
+  further : (X : Floor) (k : ℕ) (b : Bool) → floorIn L′ ≡ X → r .read ≡ k → b ≡ eqb (r .state) 2
+      → InRun (record { printed = R .printed ++ line; floor = X; octets = k; ended = b }) L′ out₀ out′ r
+  further X k b f q e =
+      let a = now-in .wrote in
+      let c = wrote .behind in
+      let d = wrote .few in
+      let s = length-append (R .printed) line in
+      let w = whole in
+      let zero-more : p .written ≡ 0 + length (R .printed) = omega arith in
+      record {
+        floor = f;
+        read = q;
+        wrote = omega arith;
+        fits = omega arith;
+        octets = wrote .octets ∙ ap₂ (λ (x : List ℕ) (n : ℕ). written x n line) (now-in .octets) zero-more ∙ written-then out₀ 0 (R .printed) line (let b = now-in .fits in omega arith);
+        ended = e;
+      }
+
+module _ (input : List ℕ) (index : ℕ) (F : Floor) (L : Lent) (out₀ out : List ℕ) (p : Progress) (going : p .state ≡ 0) where
+  abbrev R : Ran
+  R = runFrom (p .frames) F index input
+
+  -- the run with one frame more
+  pub next-frame : (k : ℕ) (reading : Reading) → InRun R L out₀ out p → k ≡ p .frames + 1 → readAt limits input (p .read) ≡ reading → runFrom k F index input ≡ more R (index + p .frames) reading
+  next-frame k reading h e q =
+      let one : k ≡ suc (p .frames) = omega arith in
+      let goes : R .ended ≡ false = h .ended ∙ ne-eqb (p .state) 2 (λ z. omega arith) in
+      ap (λ (n : ℕ). runFrom n F index input) one ∙ one-more (p .frames) F index input
+      ∙ ap (λ (b : Bool). cond b R (more R (index + p .frames) (readAt limits input (R .octets)))) goes
+      ∙ ap (λ (n : ℕ). more R (index + p .frames) (readAt limits input n)) (sym (h .read))
+      ∙ ap (λ (x : Reading). more R (index + p .frames) x) q
+
+-- THE THREE WAYS of a frame
+module _ (input : List ℕ) (index : ℕ) (last : Bool) (L : Lent) (out : List ℕ) (p : Progress) (ready : Ready L) (going : p .state ≡ 0) (inside : p .read ≤ length input)
+    (room : p .written + longestLine ≤ length out) (few : p .frames ≤ p .read) where
+  -- none is whole
+  pub turned-waits : (r : Progress) → r ≡ record { read = p .read; written = p .written; frames = p .frames; state = 1 } → NoneWhole last (readAt limits input (p .read))
+      → Turned input index last L L out out p r
+  turned-waits r e none = subst (λ (x : Progress). Turned input index last L L out out p x) (sym e) stands
+    where
+      stands : Turned input index last L L out out p (record { read = p .read; written = p .written; frames = p .frames; state = 1 })
+      stands =
+          record {
+            ready = ready;
+            runs = λ F out₀ h. record { floor = h .floor; read = h .read; wrote = h .wrote; fits = h .fits; octets = h .octets; ended = h .ended ∙ ne-eqb (p .state) 2 (λ z. omega arith) };
+            inside = inside;
+            within = omega arith;
+            kept = refl;
+            few = λ z. absurd (omega arith);
+            counted = omega arith;
+            onward = λ z. absurd (omega arith);
+            stays = omega arith;
+            waits = λ z. none;
+          }
+
+  -- one is refused, and ends the run
+  pub turned-refused : (out′ : List ℕ) (r : Progress) (number : ℕ) → readAt limits input (p .read) ≡ refusedFrame number
+      → Wrote longestRefusal (lineOf (index + p .frames) (refused number)) out out′ (p .written) (r .written) → (r .read ≡ p .read) × (r .frames ≡ p .frames + 1) × (r .state ≡ 2)
+      → Turned input index last L L out out′ p r
+  turned-refused out′ r number q wrote is =
+      record {
+        ready = ready;
+        runs = λ F out₀ h.
+            subst (λ (X : Ran). InRun X L out₀ out′ r) (sym (next-frame input index F L out₀ out p going (r .frames) (refusedFrame number) h (is .1) q))
+            (further (runFrom (p .frames) F index input) L L out₀ out out′ p r longestRefusal _ h wrote (omega arith) (runFrom (p .frames) F index input .floor) (runFrom (p .frames) F index input .octets) true
+            (h .floor) (is .0 ∙ h .read) (sym (eq-eqb (r .state) 2 (is .2))));
+        inside = let a = is .0 in omega arith;
+        within = let a = wrote .few in omega arith;
+        kept = wrote .kept;
+        few = λ z. absurd (let a = is .2 in omega arith);
+        counted = let a = is .0 in let b = is .1 in omega arith;
+        onward = λ z. absurd (let a = is .2 in omega arith);
+        stays = let a = is .0 in omega arith;
+        waits = λ z. absurd (let a = is .2 in omega arith);
+      }
+
+  -- one is an event
+  pub turned-taken : (L′ : Lent) (out′ : List ℕ) (r : Progress) (e : events.Event) (size : ℕ) → readAt limits input (p .read) ≡ taken e size
+      → 16 ≤ size → p .read + size ≤ length input → Took index L L′ out out′ p r e size → Turned input index last L L′ out out′ p r
+  turned-taken L′ out′ r e size q least there t =
+      record {
+        ready = t .ready;
+        runs = λ F out₀ h.
+            let X = runFrom (p .frames) F index input in
+            let same : answer limits (floorIn L) e ≡ answer limits (X .floor) e = ap (λ (G : Floor). answer limits G e) (h .floor) in
+            let line = subst (λ (a : events.Answer). Wrote longestLine (lineOf (index + p .frames) a) out out′ (p .written) (r .written)) same (t .line) in
+            subst (λ (Y : Ran). InRun Y L′ out₀ out′ r) (sym (next-frame input index F L out₀ out p going (r .frames) (taken e size) h (t .frames) q))
+            (further X L L′ out₀ out out′ p r longestLine _ h line room (step limits (X .floor) e) (X .octets + size) false
+            (t .floor ∙ ap (λ (G : Floor). step limits G e) (h .floor)) (let a = h .read in let b = t .read in omega arith) (sym (ne-eqb (r .state) 2 (λ z. let a = t .state in omega arith))));
+        inside = let a = t .read in omega arith;
+        within = let a = t .line .few in omega arith;
+        kept = t .line .kept;
+        few = λ z. let a = t .read in let b = t .frames in omega arith;
+        counted = let a = t .read in let b = t .frames in omega arith;
+        onward = λ z. let a = t .read in omega arith;
+        stays = let a = t .read in omega arith;
+        waits = λ z. absurd (let a = t .state in omega arith);
+      }
+
+-- WHAT THE DECODER SAID of the frame there
+module _ (input : List ℕ) (at : ℕ) (last : Bool) (said : decoder.Reading) (read : readingIn (drop at input) said ≡ readAt limits input at) where
+  pub none-left : OneOf (0 ∷ []) (tagOf reading-type said) → NoneWhole last (readAt limits input at)
+  none-left k = subst (λ (x : Reading). NoneWhole last x) read (by said k)
+    where
+      by : (x : decoder.Reading) → OneOf (0 ∷ []) (tagOf reading-type x) → NoneWhole last (readingIn (drop at input) x)
+      by End k = tt
+      by (Refused n) k = absurd (miss (0 ∷ []) 1 tt k)
+      by (Taken e) k = absurd (miss (0 ∷ []) 2 tt k)
+
+  pub refused-there : (number : ℕ) → said ≡ Refused number → readAt limits input at ≡ refusedFrame number
+  refused-there number q = sym read ∙ ap (readingIn (drop at input)) q
+
+  pub cut-left : (number : ℕ) (b : Bool) → said ≡ Refused number → b ≡ (eqb number 1 && not last) → b ≡ true → NoneWhole last (readAt limits input at)
+  cut-left number b q e t =
+      let both : (eqb number 1 && not last) ≡ true = sym e ∙ t in
+      subst (λ (x : Reading). NoneWhole last x) (sym (refused-there number q))
+      (eqb-true number 1 (and-left (eqb number 1) (not last) both), not-true last (and-right (eqb number 1) (not last) both))
+
+  pub taken-there : (e : Event) → said ≡ Taken e → readAt limits input at ≡ taken (eventIn (drop at input) e) (sizeOf e)
+  taken-there e q = sym read ∙ ap (readingIn (drop at input)) q
+
+pub least-size : (e : Event) → 16 ≤ sizeOf e
+least-size (Start n k) = omega arith
+least-size (Enter t c) = omega arith
+least-size (Send s set n) = omega arith
+least-size (Wire i j) = omega arith
+least-size (Radio t c) = omega arith
+least-size (Move c to) = omega arith
