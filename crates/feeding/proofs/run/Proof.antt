@@ -1,35 +1,55 @@
+-- `feeding::run` meets its contract.
+use mathlib.Core.Path.{sym}
+use Rattle.feeding.proofs.Fresh.{fresh-ready}
 use borrow.Author.Needs.{needs}
 use Rattle.feeding.proofs.run.Statement.{statement}
 use Rattle.feeding.proofs.run.Tie as tie
-use Rattle.feeding.proofs.run.Reads as reads
-use Rattle.feeding.proofs.run.Lts as lts
-use Rattle.feeding.proofs.ready.Reads as ready-reads
 
--- src/lib.rt:16:11
-slice-aggregate-ready : tie.Need-slice-aggregate-ready
-slice-aggregate-ready c = search needs
+large-buffer-requires : tie.Need-large-buffer-requires
+large-buffer-requires c κs = search needs
 
--- src/lib.rt:16:26
-slice-aggregate-ready-2 : tie.Need-slice-aggregate-ready-2
-slice-aggregate-ready-2 c = search needs
+large-buffer-requires-2 : tie.Need-large-buffer-requires-2
+large-buffer-requires-2 c κs = search needs
 
--- src/lib.rt:16:38
-slice-aggregate-ready-3 : tie.Need-slice-aggregate-ready-3
-slice-aggregate-ready-3 c = search needs
+no-stations-requires : tie.Need-no-stations-requires
+no-stations-requires c κs = search needs
 
--- src/lib.rt:16:53
-slice-aggregate-ready-4 : tie.Need-slice-aggregate-ready-4
-slice-aggregate-ready-4 c = search needs
+no-carts-requires : tie.Need-no-carts-requires
+no-carts-requires c κs = search needs
 
--- src/lib.rt:16:65
-slice-aggregate-ready-5 : tie.Need-slice-aggregate-ready-5
-slice-aggregate-ready-5 c = search needs
+no-messages-requires : tie.Need-no-messages-requires
+no-messages-requires c κs = search needs
 
--- src/lib.rt:16:5
-ready-requires : tie.Need-ready-requires
-ready-requires c κs = ?
+no-lines-requires : tie.Need-no-lines-requires
+no-lines-requires c κs = search needs
 
--- src/lib.rt:10:1
+no-texts-requires : tie.Need-no-texts-requires
+no-texts-requires c κs = search needs
+
+slice-aggregate-run-all : tie.Need-slice-aggregate-run-all
+slice-aggregate-run-all c = search needs
+
+slice-aggregate-run-all-2 : tie.Need-slice-aggregate-run-all-2
+slice-aggregate-run-all-2 c = search needs
+
+slice-aggregate-run-all-3 : tie.Need-slice-aggregate-run-all-3
+slice-aggregate-run-all-3 c = search needs
+
+slice-aggregate-run-all-4 : tie.Need-slice-aggregate-run-all-4
+slice-aggregate-run-all-4 c = search needs
+
+slice-aggregate-run-all-5 : tie.Need-slice-aggregate-run-all-5
+slice-aggregate-run-all-5 c = search needs
+
+slice-aggregate-run-all-6 : tie.Need-slice-aggregate-run-all-6
+slice-aggregate-run-all-6 c = search needs
+
+slice-aggregate-run-all-7 : tie.Need-slice-aggregate-run-all-7
+slice-aggregate-run-all-7 c = search needs
+
+run-all-requires : tie.Need-run-all-requires
+run-all-requires c κs = (fresh-ready _ _ _ _ _ (c .before .before .before .before .before .before .before .before .before .before .before .no-stations .ensures) (c .before .before .before .before .before .before .before .before .before .before .no-carts .ensures) (c .before .before .before .before .before .before .before .before .before .no-messages .ensures) (c .before .before .before .before .before .before .before .before .no-lines .ensures) (c .before .before .before .before .before .before .before .no-texts .ensures), sym (c .before .before .before .before .before .before .before .before .before .before .before .before .before .large-buffer .ensures))
+
 returns : tie.Need-returns
 returns c = search needs
 
@@ -37,10 +57,19 @@ pub run-spec : {M : Type 1} → statement M
 run-spec =
     tie.close
     (tie.spec
-    slice-aggregate-ready
-    slice-aggregate-ready-2
-    slice-aggregate-ready-3
-    slice-aggregate-ready-4
-    slice-aggregate-ready-5
-    ready-requires
+    large-buffer-requires
+    large-buffer-requires-2
+    no-stations-requires
+    no-carts-requires
+    no-messages-requires
+    no-lines-requires
+    no-texts-requires
+    slice-aggregate-run-all
+    slice-aggregate-run-all-2
+    slice-aggregate-run-all-3
+    slice-aggregate-run-all-4
+    slice-aggregate-run-all-5
+    slice-aggregate-run-all-6
+    slice-aggregate-run-all-7
+    run-all-requires
     returns)

@@ -5,18 +5,13 @@ use Rattle.running.proofs.Loop.{not-going, by-room}
 use borrow.Author.Needs.{needs}
 use Rattle.running.proofs.goes_on.Statement.{statement}
 use Rattle.running.proofs.goes_on.Tie as tie
-use Rattle.running.proofs.goes_on.Reads as reads
-use Rattle.running.proofs.goes_on.Lts as lts
 
--- src/lib.rt:318:9
 returns : tie.Need-returns
 returns c = not-going (c .before .before .args .p) (length (now (c .before .before .args .output))) (c .if1 .taken)
 
--- src/lib.rt:320:21
 sub-result : tie.Need-sub-result
 sub-result c = search needs
 
--- src/lib.rt:313:1
 returns-2 : tie.Need-returns-2
 returns-2 c = by-room (c .before .before .before .args .p) (length (now (c .before .before .before .args .output))) (c .before .if1 .left) (c .before .before .before .pre)
 

@@ -2,14 +2,10 @@
 use Rattle.running.proofs.Turns.{not-cut, cut}
 use Rattle.running.proofs.may_come.Statement.{statement}
 use Rattle.running.proofs.may_come.Tie as tie
-use Rattle.running.proofs.may_come.Reads as reads
-use Rattle.running.proofs.may_come.Lts as lts
 
--- src/lib.rt:230:9
 returns : tie.Need-returns
 returns c = not-cut (c .before .args .number) (c .before .args .last) (c .if1 .taken)
 
--- src/lib.rt:226:1
 returns-2 : tie.Need-returns-2
 returns-2 c = cut (c .before .args .number) (c .before .args .last) (c .if1 .left)
 

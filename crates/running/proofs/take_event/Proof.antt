@@ -9,61 +9,43 @@ use Rattle.running.proofs.Turns.{texts-long, took}
 use borrow.Author.Needs.{needs}
 use Rattle.running.proofs.take_event.Statement.{statement}
 use Rattle.running.proofs.take_event.Tie as tie
-use Rattle.running.proofs.take_event.Reads as reads
-use Rattle.running.proofs.take_event.Lts as lts
-use Rattle.frames.proofs.size_of.Reads as size-of-reads
-use Rattle.running.proofs.happen.Reads as happen-reads
-use Rattle.running.proofs.print.Reads as print-reads
 
--- src/lib.rt:253:9
 happen-requires : tie.Need-happen-requires
 happen-requires c κs = search needs
 
--- src/lib.rt:254:51
 add-print : tie.Need-add-print
 add-print c = omega (arith, c .before .before .before .before .before .before .before .before .before .before .before .before .before .before .before .before .before .before .before .before .before .before .before .before .before .before .pre .1)
 
--- src/lib.rt:254:9
 print-requires : tie.Need-print-requires
 print-requires c κs = let a = c .before .before .before .before .before .before .before .before .before .before .before .before .before .before .before .before .before .before .before .before .before .before .before .before .before .before .args in let h = c .before .before .before .before .before .before .before .before .before .before .before .before .before .happen .ensures in (c .before .before .before .before .before .before .before .before .before .before .before .before .before .before .before .before .before .before .before .before .before .before .before .before .before .before .pre .1 .0 .2, texts-long _ (goes-on (lent (now (a .stations)) (now (a .carts)) (now (a .messages)) (now (a .lines)) (now (a .texts))) _ _ _ (c .before .before .before .before .before .before .before .before .before .before .before .before .before .before .before .before .before .before .before .before .before .before .before .before .before .before .pre .0) (h .1)), h .0)
 
--- src/lib.rt:256:24
 size-of-requires : tie.Need-size-of-requires
 size-of-requires c κs = omega (arith, c .before .before .before .before .before .before .before .before .before .before .before .before .before .before .before .before .before .before .before .before .before .before .before .before .before .before .before .before .before .pre .1 .0)
 
--- src/lib.rt:256:15
 add-t29 : tie.Need-add-t29
 add-t29 c = omega (arith, c .before .before .before .before .before .before .before .before .before .before .before .before .before .before .before .before .before .before .before .before .before .before .before .before .before .before .before .before .before .before .before .pre .1, c .before .size-of .ensures)
 
--- src/lib.rt:258:17
 add-t27 : tie.Need-add-t27
 add-t27 c = omega (arith, c .before .before .before .before .before .before .before .before .before .before .before .before .before .before .before .before .before .before .before .before .before .before .before .before .before .before .before .before .before .before .before .before .pre .1)
 
--- src/lib.rt:236:1
 same-length : tie.Need-same-length
 same-length c = search needs
 
--- src/lib.rt:236:1
 same-length-2 : tie.Need-same-length-2
 same-length-2 c = search needs
 
--- src/lib.rt:236:1
 same-length-3 : tie.Need-same-length-3
 same-length-3 c = search needs
 
--- src/lib.rt:236:1
 same-length-4 : tie.Need-same-length-4
 same-length-4 c = search needs
 
--- src/lib.rt:236:1
 same-length-5 : tie.Need-same-length-5
 same-length-5 c = search needs
 
--- src/lib.rt:236:1
 same-length-6 : tie.Need-same-length-6
 same-length-6 c = search needs
 
--- src/lib.rt:236:1
 returns : tie.Need-returns
 returns c = let a = c .before .before .before .before .before .before .before .before .before .before .before .before .before .before .before .before .before .before .before .before .before .before .before .before .before .before .before .before .before .before .before .before .args in let h = c .before .before .before .before .before .before .before .before .before .before .before .before .before .before .before .before .before .before .before .happen .ensures in took (a .index) (lent (now (a .stations)) (now (a .carts)) (now (a .messages)) (now (a .lines)) (now (a .texts))) _ (now (a .output)) _ (a .p) _ _ _ _ (c .before .before .before .before .before .before .before .before .before .before .before .before .before .before .before .before .before .before .before .before .before .before .before .before .before .before .before .before .before .before .before .before .pre .0) (h .1) (c .before .before .before .before .before .print .ensures) (ap (λ (k : ℕ). a .p .read + k) (c .before .before .size-of .ensures)) refl refl
 

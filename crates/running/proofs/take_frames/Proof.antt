@@ -4,10 +4,6 @@ use Rattle.view.specs.View.{lent}
 use Rattle.running.proofs.Loop.{Going, left, going-first, going-next, going-less, goes, stops, same-stations, same-carts, same-messages, same-lines, same-texts}
 use Rattle.running.proofs.take_frames.Statement.{statement}
 use Rattle.running.proofs.take_frames.Tie as tie
-use Rattle.running.proofs.take_frames.Reads as reads
-use Rattle.running.proofs.take_frames.Lts as lts
-use Rattle.running.proofs.goes_on.Reads as goes-on-reads
-use Rattle.running.proofs.take_frame.Reads as take-frame-reads
 
 abbrev Inv-loop : tie.InvT-loop
 Inv-loop input output₀ stations₀ carts₀ messages₀ lines₀ texts₀ index last p₀ output stations carts messages lines texts p =
@@ -17,51 +13,39 @@ abbrev μ-loop : tie.MeasureT-loop
 μ-loop input output₀ stations₀ carts₀ messages₀ lines₀ texts₀ index last p₀ output stations carts messages lines texts p =
     left input p
 
--- src/lib.rt:347:5
 loop-holds : tie.Need-loop-holds Inv-loop μ-loop
 loop-holds c = let a = c .before .before .before .before .before .before .before .args in going-first (now (a .input)) (a .index) (a .last) (lent (now (a .stations)) (now (a .carts)) (now (a .messages)) (now (a .lines)) (now (a .texts))) (now (a .output)) (c .before .before .before .before .before .before .before .pre .0)
 
--- src/lib.rt:347:11
 goes-on-requires : tie.Need-goes-on-requires Inv-loop μ-loop
 goes-on-requires c κs = c .before .loop .inv .within
 
--- src/lib.rt:348:9
 take-frame-requires : tie.Need-take-frame-requires Inv-loop μ-loop
 take-frame-requires c κs = let a = c .before .before .before .before .before .before .before .before .before .before .before .before .before .before .before .before .before .args in let g = c .before .before .before .before .before .before .before .before .before .loop .inv in let t = goes (now (a .input)) (a .index) (a .last) (lent (now (a .stations)) (now (a .carts)) (now (a .messages)) (now (a .lines)) (now (a .texts))) (now (a .output)) _ _ _ (c .before .before .before .before .before .before .before .before .before .loop .inv) _ (c .before .before .before .before .before .before .before .goes-on .ensures) (c .before .before .before .before .before .before .if1 .taken) in (g .ready, ((t .0, g .inside, t .1), (g .few (t .0), c .before .before .before .before .before .before .before .before .before .before .before .before .before .before .before .before .before .pre .1)))
 
--- src/lib.rt:347:5
 loop-less : tie.Need-loop-less Inv-loop μ-loop
 loop-less c = let a = c .before .before .before .before .before .before .before .before .before .before .before .before .before .before .before .before .before .before .before .before .before .before .before .before .before .before .before .before .before .before .args in let t = goes (now (a .input)) (a .index) (a .last) (lent (now (a .stations)) (now (a .carts)) (now (a .messages)) (now (a .lines)) (now (a .texts))) (now (a .output)) _ _ _ (c .before .before .before .before .before .before .before .before .before .before .before .before .before .before .before .before .before .before .before .before .before .before .loop .inv) _ (c .before .before .before .before .before .before .before .before .before .before .before .before .before .before .before .before .before .before .before .before .goes-on .ensures) (c .before .before .before .before .before .before .before .before .before .before .before .before .before .before .before .before .before .before .before .if1 .taken) in going-less (now (a .input)) (a .index) (a .last) (lent (now (a .stations)) (now (a .carts)) (now (a .messages)) (now (a .lines)) (now (a .texts))) (now (a .output)) _ _ _ (c .before .before .before .before .before .before .before .before .before .before .before .before .before .before .before .before .before .before .before .before .before .before .loop .inv) _ _ _ (t .0) (c .before .before .before .before .before .before .before .before .before .before .before .before .take-frame .ensures)
 
--- src/lib.rt:347:5
 loop-again : tie.Need-loop-again Inv-loop μ-loop
 loop-again c = let a = c .before .before .before .before .before .before .before .before .before .before .before .before .before .before .before .before .before .before .before .before .before .before .before .before .before .before .before .before .before .before .args in going-next (now (a .input)) (a .index) (a .last) (lent (now (a .stations)) (now (a .carts)) (now (a .messages)) (now (a .lines)) (now (a .texts))) (now (a .output)) _ _ _ (c .before .before .before .before .before .before .before .before .before .before .before .before .before .before .before .before .before .before .before .before .before .before .loop .inv) _ _ _ (c .before .before .before .before .before .before .before .before .before .before .before .before .take-frame .ensures)
 
--- src/lib.rt:326:1
 same-length : tie.Need-same-length Inv-loop μ-loop
 same-length c = c .before .before .before .loop .inv .kept
 
--- src/lib.rt:326:1
 same-length-2 : tie.Need-same-length-2 Inv-loop μ-loop
 same-length-2 c = let a = c .before .before .before .before .before .before .before .before .before .before .before .args in same-stations (lent (now (a .stations)) (now (a .carts)) (now (a .messages)) (now (a .lines)) (now (a .texts))) _ (c .before .before .before .before .before .before .before .before .before .before .before .pre .0) (c .before .before .before .loop .inv .ready)
 
--- src/lib.rt:326:1
 same-length-3 : tie.Need-same-length-3 Inv-loop μ-loop
 same-length-3 c = let a = c .before .before .before .before .before .before .before .before .before .before .before .args in same-carts (lent (now (a .stations)) (now (a .carts)) (now (a .messages)) (now (a .lines)) (now (a .texts))) _ (c .before .before .before .before .before .before .before .before .before .before .before .pre .0) (c .before .before .before .loop .inv .ready)
 
--- src/lib.rt:326:1
 same-length-4 : tie.Need-same-length-4 Inv-loop μ-loop
 same-length-4 c = let a = c .before .before .before .before .before .before .before .before .before .before .before .args in same-messages (lent (now (a .stations)) (now (a .carts)) (now (a .messages)) (now (a .lines)) (now (a .texts))) _ (c .before .before .before .before .before .before .before .before .before .before .before .pre .0) (c .before .before .before .loop .inv .ready)
 
--- src/lib.rt:326:1
 same-length-5 : tie.Need-same-length-5 Inv-loop μ-loop
 same-length-5 c = let a = c .before .before .before .before .before .before .before .before .before .before .before .args in same-lines (lent (now (a .stations)) (now (a .carts)) (now (a .messages)) (now (a .lines)) (now (a .texts))) _ (c .before .before .before .before .before .before .before .before .before .before .before .pre .0) (c .before .before .before .loop .inv .ready)
 
--- src/lib.rt:326:1
 same-length-6 : tie.Need-same-length-6 Inv-loop μ-loop
 same-length-6 c = let a = c .before .before .before .before .before .before .before .before .before .before .before .args in same-texts (lent (now (a .stations)) (now (a .carts)) (now (a .messages)) (now (a .lines)) (now (a .texts))) _ (c .before .before .before .before .before .before .before .before .before .before .before .pre .0) (c .before .before .before .loop .inv .ready)
 
--- src/lib.rt:326:1
 returns : tie.Need-returns Inv-loop μ-loop
 returns c = let a = c .before .before .before .before .before .before .before .before .before .before .before .args in stops (now (a .input)) (a .index) (a .last) (lent (now (a .stations)) (now (a .carts)) (now (a .messages)) (now (a .lines)) (now (a .texts))) (now (a .output)) _ _ _ (c .before .before .before .loop .inv) _ (c .before .goes-on .ensures) (c .if1 .left)
 

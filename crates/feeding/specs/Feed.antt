@@ -1,0 +1,11 @@
+-- WHERE THE PIECE OF INPUT STANDS.
+use mathlib.Core.Path.{_≡_}
+use mathlib.Core.List.{List}
+use Prim.Native.Nat.{ℕ, _+_, _≤_, _<_}
+use lib.ListN.{length}
+use Rattle.feeding.specs.declared.Feed.{Feed}
+
+-- in a piece of n octets
+pub record Inside (n : ℕ) (f : Feed) : Type 0 where
+  pub run : f .at ≤ f .have
+  pub read : f .have ≤ n
