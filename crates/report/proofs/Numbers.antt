@@ -5,7 +5,7 @@ use Prim.Native.Nat.{ℕ, zero, suc, _+_, _-_, _*_, _/_, _%_, _^_, _≤_, _<_}
 use native.Mathlib.Numerals.{add-one}
 use native.Mathlib.Nat.{add-zero}
 use native.Mathlib.Omega.{arith}
-use lib.ListN.{length, getD, take, set, length-append}
+use lib.ListN.{length, getD, take, set, length-append, length-set}
 use lib.Seq.{take-suc, take-length}
 use borrow.Author.Tests.{lt-ltb, le-ltb}
 use Rattle.protocol.proofs.Tests.{by-lt}
@@ -53,6 +53,25 @@ length-one n h = ap (λ (d : List ℕ). length d) (decimal-one n h)
 
 pub length-more : (n : ℕ) → 10 ≤ n → length (decimal n) ≡ length (decimal (n / 10)) + 1
 length-more n h = ap (λ (d : List ℕ). length d) (decimal-more n h) ∙ length-append (decimal (n / 10)) (digitChar (n % 10) ∷ [])
+
+-- two, three and four digits, and four more than the number without its last four
+pub length-two : (n : ℕ) → 10 ≤ n → n < 100 → length (decimal n) ≡ 2
+length-two n h l = let a = length-more n h in let b = length-one (n / 10) (omega arith) in omega arith
+
+pub length-three : (n : ℕ) → 100 ≤ n → n < 1000 → length (decimal n) ≡ 3
+length-three n h l = let a = length-more n (omega arith) in let b = length-two (n / 10) (omega arith) (omega arith) in omega arith
+
+pub length-four : (n : ℕ) → 1000 ≤ n → n < 10000 → length (decimal n) ≡ 4
+length-four n h l = let a = length-more n (omega arith) in let b = length-three (n / 10) (omega arith) (omega arith) in omega arith
+
+pub length-four-more : (n : ℕ) → 10000 ≤ n → length (decimal n) ≡ length (decimal (n / 10000)) + 4
+length-four-more n h =
+    let a = length-more n (omega arith) in
+    let b = length-more (n / 10) (omega arith) in
+    let c = length-more (n / 10 / 10) (omega arith) in
+    let d = length-more (n / 10 / 10 / 10) (omega arith) in
+    let e : length (decimal (n / 10 / 10 / 10 / 10)) ≡ length (decimal (n / 10000)) = ap (λ (k : ℕ). length (decimal k)) (let z : n / 10 / 10 / 10 / 10 ≡ n / 10000 = omega arith in z) in
+    omega arith
 
 -- a number has a digit, and one below 10 ^ j at most j
 pub some-digit : (n : ℕ) → 1 ≤ length (decimal n)
@@ -106,9 +125,26 @@ digit-stored l at i x n d h m e q =
     count : suc (i - 1 - at) ≡ i - at
     count = omega arith
 
+-- two of them
+pub two-stored : (l : List ℕ) (at i x y n : ℕ) (d : List ℕ) → at + 1 < i → i ≤ length l → x ≡ digitChar (n % 10) → y ≡ digitChar (n / 10 % 10)
+    → written l at (lastDigits (i - at) n) ≡ d → written (set (set l (i - 1) x) (i - 2) y) at (lastDigits (i - 2 - at) (n / 100)) ≡ d
+two-stored l at i x y n d h m e f q =
+    let once = digit-stored l at i x n d (omega arith) m e q in
+    let twice = digit-stored (set l (i - 1) x) at (i - 1) y (n / 10) d (omega arith) (simp length-set (omega arith)) f once in
+    let back : i - 1 - 1 ≡ i - 2 = omega arith in
+    let all : n / 10 / 10 ≡ n / 100 = omega arith in
+    subst (λ (k : ℕ). written (set (set l (i - 1) x) (i - 2) y) at (lastDigits (i - 2 - at) k) ≡ d) all
+    (subst (λ (k : ℕ). written (set (set l (i - 1) x) k y) at (lastDigits (k - at) (n / 10 / 10)) ≡ d) back twice)
+
 pub digits-done : (l : List ℕ) (at k n : ℕ) (d : List ℕ) → k ≡ 0 → written l at (lastDigits k n) ≡ d → l ≡ d
 unfolding lastDigits
 digits-done l at k n d e q = sym (written-none l at) ∙ ap (λ (j : ℕ). written l at (lastDigits j n)) (sym e) ∙ q
+
+-- the one that is left
+pub last-stored : (l : List ℕ) (at i x n : ℕ) (d : List ℕ) → i ≡ at + 1 → i ≤ length l → x ≡ digitChar (n % 10) → written l at (lastDigits (i - at) n) ≡ d → set l at x ≡ d
+last-stored l at i x n d e m f q =
+    let back : i - 1 ≡ at = omega arith in
+    subst (λ (k : ℕ). set l k x ≡ d) back (digits-done (set l (i - 1) x) at (i - 1 - at) (n / 10) d (omega arith) (digit-stored l at i x n d (omega arith) m f q))
 
 -- a number is written: its one digit, or all its digits
 pub digit-written : (l : List ℕ) (at n x : ℕ) → n < 10 → at < length l → x ≡ digitChar n → Wrote 20 (decimal n) l (set l at x) at (at + 1)

@@ -40,30 +40,43 @@ fn digit(d: u64) -> u8
     (87 + d) as u8
 }
 
-// How many decimal digits a number has.
+// How many decimal digits a number has. A division takes off four of them.
 fn digits_of(n: u64) -> usize
     ensures { λ r. ⌜ (r ≡ length (decimal n)) × (r ≤ 20) ⌝ }
 {
     let mut count: usize = 1;
     let mut left = n;
-    while 10 <= left {
-        left = left / 10;
-        count += 1;
+    while 10000 <= left {
+        left = left / 10000;
+        count += 4;
     }
-    count
+    if left < 10 {
+        return count;
+    }
+    if left < 100 {
+        return count + 1;
+    }
+    if left < 1000 {
+        return count + 2;
+    }
+    count + 3
 }
 
-// The last digits of a number, so many, stored from the right.
+// The last digits of a number, so many, stored from the right, two for each division.
 fn put_digits(out: &mut [u8], at: usize, count: usize, n: u64)
     requires { ⌜ at + count ≤ length (now out) ⌝ }
     ensures { λ r. ⌜ now (out .exit) ≡ written (now (out .entry)) at (lastDigits count n) ⌝ }
 {
     let mut i = at + count;
     let mut left = n;
-    while at < i {
-        i -= 1;
-        out[i] = digit(left % 10);
-        left = left / 10;
+    while at + 1 < i {
+        out[i - 1] = digit(left % 10);
+        out[i - 2] = digit(left / 10 % 10);
+        i -= 2;
+        left = left / 100;
+    }
+    if at < i {
+        out[at] = digit(left % 10);
     }
 }
 
