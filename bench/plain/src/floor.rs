@@ -164,7 +164,7 @@ pub(crate) struct Held {
 }
 
 /// What travels on a line.
-#[derive(Clone, Copy, Debug)]
+#[derive(Clone, Copy, Debug, PartialEq, Eq)]
 pub(crate) enum Record {
     Multicast(Room),
     AckList(Room, u64),

@@ -1,7 +1,9 @@
 //! A floor in the words that the proved controller keeps it in: five parts, laid out as
 //! docs/ARCHITECTURE.md says under "The lent parts".
 
-use crate::floor::{line, Floor, Place, Record, StationNo, CARTS, HELD, STATIONS, TEXT};
+use crate::floor::{
+    line, CartNo, Floor, Place, Record, Room, StationNo, CARTS, HELD, STATIONS, TEXT,
+};
 
 /// Rows of the pool of records.
 pub const ROWS: usize = 3_136;
@@ -142,6 +144,173 @@ impl Floor {
             Record::Deregister(cart) => (4 + 8 * cart.0 as u64, 0),
             Record::Register(cart) => (5 + 8 * cart.0 as u64, 0),
         }
+    }
+}
+
+/// The floor that words say which pass the form rule; of others it may say anything, or panic.
+/// What the rule leaves open where nothing is (in a free room, beyond the stations, behind a text)
+/// is read as empty.
+impl Floor {
+    pub fn from_words(words: &Words) -> Floor {
+        let mut floor = Floor::new();
+        floor.started = words.stations[0] == 1;
+        floor.stations = words.stations[1] as u8;
+        floor.carts = words.stations[2] as u8;
+        floor.read_carts(&words.carts);
+        floor.read_messages(&words.messages, &words.texts);
+        floor.read_stations(words);
+        floor.read_lines(&words.lines);
+        floor
+    }
+
+    fn read_carts(&mut self, words: &[u64]) {
+        for (c, (row, cart)) in words.chunks_exact(19).zip(&mut self.cart).enumerate() {
+            let station = StationNo(row[1] as u8);
+            cart.place = match row[0] {
+                0 => Place::Outside,
+                1 => Place::At(station),
+                2 => Place::Leaving(station),
+                _ => Place::Travelling,
+            };
+            cart.next = std::array::from_fn(|s| row[3 + s] as u16);
+            if cart.place != Place::Outside {
+                self.entered |= 1 << c;
+            }
+        }
+    }
+
+    fn read_messages(&mut self, words: &[u64], texts: &[u8]) {
+        for (m, (row, held)) in words.chunks_exact(6).zip(&mut self.held).enumerate() {
+            if row[4] == 0 {
+                continue;
+            }
+            let initiator = StationNo(row[0] as u8);
+            held.initiator = initiator;
+            held.number = row[1] as u16;
+            held.order = (row[1] as u32) << 4 | (STATIONS as u32 - 1 - row[0] as u32);
+            held.set = row[2];
+            held.acknowledged = row[3];
+            held.undeleted = row[4].count_ones() as u8;
+            held.length = row[5] as u8;
+            let length = held.length as usize;
+            held.text[..length].copy_from_slice(&texts[TEXT * m..][..length]);
+            self.rooms |= 1 << m;
+            self.rooms_by[initiator.at()] |= 1 << m;
+        }
+    }
+
+    fn read_stations(&mut self, words: &Words) {
+        let rows = words.stations.chunks_exact(114).skip(1);
+        for (t, (row, station)) in
+            rows.zip(&mut self.station).take(self.stations as usize).enumerate()
+        {
+            station.sent = row[0] as u16;
+            station.expected = std::array::from_fn(|s| row[1 + s] as u16);
+            station.local = row[17];
+            for (m, held) in self.held.iter().enumerate() {
+                if self.rooms & (1 << m) == 0 {
+                    continue;
+                }
+                let entry = &row[18 + 3 * m..][..3];
+                let waiting = words.messages[6 * m + 4] >> t & 1 == 1;
+                let at = &mut station.buffered[m];
+                at.copy = if waiting { entry[0] } else { 0 };
+                at.ack_list = entry[1];
+                at.queued = entry[2];
+                if waiting && held.number < station.expected[held.initiator.at()] {
+                    station.buffer |= 1 << m;
+                }
+                if at.queued != 0 {
+                    station.queue |= 1 << m;
+                }
+            }
+            let queue = (0..HELD).filter(|m| station.queue >> m & 1 == 1);
+            let head = queue.min_by_key(|&m| self.held[m].order);
+            station.head = Room(head.unwrap_or(0) as u8);
+        }
+    }
+
+    fn read_lines(&mut self, words: &[u64]) {
+        for (k, line) in self.lines.iter_mut().enumerate() {
+            let ends = &words[LINES + 3 * k..][..3];
+            let mut at = ends[0];
+            for _ in 0..ends[2] {
+                let row = &words[RECORDS + 3 * at as usize..][..3];
+                line.push_back(read_record(row[1], row[2]));
+                at = row[0];
+            }
+        }
+    }
+
+    /// Where two floors differ, if they do: in their size, a station, a cart, a held message with
+    /// its text, what a station keeps for it, or a line. Rooms that are free are not looked at, nor
+    /// the copy of a station that has handled the delete.
+    pub fn difference(&self, other: &Floor) -> Option<String> {
+        let size = |f: &Floor| (f.started, f.stations, f.carts, f.entered, f.rooms, f.rooms_by);
+        if size(self) != size(other) {
+            return Some(format!("sizes and rooms: {:?}, {:?}", size(self), size(other)));
+        }
+        for c in 0..CARTS {
+            let (a, b) = (&self.cart[c], &other.cart[c]);
+            if (a.place, a.next) != (b.place, b.next) {
+                return Some(format!("cart {c}: {:?}, {:?}", (a.place, a.next), (b.place, b.next)));
+            }
+        }
+        for m in (0..HELD).filter(|m| self.rooms >> m & 1 == 1) {
+            if let Some(difference) = self.message_difference(other, m) {
+                return Some(difference);
+            }
+        }
+        for t in 0..self.stations as usize {
+            if let Some(difference) = self.station_difference(other, t) {
+                return Some(difference);
+            }
+        }
+        (0..STATIONS * STATIONS)
+            .find(|&k| self.lines[k] != other.lines[k])
+            .map(|k| format!("line {k}: {:?}, {:?}", self.lines[k], other.lines[k]))
+    }
+
+    fn message_difference(&self, other: &Floor, m: usize) -> Option<String> {
+        let said = |f: &Floor| {
+            let h = f.held[m];
+            let text = h.text[..h.length as usize].to_vec();
+            (h.initiator, h.number, h.order, h.set, h.acknowledged, h.undeleted, text)
+        };
+        let (a, b) = (said(self), said(other));
+        (a != b).then(|| format!("room {m}: {a:?}, {b:?}"))
+    }
+
+    fn station_difference(&self, other: &Floor, t: usize) -> Option<String> {
+        let said = |f: &Floor| {
+            let s = &f.station[t];
+            let head = (s.queue != 0).then_some(s.head);
+            (s.sent, s.expected, s.local, s.buffer, s.queue, head)
+        };
+        let (a, b) = (said(self), said(other));
+        if a != b {
+            return Some(format!("station {t}: {a:?}, {b:?}"));
+        }
+        (0..HELD).filter(|m| self.rooms >> m & 1 == 1).find_map(|m| {
+            let said = |f: &Floor| {
+                let at = &f.station[t].buffered[m];
+                (at.copy, at.ack_list, at.queued)
+            };
+            let (a, b) = (said(self), said(other));
+            (a != b).then(|| format!("room {m} at station {t}: {a:x?}, {b:x?}"))
+        })
+    }
+}
+
+fn read_record(word: u64, carts: u64) -> Record {
+    let index = (word >> 3) as u8;
+    match word & 7 {
+        1 => Record::Multicast(Room(index)),
+        2 => Record::AckList(Room(index), carts),
+        3 => Record::Delete(Room(index)),
+        4 => Record::Deregister(CartNo(index)),
+        5 => Record::Register(CartNo(index)),
+        kind => panic!("there are no records of kind {kind}"),
     }
 }
 

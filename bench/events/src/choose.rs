@@ -1,0 +1,91 @@
+//! Which event is tried next: often one that the floor can take, else any numbers, absurd ones among them.
+
+use crate::event::Event;
+use crate::numbers::Numbers;
+use plain::{CartNo, Floor, Place, StationNo};
+
+/// Mostly below n, now and then beside it, or far off.
+fn near(numbers: &mut Numbers, n: u64) -> u64 {
+    match numbers.below(40) {
+        0 => n,
+        1 => numbers.below(70),
+        2 => [255, 256, 1 << 32, 1 << 63, u64::MAX][numbers.below(5) as usize],
+        3 => numbers.next(),
+        _ => numbers.below(n),
+    }
+}
+
+/// Any octets: one time in ten more than a message may have.
+fn text(numbers: &mut Numbers) -> Vec<u8> {
+    let size = if numbers.below(10) == 0 { numbers.below(41) } else { numbers.below(33) };
+    (0..size).map(|_| numbers.next() as u8).collect()
+}
+
+pub fn buffer(numbers: &mut Numbers) -> Vec<u8> {
+    let size = if numbers.below(2) == 0 { 32 } else { numbers.below(41) };
+    (0..size).map(|_| numbers.next() as u8).collect()
+}
+
+/// A set of carts of the floor: of those that entered, of all, or any.
+fn set(numbers: &mut Numbers, floor: Option<&Floor>, k: u64) -> u64 {
+    let entered = floor.map_or(u64::MAX, |f| f.entered());
+    let all = u64::MAX >> (64 - k.clamp(1, 64));
+    match numbers.below(12) {
+        0 => 0,
+        1 => numbers.next(),
+        2 => all & numbers.next() & numbers.next() & numbers.next(),
+        3 => entered,
+        4 => 1 << numbers.below(64),
+        _ => entered & numbers.next() & numbers.next(),
+    }
+}
+
+/// A line with a record, if the one that is looked at first or one behind it has any.
+fn line(numbers: &mut Numbers, floor: &Floor) -> Option<Event> {
+    let n = floor.stations() as u64;
+    let from = numbers.below(n * n);
+    (0..n * n)
+        .map(|k| ((from + k) % (n * n) / n, (from + k) % n))
+        .find(|&(i, j)| floor.on_line(StationNo(i as u8), StationNo(j as u8)) > 0)
+        .map(|(i, j)| Event::Wire(i, j))
+}
+
+/// A cart at the head of some queue.
+fn receiver(numbers: &mut Numbers, floor: &Floor) -> Option<Event> {
+    let n = floor.stations() as u64;
+    let from = numbers.below(n);
+    (0..n).map(|k| (from + k) % n).find_map(|t| {
+        let (queued, _) = floor.head(StationNo(t as u8))?;
+        let here = (0..64u64).filter(|&c| queued >> c & 1 == 1).find(|&c| {
+            numbers.below(2) == 0 && floor.place(CartNo(c as u8)) == Place::At(StationNo(t as u8))
+        })?;
+        Some(Event::Radio(t, here))
+    })
+}
+
+/// An event on a floor of so many stations and carts. One that passes the form rule is started less often than another.
+pub fn event(numbers: &mut Numbers, floor: Option<&Floor>, n: u64, k: u64) -> Event {
+    let kind = match floor {
+        None if numbers.below(5) == 0 => 0,
+        _ => [0, 1, 1, 2, 2, 2, 3, 3, 3, 3, 3, 4, 4, 4, 5, 5][numbers.below(16) as usize],
+    };
+    if let (Some(floor), true) = (floor, numbers.below(4) > 0) {
+        let sensible = match kind {
+            3 => line(numbers, floor),
+            4 => receiver(numbers, floor),
+            _ => None,
+        };
+        if let Some(event) = sensible {
+            return event;
+        }
+    }
+    match kind {
+        0 if numbers.below(2) == 0 => Event::Start(near(numbers, 17), near(numbers, 65)),
+        0 => Event::Start(1 + numbers.below(16), 1 + numbers.below(64)),
+        1 => Event::Enter(near(numbers, n), near(numbers, k)),
+        2 => Event::Send(near(numbers, n), set(numbers, floor, k), text(numbers)),
+        3 => Event::Wire(near(numbers, n), near(numbers, n)),
+        4 => Event::Radio(near(numbers, n), near(numbers, k)),
+        _ => Event::Move(near(numbers, k), near(numbers, n)),
+    }
+}

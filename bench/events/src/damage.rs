@@ -1,0 +1,203 @@
+//! Damage to a lent floor: one word or octet of any part, or a length; and floors that no run reaches soon, but that pass the form rule.
+
+use crate::numbers::Numbers;
+use crate::rule;
+use plain::words::{Words, ROWS};
+
+/// Where the lines and the records begin among the words of the lines.
+const LINES: usize = 50;
+const RECORDS: usize = 818;
+
+/// Another value: any, a small one, one beside it, the neighbour's, or one bit of it changed.
+fn other(numbers: &mut Numbers, words: &[u64], at: usize) -> u64 {
+    let old = words[at];
+    match numbers.below(8) {
+        0 => numbers.next(),
+        1 => numbers.below(70),
+        2 => old.wrapping_add(1),
+        3 => old.wrapping_sub(1),
+        4 => words[if at == 0 { words.len() - 1 } else { at - 1 }],
+        5 => words[(at + 1) % words.len()],
+        _ => old ^ 1 << numbers.below(64),
+    }
+}
+
+/// A row that some record lies in.
+fn used_row(numbers: &mut Numbers, lines: &[u64]) -> Option<usize> {
+    let used: Vec<usize> = (0..ROWS).filter(|r| lines[r / 64] >> (r % 64) & 1 == 0).collect();
+    (!used.is_empty()).then(|| used[numbers.below(used.len() as u64) as usize])
+}
+
+/// A word of the lines, more often than not one that means something.
+fn line_word(numbers: &mut Numbers, lines: &[u64]) -> usize {
+    match (numbers.below(4), used_row(numbers, lines)) {
+        (0, _) => numbers.below(LINES as u64) as usize,
+        (1, _) => LINES + numbers.below((RECORDS - LINES) as u64) as usize,
+        (2, Some(row)) => RECORDS + 3 * row + numbers.below(3) as usize,
+        _ => numbers.below(lines.len() as u64) as usize,
+    }
+}
+
+/// Two records change places: neighbours on a line, or any two.
+fn swap(numbers: &mut Numbers, lines: &mut [u64]) {
+    let (Some(a), Some(any)) = (used_row(numbers, lines), used_row(numbers, lines)) else { return };
+    let next = lines[RECORDS + 3 * a] as usize % ROWS;
+    let b = if numbers.below(2) == 0 { next } else { any };
+    lines.swap(RECORDS + 3 * a + 1, RECORDS + 3 * b + 1);
+    lines.swap(RECORDS + 3 * a + 2, RECORDS + 3 * b + 2);
+}
+
+fn word(numbers: &mut Numbers, w: &mut Words) {
+    match numbers.below(9) {
+        0 => {
+            let at = numbers.below(w.texts.len() as u64) as usize;
+            w.texts[at] ^= 1 << numbers.below(8);
+        }
+        1..=3 => replace(numbers, &mut w.stations),
+        4 => replace(numbers, &mut w.carts),
+        5..=6 => replace(numbers, &mut w.messages),
+        _ => {
+            let at = line_word(numbers, &w.lines);
+            w.lines[at] = other(numbers, &w.lines, at);
+        }
+    }
+}
+
+fn replace(numbers: &mut Numbers, words: &mut [u64]) {
+    let at = numbers.below(words.len() as u64) as usize;
+    words[at] = other(numbers, words, at);
+}
+
+/// One part is shorter, longer or empty.
+fn length(numbers: &mut Numbers, w: &mut Words) {
+    let part = numbers.below(5);
+    let to = |old: usize, numbers: &mut Numbers| match numbers.below(5) {
+        0 => 0,
+        1 => old - 1,
+        2 => old + 1,
+        3 => numbers.below(old as u64) as usize,
+        _ => old + numbers.below(200) as usize,
+    };
+    if part == 4 {
+        let size = to(w.texts.len(), numbers);
+        return w.texts.resize(size, 0);
+    }
+    let words = [&mut w.stations, &mut w.carts, &mut w.messages, &mut w.lines];
+    let words = words.into_iter().nth(part as usize).expect("there are four");
+    let size = to(words.len(), numbers);
+    words.resize(size, 0);
+}
+
+/// A station has used many numbers: it has sent so many, and every station has heard of all of them. Only where none is on the way.
+fn many_numbers(numbers: &mut Numbers, w: &mut Words) {
+    let n = w.stations[1] as usize;
+    let s = numbers.below(n as u64) as usize;
+    if (0..n).any(|t| w.stations[114 * (1 + t) + 1 + s] != w.stations[114 * (1 + s)]) {
+        return;
+    }
+    let sent = [65_535, 65_534, 65_535, 65_533, 40_000][numbers.below(5) as usize];
+    w.stations[114 * (1 + s)] = sent;
+    (0..n).for_each(|t| w.stations[114 * (1 + t) + 1 + s] = sent);
+}
+
+/// What no step looks at: the words of free rooms, of free rows and behind a text.
+fn leftovers(numbers: &mut Numbers, w: &mut Words) {
+    let all = u64::MAX >> (64 - w.stations[2]);
+    for m in 0..32 {
+        if w.messages[6 * m + 4] != 0 {
+            continue;
+        }
+        w.messages[6 * m] = numbers.next();
+        w.messages[6 * m + 1] = numbers.next();
+        w.messages[6 * m + 2] = numbers.next() & all;
+        w.messages[6 * m + 3] = numbers.next() & all;
+        w.messages[6 * m + 5] = numbers.below(33);
+        for t in 1..17 {
+            w.stations[114 * t + 18 + 3 * m] = numbers.next() & all;
+            w.stations[114 * t + 19 + 3 * m] = numbers.next() & all;
+        }
+    }
+    for r in 0..ROWS {
+        if w.lines[r / 64] >> (r % 64) & 1 == 1 {
+            w.lines[RECORDS + 3 * r + numbers.below(3) as usize] = numbers.next();
+        }
+    }
+}
+
+/// A word that says something of a cart, a held message, or what a station of the floor keeps: its part, and where it stands.
+fn meaningful(numbers: &mut Numbers, w: &Words) -> (usize, usize) {
+    let (n, k) = (w.stations[1], w.stations[2]);
+    let held: Vec<usize> = (0..32).filter(|m| w.messages[6 * m + 4] != 0).collect();
+    let room = match held.len() {
+        0 => 0,
+        some => held[numbers.below(some as u64) as usize],
+    };
+    let (t, c) = (numbers.below(n) as usize, numbers.below(k) as usize);
+    match numbers.below(6) {
+        0 => (1, 19 * c + 3 + t),
+        1 => (2, 6 * room + 2 + numbers.below(4) as usize),
+        2 => (0, 114 * (1 + t)),
+        3 => (0, 114 * (1 + t) + 1 + numbers.below(n) as usize),
+        _ => (0, 114 * (1 + t) + 18 + 3 * room + numbers.below(3) as usize),
+    }
+}
+
+/// One word after another takes another value, or a few carts more or less, where the floor then still passes the form rule.
+fn wander(numbers: &mut Numbers, w: &mut Words) {
+    for _ in 0..40 {
+        let (part, at) = meaningful(numbers, w);
+        let few = numbers.next() & numbers.next() & numbers.next();
+        let words = [&mut w.stations, &mut w.carts, &mut w.messages];
+        let words = words.into_iter().nth(part).expect("there are three");
+        let old = words[at];
+        words[at] = match numbers.below(4) {
+            0 => old & !few,
+            1 => old | few & words[if at == 0 { 0 } else { at - 1 }],
+            _ => other(numbers, words, at),
+        };
+        if !rule::passes(&w.stations, &w.carts, &w.messages, &w.lines, &w.texts) {
+            let words = [&mut w.stations, &mut w.carts, &mut w.messages];
+            words.into_iter().nth(part).expect("there are three")[at] = old;
+        }
+    }
+}
+
+/// Damages a floor that passes the form rule. What was done, for the table of trials.
+pub fn damage(numbers: &mut Numbers, w: &mut Words) -> &'static str {
+    match numbers.below(20) {
+        0..=1 => "no damage",
+        2 => {
+            swap(numbers, &mut w.lines);
+            "records change places"
+        }
+        3..=4 => {
+            wander(numbers, w);
+            "words that may change"
+        }
+        5..=6 => {
+            length(numbers, w);
+            "a length"
+        }
+        7 => {
+            w.stations[0] = [0, 0, 2, u64::MAX][numbers.below(4) as usize];
+            "the mark"
+        }
+        8 => {
+            many_numbers(numbers, w);
+            "many numbers"
+        }
+        9 => {
+            leftovers(numbers, w);
+            "leftovers"
+        }
+        10 => {
+            leftovers(numbers, w);
+            word(numbers, w);
+            "leftovers and a word"
+        }
+        _ => {
+            word(numbers, w);
+            "a word"
+        }
+    }
+}

@@ -1,0 +1,105 @@
+//! Events with any numbers, and what the plain floor answers to them.
+
+use crate::proved::Said;
+use crate::rule;
+use plain::words::Words;
+use plain::{CartNo, Floor, Refusal, StationNo, Step};
+
+#[derive(Clone, Debug)]
+pub enum Event {
+    Start(u64, u64),
+    Enter(u64, u64),
+    Send(u64, u64, Vec<u8>),
+    Wire(u64, u64),
+    Radio(u64, u64),
+    Move(u64, u64),
+}
+
+/// The kinds in the order of their numbers.
+pub const KINDS: [&str; 6] = ["start", "enter", "send", "wire", "radio", "move"];
+
+/// How many words and octets each part has.
+const LENGTHS: [usize; 5] = [1_938, 1_216, 192, 10_226, 1_024];
+
+impl Event {
+    pub fn kind(&self) -> usize {
+        match self {
+            Event::Start(..) => 0,
+            Event::Enter(..) => 1,
+            Event::Send(..) => 2,
+            Event::Wire(..) => 3,
+            Event::Radio(..) => 4,
+            Event::Move(..) => 5,
+        }
+    }
+}
+
+/// No floor has the last number that eight bits can say.
+#[inline(always)]
+pub fn station(n: u64) -> StationNo {
+    StationNo(n.min(255) as u8)
+}
+
+#[inline(always)]
+pub fn cart(n: u64) -> CartNo {
+    CartNo(n.min(255) as u8)
+}
+
+#[inline(always)]
+fn refused(number: u64) -> Said {
+    [number, 0, 0, 0, 0, 0, 0]
+}
+
+#[inline(always)]
+pub fn said(kind: u64, answer: Result<(Step, usize), Refusal>) -> Said {
+    match answer {
+        Err(refusal) => refused(refusal.number() as u64),
+        Ok((s, size)) => [0, kind, s.a as u64, s.b as u64, s.p as u64, s.w as u64, size as u64],
+    }
+}
+
+/// The event on the plain floor.
+#[inline(always)]
+pub fn apply(floor: &mut Floor, event: &Event, buffer: &mut [u8]) -> Said {
+    let (kind, answer) = match *event {
+        Event::Start(n, k) => (0, floor.start(n.min(255) as u8, k.min(255) as u8)),
+        Event::Enter(t, c) => (1, floor.enter(station(t), cart(c))),
+        Event::Send(s, set, ref text) => (2, floor.send(station(s), set, text)),
+        Event::Wire(i, j) => (3, floor.wire(station(i), station(j))),
+        Event::Radio(t, c) => return said(4, floor.radio(station(t), cart(c), buffer)),
+        Event::Move(c, to) => (5, floor.move_cart(cart(c), station(to))),
+    };
+    said(kind, answer.map(|step| (step, 0)))
+}
+
+/// Does the event, as 01's table has it, on the floor that the words say; `known` is that floor where they pass the form rule. The answer, and
+/// the floor afterwards if the event was accepted.
+pub fn plain(
+    w: &Words,
+    known: Option<Floor>,
+    event: &Event,
+    buffer: &mut [u8],
+) -> (Said, Option<Floor>) {
+    let mut floor = match event {
+        Event::Start(..) if lengths(w) != LENGTHS => return (refused(5), None),
+        Event::Start(..) if w.stations[0] == 1 => return (refused(6), None),
+        Event::Start(..) => Floor::new(),
+        Event::Send(_, _, text) if text.len() > 32 => return (refused(4), None),
+        _ => match known {
+            Some(floor) => floor,
+            None => return (refused(5), None),
+        },
+    };
+    let answer = apply(&mut floor, event, buffer);
+    (answer, (answer[0] == 0).then_some(floor))
+}
+
+fn lengths(w: &Words) -> [usize; 5] {
+    [w.stations.len(), w.carts.len(), w.messages.len(), w.lines.len(), w.texts.len()]
+}
+
+/// The floor that words say, where they pass the form rule.
+pub fn known(w: &Words) -> Result<Floor, rule::Fault> {
+    rule::check(&w.stations, &w.carts, &w.messages, &w.lines, &w.texts)?;
+    Ok(Floor::from_words(w))
+}

@@ -1,0 +1,109 @@
+//! The proved events. Those with a form test ask nothing of the lent parts: `crates/controller/src/lib.rt`.
+
+use crate::event::Event;
+use plain::words::Words;
+
+/// Words for an answer: the refusal or 0, kind, a, b, p, w, and how many octets of text.
+pub type Said = [u64; 7];
+
+macro_rules! linked {
+    ($($event:ident, $step:ident ( $($part:ident: $ptr:ty),* ; $($arg:ident: $of:ty),* );)*) => {
+        mod linked {
+            extern "C" {
+                $(pub fn $event(
+                    stations: *mut u64, station_words: usize,
+                    carts: *mut u64, cart_words: usize,
+                    messages: *mut u64, message_words: usize,
+                    lines: *mut u64, line_words: usize,
+                    texts: *mut u8, text_octets: usize,
+                    $($arg: $of,)*
+                    $($part: $ptr, size: usize,)*
+                    out: *mut u64, out_words: usize,
+                );
+                pub fn $step(
+                    stations: *mut u64, station_words: usize,
+                    carts: *mut u64, cart_words: usize,
+                    messages: *mut u64, message_words: usize,
+                    lines: *mut u64, line_words: usize,
+                    texts: *mut u8, text_octets: usize,
+                    $($arg: $of,)*
+                    $($part: $ptr, size: usize,)*
+                    out: *mut u64, out_words: usize,
+                );)*
+                pub fn mekhturia_start(
+                    stations: *mut u64, station_words: usize,
+                    carts: *mut u64, cart_words: usize,
+                    messages: *mut u64, message_words: usize,
+                    lines: *mut u64, line_words: usize,
+                    texts: *mut u8, text_octets: usize,
+                    n: u64, k: u64,
+                    out: *mut u64, out_words: usize,
+                );
+            }
+        }
+    };
+}
+
+linked! {
+    mekhturia_enter, mekhturia_step_enter(; station: u64, cart: u64);
+    mekhturia_send, mekhturia_step_send(text: *const u8; station: u64, set: u64);
+    mekhturia_wire, mekhturia_step_wire(; from: u64, to: u64);
+    mekhturia_radio, mekhturia_step_radio(buffer: *mut u8; station: u64, cart: u64);
+    mekhturia_move, mekhturia_step_move(; cart: u64, to: u64);
+}
+
+/// Lends the floor's parts, then what the event has, then the words for the answer.
+macro_rules! call {
+    ($name:ident, $w:expr, $out:expr, $($arg:expr),*) => {
+        linked::$name(
+            $w.stations.as_mut_ptr(), $w.stations.len(),
+            $w.carts.as_mut_ptr(), $w.carts.len(),
+            $w.messages.as_mut_ptr(), $w.messages.len(),
+            $w.lines.as_mut_ptr(), $w.lines.len(),
+            $w.texts.as_mut_ptr(), $w.texts.len(),
+            $($arg,)*
+            $out.as_mut_ptr(), $out.len(),
+        )
+    };
+}
+
+/// A whole event, form test and all, on any words. `out` has at least seven.
+#[inline(always)]
+pub fn call(w: &mut Words, event: &Event, buffer: &mut [u8], out: &mut [u64]) {
+    assert!(out.len() >= 7);
+    unsafe {
+        match *event {
+            Event::Start(n, k) => call!(mekhturia_start, w, out, n, k),
+            Event::Enter(t, c) => call!(mekhturia_enter, w, out, t, c),
+            Event::Send(s, set, ref text) => {
+                call!(mekhturia_send, w, out, s, set, text.as_ptr(), text.len())
+            }
+            Event::Wire(i, j) => call!(mekhturia_wire, w, out, i, j),
+            Event::Radio(t, c) => {
+                call!(mekhturia_radio, w, out, t, c, buffer.as_mut_ptr(), buffer.len())
+            }
+            Event::Move(c, to) => call!(mekhturia_move, w, out, c, to),
+        }
+    }
+}
+
+/// An event without the form test; start has none.
+///
+/// # Safety
+/// The floor passes the form rule, and a text has at most 32 octets.
+#[inline(always)]
+pub unsafe fn step(w: &mut Words, event: &Event, buffer: &mut [u8], out: &mut [u64]) {
+    assert!(out.len() >= 7);
+    match *event {
+        Event::Start(n, k) => call!(mekhturia_start, w, out, n, k),
+        Event::Enter(t, c) => call!(mekhturia_step_enter, w, out, t, c),
+        Event::Send(s, set, ref text) => {
+            call!(mekhturia_step_send, w, out, s, set, text.as_ptr(), text.len())
+        }
+        Event::Wire(i, j) => call!(mekhturia_step_wire, w, out, i, j),
+        Event::Radio(t, c) => {
+            call!(mekhturia_step_radio, w, out, t, c, buffer.as_mut_ptr(), buffer.len())
+        }
+        Event::Move(c, to) => call!(mekhturia_step_move, w, out, c, to),
+    }
+}

@@ -1,0 +1,68 @@
+//! Floors that events reach: small and full-size ones, after short and long runs.
+
+use crate::floors;
+use crate::numbers::Numbers;
+use plain::{CartNo, Floor, StationNo};
+
+/// A size: often small, now and then the largest.
+fn size(numbers: &mut Numbers) -> (u64, u64) {
+    match numbers.below(6) {
+        0 => (16, 64),
+        1..=3 => (1 + numbers.below(4), 1 + numbers.below(8)),
+        _ => (1 + numbers.below(16), 1 + numbers.below(64)),
+    }
+}
+
+fn text(numbers: &mut Numbers) -> Vec<u8> {
+    (0..numbers.below(33)).map(|_| numbers.next() as u8).collect()
+}
+
+/// Which kinds come how often: a run may have few sends or many, and its lines may fill or stay short.
+fn weights(numbers: &mut Numbers) -> [u64; 5] {
+    std::array::from_fn(|kind| 1 + numbers.below([4, 4, 4, 12, 24][kind]))
+}
+
+fn step(numbers: &mut Numbers, floor: &mut Floor, weights: &[u64; 5], n: u64, k: u64) {
+    let (s, t) = (StationNo(numbers.below(n) as u8), StationNo(numbers.below(n) as u8));
+    let cart = CartNo(numbers.below(k) as u8);
+    let mut at = numbers.below(weights.iter().sum());
+    let kind = weights.iter().position(|&w| {
+        let here = at < w;
+        at = at.wrapping_sub(w);
+        here
+    });
+    // A refused event is none.
+    let _ = match kind {
+        Some(0) => floor.enter(s, cart),
+        Some(1) => {
+            let set = floor.entered() & numbers.next() & numbers.next();
+            floor.send(s, set, &text(numbers))
+        }
+        Some(2) => floor.move_cart(cart, t),
+        Some(3) => {
+            let queued = floor.head(s).map_or(0, |(queued, _)| queued);
+            let cart = if queued == 0 { cart } else { CartNo(queued.trailing_zeros() as u8) };
+            floor.radio(s, cart, &mut [0; 32]).map(|(step, _)| step)
+        }
+        _ => floor.wire(s, t),
+    };
+}
+
+/// What some run leaves.
+pub fn floor(numbers: &mut Numbers) -> Floor {
+    match numbers.below(30) {
+        0 => return floors::few(8),
+        1 => return floors::few(32),
+        2 => return floors::many(),
+        3..=5 => return floors::random(numbers.below(1 << 40)),
+        _ => {}
+    }
+    let (n, k) = size(numbers);
+    let mut floor = Floor::new();
+    floor.start(n as u8, k as u8).expect("the size is one that a floor may have");
+    let weights = weights(numbers);
+    for _ in 0..numbers.below(16) << numbers.below(9) {
+        step(numbers, &mut floor, &weights, n, k);
+    }
+    floor
+}

@@ -1,0 +1,385 @@
+// The events under C names, for bench/events, which tries them on damaged floors and measures them. Each does what it calls does, on a floor
+// lent by a program in another language. An answer cannot cross as it is, so each asks for seven words to put it into: this crate is for
+// measuring alone, and asks for them by `requires`. A name with `step` leaves the form test out and asks that the floor passes it.
+use answers::Answer;
+use ids::CartNumber;
+use ids::Station;
+use receiving::Handing;
+ghost use mathlib.Core.Path.{_≡_};
+ghost use mathlib.Core.Bool.{true};
+ghost use mathlib.Core.List.{[]};
+ghost use Prim.Native.Nat.{_≤_};
+ghost use lib.ListN.{length};
+ghost use Rattle.protocol.specs.Floor.{limits};
+ghost use Rattle.protocol.specs.Events.{start, enter, send, wire, radio, move, bufferAfter};
+ghost use Rattle.protocol.specs.Form.{passesForm};
+ghost use Rattle.protocol.specs.Step.{answer};
+ghost use Rattle.view.specs.View.{lent, floorIn};
+ghost use Rattle.answers.specs.Answers.{answerIn};
+ghost use Rattle.answers.specs.Met.{Met};
+ghost use Rattle.exported.specs.Told.{sevenWords, answerWords, Told};
+
+// Seven words, at the front of the lent ones.
+fn put_words(out: &mut [u64], refusal: u64, kind: u64, a: u64, b: u64, p: u64, w: u64, size: u64)
+    requires { ⌜ 7 ≤ length (now out) ⌝ }
+    ensures { λ _. ⌜ now (out .exit) ≡ sevenWords (now (out .entry)) refusal kind a b p w size ⌝ }
+    ensures { λ _. ⌜ length (now (out .exit)) ≡ length (now (out .entry)) ⌝ }
+{
+    out[0] = refusal;
+    out[1] = kind;
+    out[2] = a;
+    out[3] = b;
+    out[4] = p;
+    out[5] = w;
+    out[6] = size;
+}
+
+// The words of an answer: the refusal's number, or 0; "kind, a, b, p, w"; how many octets of text.
+fn put_answer_words(out: &mut [u64], answer: Answer)
+    requires { ⌜ 7 ≤ length (now out) ⌝ }
+    ensures { λ _. ⌜ now (out .exit) ≡ answerWords (now (out .entry)) answer ⌝ }
+    ensures { λ _. ⌜ length (now (out .exit)) ≡ length (now (out .entry)) ⌝ }
+{
+    let refusal = answers::refusal_of(answer);
+    let said = printing::report_of(answer);
+    let size = printing::octets_of(answer) as u64;
+    put_words(
+        out,
+        refusal,
+        said.kind,
+        said.a,
+        said.b,
+        said.p,
+        said.w,
+        size,
+    );
+}
+
+// Start, of so many stations and carts.
+#[no_mangle]
+pub extern "C" fn mekhturia_start(
+    stations: &mut [u64],
+    carts: &mut [u64],
+    messages: &mut [u64],
+    lines: &mut [u64],
+    texts: &[u8],
+    n: u64,
+    k: u64,
+    out: &mut [u64],
+)
+    requires { ⌜ 7 ≤ length (now out) ⌝ }
+    ensures { λ _. ⌜ Told (lent (now (stations .entry)) (now (carts .entry)) (now (messages .entry)) (now (lines .entry)) (now (texts .entry))) (lent (now (stations .exit)) (now (carts .exit)) (now (messages .exit)) (now (lines .exit)) (now (texts .entry))) (start n k) [] (now (out .entry)) (now (out .exit)) ⌝ }
+{
+    let answer = controller::start(stations, carts, messages, lines, texts, n, k);
+    put_answer_words(out, answer);
+}
+
+// "Enter (station, cart)".
+#[no_mangle]
+pub extern "C" fn mekhturia_enter(
+    stations: &mut [u64],
+    carts: &mut [u64],
+    messages: &[u64],
+    lines: &[u64],
+    texts: &[u8],
+    station: u64,
+    cart: u64,
+    out: &mut [u64],
+)
+    requires { ⌜ 7 ≤ length (now out) ⌝ }
+    ensures { λ _. ⌜ Told (lent (now (stations .entry)) (now (carts .entry)) (now (messages .entry)) (now (lines .entry)) (now (texts .entry))) (lent (now (stations .exit)) (now (carts .exit)) (now (messages .entry)) (now (lines .entry)) (now (texts .entry))) (enter station cart) [] (now (out .entry)) (now (out .exit)) ⌝ }
+{
+    let answer = controller::enter(
+        stations,
+        carts,
+        messages,
+        lines,
+        texts,
+        Station(station),
+        CartNumber(cart),
+    );
+    put_answer_words(out, answer);
+}
+
+// "Send (station, set, text)".
+#[no_mangle]
+pub extern "C" fn mekhturia_send(
+    stations: &mut [u64],
+    carts: &[u64],
+    messages: &mut [u64],
+    lines: &mut [u64],
+    texts: &mut [u8],
+    station: u64,
+    set: u64,
+    text: &[u8],
+    out: &mut [u64],
+)
+    requires { ⌜ 7 ≤ length (now out) ⌝ }
+    ensures { λ _. ⌜ Told (lent (now (stations .entry)) (now (carts .entry)) (now (messages .entry)) (now (lines .entry)) (now (texts .entry))) (lent (now (stations .exit)) (now (carts .entry)) (now (messages .exit)) (now (lines .exit)) (now (texts .exit))) (send station set (now (text .entry))) [] (now (out .entry)) (now (out .exit)) ⌝ }
+{
+    let answer = controller::send(
+        stations,
+        carts,
+        messages,
+        lines,
+        texts,
+        Station(station),
+        set,
+        text,
+    );
+    put_answer_words(out, answer);
+}
+
+// "Wire (from, to)".
+#[no_mangle]
+pub extern "C" fn mekhturia_wire(
+    stations: &mut [u64],
+    carts: &mut [u64],
+    messages: &mut [u64],
+    lines: &mut [u64],
+    texts: &[u8],
+    from: u64,
+    to: u64,
+    out: &mut [u64],
+)
+    requires { ⌜ 7 ≤ length (now out) ⌝ }
+    ensures { λ _. ⌜ Told (lent (now (stations .entry)) (now (carts .entry)) (now (messages .entry)) (now (lines .entry)) (now (texts .entry))) (lent (now (stations .exit)) (now (carts .exit)) (now (messages .exit)) (now (lines .exit)) (now (texts .entry))) (wire from to) [] (now (out .entry)) (now (out .exit)) ⌝ }
+{
+    let answer = controller::wire(
+        stations,
+        carts,
+        messages,
+        lines,
+        texts,
+        Station(from),
+        Station(to),
+    );
+    put_answer_words(out, answer);
+}
+
+// "Radio (station, cart)".
+#[no_mangle]
+pub extern "C" fn mekhturia_radio(
+    stations: &mut [u64],
+    carts: &mut [u64],
+    messages: &[u64],
+    lines: &mut [u64],
+    texts: &[u8],
+    station: u64,
+    cart: u64,
+    buffer: &mut [u8],
+    out: &mut [u64],
+)
+    requires { ⌜ 7 ≤ length (now out) ⌝ }
+    ensures { λ _. ⌜ Told (lent (now (stations .entry)) (now (carts .entry)) (now (messages .entry)) (now (lines .entry)) (now (texts .entry))) (lent (now (stations .exit)) (now (carts .exit)) (now (messages .entry)) (now (lines .exit)) (now (texts .entry))) (radio station cart (length (now (buffer .entry)))) (now (buffer .exit)) (now (out .entry)) (now (out .exit)) ⌝ }
+    ensures { λ _. ⌜ now (buffer .exit) ≡ bufferAfter (answer limits (floorIn (lent (now (stations .entry)) (now (carts .entry)) (now (messages .entry)) (now (lines .entry)) (now (texts .entry)))) (radio station cart (length (now (buffer .entry))))) (now (buffer .entry)) ⌝ }
+{
+    let answer = controller::radio(
+        stations,
+        carts,
+        messages,
+        lines,
+        texts,
+        Station(station),
+        CartNumber(cart),
+        buffer,
+    );
+    put_answer_words(out, answer);
+}
+
+// "Move (cart, to)".
+#[no_mangle]
+pub extern "C" fn mekhturia_move(
+    stations: &[u64],
+    carts: &mut [u64],
+    messages: &[u64],
+    lines: &mut [u64],
+    texts: &[u8],
+    cart: u64,
+    to: u64,
+    out: &mut [u64],
+)
+    requires { ⌜ 7 ≤ length (now out) ⌝ }
+    ensures { λ _. ⌜ Told (lent (now (stations .entry)) (now (carts .entry)) (now (messages .entry)) (now (lines .entry)) (now (texts .entry))) (lent (now (stations .entry)) (now (carts .exit)) (now (messages .entry)) (now (lines .exit)) (now (texts .entry))) (move cart to) [] (now (out .entry)) (now (out .exit)) ⌝ }
+{
+    let answer = controller::move_cart(
+        stations,
+        carts,
+        messages,
+        lines,
+        texts,
+        CartNumber(cart),
+        Station(to),
+    );
+    put_answer_words(out, answer);
+}
+
+// "Enter (station, cart)", on a floor that passes the form rule.
+#[no_mangle]
+pub extern "C" fn mekhturia_step_enter(
+    stations: &mut [u64],
+    carts: &mut [u64],
+    messages: &[u64],
+    lines: &[u64],
+    texts: &[u8],
+    station: u64,
+    cart: u64,
+    out: &mut [u64],
+)
+    requires { ⌜ passesForm limits (floorIn (lent (now stations) (now carts) (now messages) (now lines) (now texts))) ≡ true ⌝ }
+    requires { ⌜ 7 ≤ length (now out) ⌝ }
+    ensures { λ _. ⌜ Told (lent (now (stations .entry)) (now (carts .entry)) (now (messages .entry)) (now (lines .entry)) (now (texts .entry))) (lent (now (stations .exit)) (now (carts .exit)) (now (messages .entry)) (now (lines .entry)) (now (texts .entry))) (enter station cart) [] (now (out .entry)) (now (out .exit)) ⌝ }
+{
+    let answer = rolling::enter(
+        stations,
+        carts,
+        messages,
+        lines,
+        texts,
+        Station(station),
+        CartNumber(cart),
+    );
+    put_answer_words(out, answer);
+}
+
+// "Send (station, set, text)", on a floor that passes the form rule.
+#[no_mangle]
+pub extern "C" fn mekhturia_step_send(
+    stations: &mut [u64],
+    carts: &[u64],
+    messages: &mut [u64],
+    lines: &mut [u64],
+    texts: &mut [u8],
+    station: u64,
+    set: u64,
+    text: &[u8],
+    out: &mut [u64],
+)
+    requires { ⌜ passesForm limits (floorIn (lent (now stations) (now carts) (now messages) (now lines) (now texts))) ≡ true ⌝ }
+    requires { ⌜ length (now text) ≤ 32 ⌝ }
+    requires { ⌜ 7 ≤ length (now out) ⌝ }
+    ensures { λ _. ⌜ Told (lent (now (stations .entry)) (now (carts .entry)) (now (messages .entry)) (now (lines .entry)) (now (texts .entry))) (lent (now (stations .exit)) (now (carts .entry)) (now (messages .exit)) (now (lines .exit)) (now (texts .exit))) (send station set (now (text .entry))) [] (now (out .entry)) (now (out .exit)) ⌝ }
+{
+    let answer = posting::send(
+        stations,
+        carts,
+        messages,
+        lines,
+        texts,
+        Station(station),
+        set,
+        text,
+    );
+    put_answer_words(out, answer);
+}
+
+// "Wire (from, to)", on a floor that passes the form rule.
+#[no_mangle]
+pub extern "C" fn mekhturia_step_wire(
+    stations: &mut [u64],
+    carts: &mut [u64],
+    messages: &mut [u64],
+    lines: &mut [u64],
+    texts: &[u8],
+    from: u64,
+    to: u64,
+    out: &mut [u64],
+)
+    requires { ⌜ passesForm limits (floorIn (lent (now stations) (now carts) (now messages) (now lines) (now texts))) ≡ true ⌝ }
+    requires { ⌜ 7 ≤ length (now out) ⌝ }
+    ensures { λ _. ⌜ Told (lent (now (stations .entry)) (now (carts .entry)) (now (messages .entry)) (now (lines .entry)) (now (texts .entry))) (lent (now (stations .exit)) (now (carts .exit)) (now (messages .exit)) (now (lines .exit)) (now (texts .entry))) (wire from to) [] (now (out .entry)) (now (out .exit)) ⌝ }
+{
+    let answer = wiring::wire(
+        stations,
+        carts,
+        messages,
+        lines,
+        texts,
+        Station(from),
+        Station(to),
+    );
+    put_answer_words(out, answer);
+}
+
+// A radio step and its buffer, as `controller::radio` has them behind the form test.
+fn receive(
+    stations: &mut [u64],
+    carts: &mut [u64],
+    messages: &[u64],
+    lines: &mut [u64],
+    texts: &[u8],
+    station: Station,
+    cart: CartNumber,
+    buffer: &mut [u8],
+) -> Answer
+    requires { ⌜ passesForm limits (floorIn (lent (now stations) (now carts) (now messages) (now lines) (now texts))) ≡ true ⌝ }
+    ensures { λ a. ⌜ Met (lent (now (stations .entry)) (now (carts .entry)) (now (messages .entry)) (now (lines .entry)) (now (texts .entry))) (lent (now (stations .exit)) (now (carts .exit)) (now (messages .entry)) (now (lines .exit)) (now (texts .entry))) (radio (station .0) (cart .0) (length (now (buffer .entry)))) (answerIn a (now (buffer .exit))) ⌝ }
+    ensures { λ a. ⌜ now (buffer .exit) ≡ bufferAfter (answer limits (floorIn (lent (now (stations .entry)) (now (carts .entry)) (now (messages .entry)) (now (lines .entry)) (now (texts .entry)))) (radio (station .0) (cart .0) (length (now (buffer .entry))))) (now (buffer .entry)) ⌝ }
+{
+    let room = buffer.len();
+    let handing = receiving::radio(stations, carts, messages, lines, texts, station, cart, room);
+    let Handing::Over(m, size, initiator, number, p, w) = handing else {
+        return Answer::Refused(receiving::refusal(handing));
+    };
+    messages::copy_text(texts, m, size, buffer);
+    Answer::Received(initiator, number, p, w, size)
+}
+
+// "Radio (station, cart)", on a floor that passes the form rule.
+#[no_mangle]
+pub extern "C" fn mekhturia_step_radio(
+    stations: &mut [u64],
+    carts: &mut [u64],
+    messages: &[u64],
+    lines: &mut [u64],
+    texts: &[u8],
+    station: u64,
+    cart: u64,
+    buffer: &mut [u8],
+    out: &mut [u64],
+)
+    requires { ⌜ passesForm limits (floorIn (lent (now stations) (now carts) (now messages) (now lines) (now texts))) ≡ true ⌝ }
+    requires { ⌜ 7 ≤ length (now out) ⌝ }
+    ensures { λ _. ⌜ Told (lent (now (stations .entry)) (now (carts .entry)) (now (messages .entry)) (now (lines .entry)) (now (texts .entry))) (lent (now (stations .exit)) (now (carts .exit)) (now (messages .entry)) (now (lines .exit)) (now (texts .entry))) (radio station cart (length (now (buffer .entry)))) (now (buffer .exit)) (now (out .entry)) (now (out .exit)) ⌝ }
+    ensures { λ _. ⌜ now (buffer .exit) ≡ bufferAfter (answer limits (floorIn (lent (now (stations .entry)) (now (carts .entry)) (now (messages .entry)) (now (lines .entry)) (now (texts .entry)))) (radio station cart (length (now (buffer .entry))))) (now (buffer .entry)) ⌝ }
+{
+    let answer = receive(
+        stations,
+        carts,
+        messages,
+        lines,
+        texts,
+        Station(station),
+        CartNumber(cart),
+        buffer,
+    );
+    put_answer_words(out, answer);
+}
+
+// "Move (cart, to)", on a floor that passes the form rule.
+#[no_mangle]
+pub extern "C" fn mekhturia_step_move(
+    stations: &[u64],
+    carts: &mut [u64],
+    messages: &[u64],
+    lines: &mut [u64],
+    texts: &[u8],
+    cart: u64,
+    to: u64,
+    out: &mut [u64],
+)
+    requires { ⌜ passesForm limits (floorIn (lent (now stations) (now carts) (now messages) (now lines) (now texts))) ≡ true ⌝ }
+    requires { ⌜ 7 ≤ length (now out) ⌝ }
+    ensures { λ _. ⌜ Told (lent (now (stations .entry)) (now (carts .entry)) (now (messages .entry)) (now (lines .entry)) (now (texts .entry))) (lent (now (stations .entry)) (now (carts .exit)) (now (messages .entry)) (now (lines .exit)) (now (texts .entry))) (move cart to) [] (now (out .entry)) (now (out .exit)) ⌝ }
+{
+    let answer = rolling::move_cart(
+        stations,
+        carts,
+        messages,
+        lines,
+        texts,
+        CartNumber(cart),
+        Station(to),
+    );
+    put_answer_words(out, answer);
+}
