@@ -208,7 +208,17 @@ fn turn(
     if g.state == OVER {
         return g;
     }
-    run_piece(to, input, output, stations, carts, messages, lines, texts, g)
+    run_piece(
+        to,
+        input,
+        output,
+        stations,
+        carts,
+        messages,
+        lines,
+        texts,
+        g,
+    )
 }
 
 // Is there anything more to be done? A proved loop has to end, and nothing says that the input does: so turns are counted down from a number
@@ -250,7 +260,16 @@ fn run_all(
     while goes_on(turns, f) {
         turns -= 1;
         f = turn(
-            from, to, input, output, stations, carts, messages, lines, texts, f,
+            from,
+            to,
+            input,
+            output,
+            stations,
+            carts,
+            messages,
+            lines,
+            texts,
+            f,
         );
     }
 }

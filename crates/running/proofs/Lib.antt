@@ -2,3 +2,4 @@ pub mod Pieces
 pub mod Events
 pub mod Turns
 pub mod Loop
+pub mod Whole

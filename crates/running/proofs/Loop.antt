@@ -17,7 +17,7 @@ use Rattle.report.proofs.Octets.{written-none}
 use Rattle.running.specs.declared.Progress.{Progress}
 use Rattle.running.specs.Piece.{runFrom}
 use Rattle.running.specs.Ready.{Ready}
-use Rattle.running.specs.Went.{InRun, NoneWhole, Went, Turned}
+use Rattle.running.specs.Went.{InRun, NoneWhole, EndsRun, Went, Turned}
 
 -- the first progress
 abbrev pub none-yet : Progress
@@ -33,6 +33,7 @@ pub record Going (input : List ℕ) (index : ℕ) (last : Bool) (L₀ L : Lent) 
   pub few : p .state ≡ 0 → p .frames ≤ p .read
   pub counted : p .frames ≤ p .read + 1
   pub waits : p .state ≡ 1 → NoneWhole last (readAt limits input (p .read))
+  pub ends : p .state ≡ 2 → EndsRun last (readAt limits input (p .read))
 
 -- what falls with each frame: the octets left, and that the run goes on
 abbrev pub left : List ℕ → Progress → ℕ
@@ -44,13 +45,14 @@ module _ (input : List ℕ) (index : ℕ) (last : Bool) (L₀ : Lent) (out₀ : 
   going-first R =
       record {
         ready = R;
-        run = record { floor = refl; read = refl; wrote = refl; fits = omega arith; octets = sym (written-none out₀ 0); ended = refl };
+        run = record { floor = refl; counted = refl; read = refl; wrote = refl; fits = omega arith; octets = sym (written-none out₀ 0); ended = refl };
         inside = omega arith;
         within = omega arith;
         kept = refl;
         few = λ z. omega arith;
         counted = omega arith;
         waits = λ z. absurd (omega arith);
+        ends = λ z. absurd (omega arith);
       }
 
   module _ (L : Lent) (out : List ℕ) (p : Progress) (g : Going input index last L₀ L out₀ out p) where
@@ -65,6 +67,7 @@ module _ (input : List ℕ) (index : ℕ) (last : Bool) (L₀ : Lent) (out₀ : 
           few = t .few;
           counted = t .counted;
           waits = t .waits;
+          ends = t .ends;
         }
 
     pub going-less : (L′ : Lent) (out′ : List ℕ) (r : Progress) → p .state ≡ 0 → Turned input index last L L′ out out′ p r → left input r < left input p
@@ -89,10 +92,11 @@ module _ (input : List ℕ) (index : ℕ) (last : Bool) (L₀ : Lent) (out₀ : 
             ready = g .ready;
             run = g .run;
             inside = g .inside;
-            counted = g .counted;
+            few = g .counted;
             within = let a = g .within in let k = g .kept in omega arith;
             kept = g .kept;
             waits = g .waits;
+            ends = g .ends;
             full = λ z. let none : leb (p .written + longestLine) (length out) ≡ false = ap (λ (x : Bool). x && leb (p .written + longestLine) (length out)) (sym (eq-eqb (p .state) 0 z)) ∙ sym test ∙ t in
                 let short = leb-false (p .written + longestLine) (length out) none in let k = g .kept in omega arith;
           }

@@ -28,16 +28,16 @@ prints (suc n) F index l = by (frameOf limits l) refl (λ e size. prints n (step
 -- a frame behind what was run, if the run has not ended
 abbrev pub more : Ran → ℕ → Reading → Ran
 more R index end = R
-more R index (refusedFrame r) = record { printed = R .printed ++ lineOf index (refused r); floor = R .floor; octets = R .octets; ended = true }
+more R index (refusedFrame r) = record { count = suc (R .count); printed = R .printed ++ lineOf index (refused r); floor = R .floor; octets = R .octets; ended = true }
 more R index (taken e size) =
-    record { printed = R .printed ++ lineOf index (answer limits (R .floor) e); floor = step limits (R .floor) e; octets = R .octets + size; ended = false }
+    record { count = suc (R .count); printed = R .printed ++ lineOf index (answer limits (R .floor) e); floor = step limits (R .floor) e; octets = R .octets + size; ended = false }
 
 abbrev pub onward : Ran → ℕ → Reading → Ran
 onward R index r = cond (R .ended) R (more R index r)
 
 -- a run with a frame before it
 abbrev behind : List ℕ → ℕ → Ran → Ran
-behind line size R = record { printed = line ++ R .printed; floor = R .floor; octets = size + R .octets; ended = R .ended }
+behind line size R = record { count = suc (R .count); printed = line ++ R .printed; floor = R .floor; octets = size + R .octets; ended = R .ended }
 
 behind-more : (line : List ℕ) (size : ℕ) (R : Ran) (index : ℕ) (r : Reading) → behind line size (onward R index r) ≡ onward (behind line size R) index r
 behind-more line size R index r = by-ended (R .ended) refl r
@@ -46,10 +46,10 @@ behind-more line size R index r = by-ended (R .ended) refl r
     by-ended true q r = rw q refl
     by-ended false q end = rw q refl
     by-ended false q (refusedFrame x) =
-        rw q (λ i. record { printed = sym (append-assoc line (R .printed) (lineOf index (refused x))) i; floor = R .floor; octets = size + R .octets; ended = true })
+        rw q (λ i. record { count = suc (suc (R .count)); printed = sym (append-assoc line (R .printed) (lineOf index (refused x))) i; floor = R .floor; octets = size + R .octets; ended = true })
     by-ended false q (taken e k) =
         rw q (let sums : size + (R .octets + k) ≡ size + R .octets + k = omega arith in
-        λ i. record { printed = sym (append-assoc line (R .printed) (lineOf index (answer limits (R .floor) e))) i; floor = step limits (R .floor) e; octets = sums i; ended = false })
+        λ i. record { count = suc (suc (R .count)); printed = sym (append-assoc line (R .printed) (lineOf index (answer limits (R .floor) e))) i; floor = step limits (R .floor) e; octets = sums i; ended = false })
 
 pub one-more : (n : ℕ) (F : Floor) (index : ℕ) (l : List ℕ)
     → runFrom (suc n) F index l ≡ onward (runFrom n F index l) (index + n) (readAt limits l (runFrom n F index l .octets))
@@ -62,7 +62,7 @@ one-more zero F index l = by (frameOf limits l) refl
     by : (r : Reading) → frameOf limits l ≡ r → runFrom 1 F index l ≡ onward (still F) (index + 0) (frameOf limits l)
     by end q = rw (q, runFrom) refl
     by (refusedFrame r) q = rw (q, plus, runFrom) refl
-    by (taken e size) q = rw (q, plus, runFrom) (let sums : size + 0 ≡ 0 + size = omega arith in λ i. record { printed = append-nil (lineOf index (answer limits F e)) i; floor = step limits F e; octets = sums i; ended = false })
+    by (taken e size) q = rw (q, plus, runFrom) (let sums : size + 0 ≡ 0 + size = omega arith in λ i. record { count = 1; printed = append-nil (lineOf index (answer limits F e)) i; floor = step limits F e; octets = sums i; ended = false })
 one-more (suc n) F index l = by (frameOf limits l) refl (λ e size. one-more n (step limits F e) (suc index) (drop size l))
   where
     by : (r : Reading) → frameOf limits l ≡ r

@@ -7,7 +7,7 @@ use Prim.Native.Nat.{ℕ, zero, suc, _+_, _-_, _*_, _≤_, _<_}
 use native.Mathlib.Omega.{arith}
 use lib.Dec.{eqb}
 use lib.ListN.{length, drop, length-append}
-use borrow.Author.Tests.{eqb-true, eq-eqb, ne-eqb, not-true}
+use borrow.Author.Tests.{eqb-true, eq-eqb, ne-eqb, not-true, not-false}
 use denote.Enum.Declared.{tagOf}
 use types.Run.{OneOf, miss}
 use Rattle.protocol.proofs.Tests.{and-left, and-right}
@@ -31,7 +31,7 @@ use Rattle.frames.proofs.Reading.{the-type as reading-type}
 use Rattle.running.specs.declared.Progress.{Progress}
 use Rattle.running.specs.Piece.{Ran, runFrom}
 use Rattle.running.specs.Ready.{Ready}
-use Rattle.running.specs.Went.{InRun, NoneWhole, Took, Turned}
+use Rattle.running.specs.Went.{InRun, NoneWhole, EndsRun, Took, Turned}
 use Rattle.running.proofs.Pieces.{more, onward, one-more}
 use Rattle.running.proofs.Events.{goes-on}
 
@@ -59,15 +59,21 @@ not-cut number last n = rw (ne-eqb number 1 n) refl
 pub cut : (number : ℕ) (last : Bool) → number ≡ 1 → not last ≡ (eqb number 1 && not last)
 cut number last e = rw (eq-eqb number 1 e) refl
 
+-- and one that is refused is not
+pub cut-only-last : (number : ℕ) (last b : Bool) → b ≡ (eqb number 1 && not last) → b ≡ false → number ≡ 1 → last ≡ true
+cut-only-last number last b e f q =
+    let there : not last ≡ false = ap (λ (x : Bool). x && not last) (sym (eq-eqb number 1 q)) ∙ sym e ∙ f in
+    not-false last there
+
 -- THE STATE OF A RUN, one line further
 module _ (R : Ran) (L L′ : Lent) (out₀ out out′ : List ℕ) (p r : Progress) (most : ℕ) (line : List ℕ) (now-in : InRun R L out₀ out p)
     (wrote : Wrote most line out out′ (p .written) (r .written)) (room : p .written + most ≤ length out) where
   whole : length out ≡ length out₀
   whole = let a = now-in .wrote in let b = now-in .fits in ap length (now-in .octets) ∙ written-length out₀ 0 (R .printed) (omega arith)
 
-  further : (X : Floor) (k : ℕ) (b : Bool) → floorIn L′ ≡ X → r .read ≡ k → b ≡ eqb (r .state) 2
-      → InRun (record { printed = R .printed ++ line; floor = X; octets = k; ended = b }) L′ out₀ out′ r
-  further X k b f q e =
+  further : (X : Floor) (k : ℕ) (b : Bool) → r .frames ≡ p .frames + 1 → floorIn L′ ≡ X → r .read ≡ k → b ≡ eqb (r .state) 2
+      → InRun (record { count = suc (R .count); printed = R .printed ++ line; floor = X; octets = k; ended = b }) L′ out₀ out′ r
+  further X k b n f q e =
       let a = now-in .wrote in
       let c = wrote .behind in
       let d = wrote .few in
@@ -76,6 +82,7 @@ module _ (R : Ran) (L L′ : Lent) (out₀ out out′ : List ℕ) (p r : Progres
       let zero-more : p .written ≡ 0 + length (R .printed) = omega arith in
       record {
         floor = f;
+        counted = let z = now-in .counted in omega arith;
         read = q;
         wrote = omega arith;
         fits = omega arith;
@@ -109,7 +116,7 @@ module _ (input : List ℕ) (index : ℕ) (last : Bool) (L : Lent) (out : List �
       stands =
           record {
             ready = ready;
-            runs = λ F out₀ h. record { floor = h .floor; read = h .read; wrote = h .wrote; fits = h .fits; octets = h .octets; ended = h .ended ∙ ne-eqb (p .state) 2 (λ z. omega arith) };
+            runs = λ F out₀ h. record { floor = h .floor; counted = h .counted; read = h .read; wrote = h .wrote; fits = h .fits; octets = h .octets; ended = h .ended ∙ ne-eqb (p .state) 2 (λ z. omega arith) };
             inside = inside;
             within = omega arith;
             kept = refl;
@@ -118,19 +125,20 @@ module _ (input : List ℕ) (index : ℕ) (last : Bool) (L : Lent) (out : List �
             onward = λ z. absurd (omega arith);
             stays = omega arith;
             waits = λ z. none;
+            ends = λ z. absurd (omega arith);
           }
 
   -- one is refused, and ends the run
   pub turned-refused : (out′ : List ℕ) (r : Progress) (number : ℕ) → readAt limits input (p .read) ≡ refusedFrame number
       → Wrote longestRefusal (lineOf (index + p .frames) (refused number)) out out′ (p .written) (r .written) → (r .read ≡ p .read) × (r .frames ≡ p .frames + 1) × (r .state ≡ 2)
-      → Turned input index last L L out out′ p r
-  turned-refused out′ r number q wrote is =
+      → (number ≡ 1 → last ≡ true) → Turned input index last L L out out′ p r
+  turned-refused out′ r number q wrote is cut-last =
       record {
         ready = ready;
         runs = λ F out₀ h.
             subst (λ (X : Ran). InRun X L out₀ out′ r) (sym (next-frame input index F L out₀ out p going (r .frames) (refusedFrame number) h (is .1) q))
             (further (runFrom (p .frames) F index input) L L out₀ out out′ p r longestRefusal _ h wrote (omega arith) (runFrom (p .frames) F index input .floor) (runFrom (p .frames) F index input .octets) true
-            (h .floor) (is .0 ∙ h .read) (sym (eq-eqb (r .state) 2 (is .2))));
+            (is .1) (h .floor) (is .0 ∙ h .read) (sym (eq-eqb (r .state) 2 (is .2))));
         inside = let a = is .0 in omega arith;
         within = let a = wrote .few in omega arith;
         kept = wrote .kept;
@@ -139,6 +147,7 @@ module _ (input : List ℕ) (index : ℕ) (last : Bool) (L : Lent) (out : List �
         onward = λ z. absurd (let a = is .2 in omega arith);
         stays = let a = is .0 in omega arith;
         waits = λ z. absurd (let a = is .2 in omega arith);
+        ends = λ z. subst (λ (x : Reading). EndsRun last x) (sym (ap (readAt limits input) (is .0) ∙ q)) cut-last;
       }
 
   -- one is an event
@@ -153,7 +162,7 @@ module _ (input : List ℕ) (index : ℕ) (last : Bool) (L : Lent) (out : List �
             let line = subst (λ (a : events.Answer). Wrote longestLine (lineOf (index + p .frames) a) out out′ (p .written) (r .written)) same (t .line) in
             subst (λ (Y : Ran). InRun Y L′ out₀ out′ r) (sym (next-frame input index F L out₀ out p going (r .frames) (taken e size) h (t .frames) q))
             (further X L L′ out₀ out out′ p r longestLine _ h line room (step limits (X .floor) e) (X .octets + size) false
-            (t .floor ∙ ap (λ (G : Floor). step limits G e) (h .floor)) (let a = h .read in let b = t .read in omega arith) (sym (ne-eqb (r .state) 2 (λ z. let a = t .state in omega arith))));
+            (t .frames) (t .floor ∙ ap (λ (G : Floor). step limits G e) (h .floor)) (let a = h .read in let b = t .read in omega arith) (sym (ne-eqb (r .state) 2 (λ z. let a = t .state in omega arith))));
         inside = let a = t .read in omega arith;
         within = let a = t .line .few in omega arith;
         kept = t .line .kept;
@@ -162,6 +171,7 @@ module _ (input : List ℕ) (index : ℕ) (last : Bool) (L : Lent) (out : List �
         onward = λ z. let a = t .read in omega arith;
         stays = let a = t .read in omega arith;
         waits = λ z. absurd (let a = t .state in omega arith);
+        ends = λ z. absurd (let a = t .state in omega arith);
       }
 
 -- WHAT THE DECODER SAID of the frame there

@@ -9,8 +9,9 @@ use Rattle.protocol.specs.Step.{step, answer}
 use Rattle.protocol.specs.Frames.{end, refusedFrame, taken, frameOf}
 use Rattle.protocol.specs.Printed.{lineOf}
 
--- what so many frames printed, the floor that they left, how many octets they took, and whether one of them ended the run
+-- what so many frames printed, how many there were, the floor that they left, how many octets they took, and whether one of them ended the run
 pub record Ran : Type 0 where
+  pub count : ℕ
   pub printed : List ℕ
   pub floor : Floor
   pub octets : ℕ
@@ -18,7 +19,7 @@ pub record Ran : Type 0 where
 
 -- nothing was read
 abbrev pub still : Floor → Ran
-still F = record { printed = []; floor = F; octets = 0; ended = false }
+still F = record { count = 0; printed = []; floor = F; octets = 0; ended = false }
 
 -- so many frames of these octets, or as many as there are
 unfoldable pub runFrom : ℕ → Floor → ℕ → List ℕ → Ran
@@ -26,8 +27,8 @@ runFrom zero F index l = still F
 runFrom (suc n) F index l =
     elim (frameOf limits l) [
       | end ↦ still F
-      | refusedFrame r ↦ record { printed = lineOf index (refused r); floor = F; octets = 0; ended = true }
+      | refusedFrame r ↦ record { count = 1; printed = lineOf index (refused r); floor = F; octets = 0; ended = true }
       | taken e size ↦
           let rest = runFrom n (step limits F e) (suc index) (drop size l) in
-          record { printed = lineOf index (answer limits F e) ++ rest .printed; floor = rest .floor; octets = size + rest .octets; ended = rest .ended }
+          record { count = suc (rest .count); printed = lineOf index (answer limits F e) ++ rest .printed; floor = rest .floor; octets = size + rest .octets; ended = rest .ended }
     ]

@@ -1,6 +1,6 @@
 -- HOW FAR A PIECE OF INPUT WAS RUN: the frames taken from its front, and the octets written to the front of the output.
 use mathlib.Core.Path.{_≡_}
-use mathlib.Core.Bool.{Bool, false}
+use mathlib.Core.Bool.{Bool, true, false}
 use mathlib.Core.List.{List}
 use Prim.Native.Nat.{ℕ, _+_, _<_, _≤_}
 use lib.Dec.{eqb}
@@ -19,6 +19,7 @@ use Rattle.running.specs.Ready.{Ready}
 -- the state of a run: the floor that L says, and the lines at the front of the output, which was out₀ before
 pub record InRun (R : Ran) (L : Lent) (out₀ out : List ℕ) (p : Progress) : Type 0 where
   pub floor : floorIn L ≡ R .floor
+  pub counted : p .frames ≡ R .count
   pub read : p .read ≡ R .octets
   pub wrote : p .written ≡ length (R .printed)
   pub fits : p .written ≤ length out₀
@@ -31,16 +32,23 @@ NoneWhole last end = Unit {0}
 NoneWhole last (refusedFrame r) = (r ≡ 1) × (last ≡ false)
 NoneWhole last (taken e size) = ⊥
 
+-- a frame that ends the run: one that is cut ends it only where the input ends
+abbrev pub EndsRun : Bool → Reading → Type 0
+EndsRun last end = ⊥
+EndsRun last (refusedFrame r) = r ≡ 1 → last ≡ true
+EndsRun last (taken e size) = ⊥
+
 -- THE PIECE WAS RUN, from L and the output out, to L′ and out′: as many frames as are counted, which is the written run over them. It stopped
 -- because a frame was refused (2), because no whole frame is left (1), or because the output has no room for another line (0)
 pub record Went (input : List ℕ) (index : ℕ) (last : Bool) (L L′ : Lent) (out out′ : List ℕ) (p : Progress) : Type 0 where
   pub ready : Ready L′
   pub run : InRun (runFrom (p .frames) (floorIn L) index input) L′ out out′ p
   pub inside : p .read ≤ length input
-  pub counted : p .frames ≤ p .read + 1
+  pub few : p .frames ≤ p .read + 1
   pub within : p .written ≤ length out
   pub kept : length out′ ≡ length out
   pub waits : p .state ≡ 1 → NoneWhole last (readAt limits input (p .read))
+  pub ends : p .state ≡ 2 → EndsRun last (readAt limits input (p .read))
   pub full : p .state ≡ 0 → length out < p .written + longestLine
 
 -- ONE EVENT of a frame was taken: the floor and the line are the written ones
@@ -64,3 +72,4 @@ pub record Turned (input : List ℕ) (index : ℕ) (last : Bool) (L L′ : Lent)
   pub onward : r .state ≡ 0 → p .read < r .read
   pub stays : p .read ≤ r .read
   pub waits : r .state ≡ 1 → NoneWhole last (readAt limits input (r .read))
+  pub ends : r .state ≡ 2 → EndsRun last (readAt limits input (r .read))

@@ -304,7 +304,16 @@ fn take_frame(
             }
         }
         Reading::Taken(e) => take_event(
-            input, output, stations, carts, messages, lines, texts, index, p, e,
+            input,
+            output,
+            stations,
+            carts,
+            messages,
+            lines,
+            texts,
+            index,
+            p,
+            e,
         ),
     }
 }
@@ -346,7 +355,16 @@ pub fn take_frames(
     };
     while goes_on(output, p) {
         p = take_frame(
-            input, output, stations, carts, messages, lines, texts, index, p, last,
+            input,
+            output,
+            stations,
+            carts,
+            messages,
+            lines,
+            texts,
+            index,
+            p,
+            last,
         );
     }
     p

@@ -3,7 +3,7 @@ use native.Mathlib.Omega.{arith}
 use denote.Ref.{now}
 use Rattle.view.specs.View.{lent}
 use Rattle.frames.proofs.Values.{event-inside}
-use Rattle.running.proofs.Turns.{turned-waits, turned-refused, turned-taken, none-left, cut-left, refused-there, taken-there, least-size}
+use Rattle.running.proofs.Turns.{turned-waits, turned-refused, turned-taken, none-left, cut-left, refused-there, cut-only-last, taken-there, least-size}
 use borrow.Author.Needs.{needs}
 use Rattle.running.proofs.take_frame.Statement.{statement}
 use Rattle.running.proofs.take_frame.Tie as tie
@@ -45,7 +45,7 @@ same-length : tie.Need-same-length
 same-length c = search needs
 
 returns-3 : tie.Need-returns-3
-returns-3 c = let a = c .before .before .before .before .before .before .before .before .before .before .before .before .before .before .before .before .before .args in turned-refused (now (a .input)) (a .index) (a .last) (lent (now (a .stations)) (now (a .carts)) (now (a .messages)) (now (a .lines)) (now (a .texts))) (now (a .output)) (a .p) (c .before .before .before .before .before .before .before .before .before .before .before .before .before .before .before .before .before .pre .0) (c .before .before .before .before .before .before .before .before .before .before .before .before .before .before .before .before .before .pre .1 .0 .0) (c .before .before .before .before .before .before .before .before .before .before .before .before .before .before .before .before .before .pre .1 .0 .1) (c .before .before .before .before .before .before .before .before .before .before .before .before .before .before .before .before .before .pre .1 .0 .2) (c .before .before .before .before .before .before .before .before .before .before .before .before .before .before .before .before .before .pre .1 .1 .0) _ _ _ (refused-there (now (a .input)) (a .p .read) (a .last) (c .before .before .before .before .before .before .before .before .before .frame-at .result) (c .before .before .before .before .before .before .before .before .before .frame-at .ensures) _ (c .before .before .before .before .before .before .before .reading .given .1)) (c .before .before .refuse .ensures .0) (c .before .before .refuse .ensures .1)
+returns-3 c = let a = c .before .before .before .before .before .before .before .before .before .before .before .before .before .before .before .before .before .args in turned-refused (now (a .input)) (a .index) (a .last) (lent (now (a .stations)) (now (a .carts)) (now (a .messages)) (now (a .lines)) (now (a .texts))) (now (a .output)) (a .p) (c .before .before .before .before .before .before .before .before .before .before .before .before .before .before .before .before .before .pre .0) (c .before .before .before .before .before .before .before .before .before .before .before .before .before .before .before .before .before .pre .1 .0 .0) (c .before .before .before .before .before .before .before .before .before .before .before .before .before .before .before .before .before .pre .1 .0 .1) (c .before .before .before .before .before .before .before .before .before .before .before .before .before .before .before .before .before .pre .1 .0 .2) (c .before .before .before .before .before .before .before .before .before .before .before .before .before .before .before .before .before .pre .1 .1 .0) _ _ _ (refused-there (now (a .input)) (a .p .read) (a .last) (c .before .before .before .before .before .before .before .before .before .frame-at .result) (c .before .before .before .before .before .before .before .before .before .frame-at .ensures) _ (c .before .before .before .before .before .before .before .reading .given .1)) (c .before .before .refuse .ensures .0) (c .before .before .refuse .ensures .1) (cut-only-last _ _ _ (c .before .before .before .before .before .may-come .ensures) (c .before .before .before .before .if1 .left))
 
 same-length-2 : tie.Need-same-length-2
 same-length-2 c = search needs
