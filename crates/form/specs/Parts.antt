@@ -4,9 +4,10 @@ use mathlib.Core.Bool.{cond, not, true}
 use mathlib.Core.Logic.{_⊎_}
 use Prim.Native.Nat.{ℕ, _≤_, _<_}
 use lib.Dec.{eqb, ltb}
-use Rattle.protocol.specs.CartSets.{has, minus, setOf}
+use Rattle.protocol.specs.CartSets.{has, union, minus, setOf}
 use Rattle.protocol.specs.Floor.{Floor, Place, localTo, isHeld, isMessage}
-use Rattle.protocol.specs.Claims.{Claim, is, eq, both, when, all}
+use Rattle.protocol.specs.Claims.{Claim, is, both, when, all}
+use Rattle.stations.specs.View.{Stations}
 use Rattle.form.specs.Tables.{numberGiven, deleteRight}
 
 -- "It is local to a station when at it or leaving it": of the sixteen stations, a cart in that place is local to s and to no other
@@ -31,11 +32,16 @@ namesBefore F m = all m (λ k. is (not (isMessage F (F .initiator m) (F .number 
 abbrev pub heldBefore : Floor → ℕ → Claim
 heldBefore F m = when (is (isHeld F m)) (both (numberGiven F m) (both (namesBefore F m) (deleteRight F m)))
 
--- EACH ROOM m AT EACH STATION t: a queued cart c is local, the message is held, names it, and is its next
-abbrev pub queued : Floor → ℕ → ℕ → ℕ → Claim
-queued F m t c =
-    when (is (has (F .queue m t) c))
-    (both (is (isHeld F m)) (both (is (localTo (F .place c) t)) (both (eq (F .next c (F .initiator m)) (F .number m)) (is (has (F .named m) c)))))
+-- EACH ROOM m AT THE STATIONS: x has the members of f u for each u below t, and no other
+pub record Collects (f : ℕ → ℕ) (t x : ℕ) : Type 0 where
+  pub had : (u c : ℕ) → u < t → has (f u) c ≡ true → has x c ≡ true
+  pub of : (c : ℕ) → has x c ≡ true → (u : ℕ) × (u < t) × (has (f u) c ≡ true)
+
+-- at the stations below t: the carts in a copy, in an ack list or in the queue; the queued ones; and those queued where they are not local
+pub record Entries (S : Stations) (m t sets queued strays : ℕ) : Type 0 where
+  pub all : Collects (λ u. union (S .copy m u) (union (S .acks m u) (S .queue m u))) t sets
+  pub queue : Collects (S .queue m) t queued
+  pub away : Collects (λ u. minus (S .queue m u) (S .local u)) t strays
 
 -- the named carts that the copy does not have, where the message has come
 abbrev pub missingAt : Floor → ℕ → ℕ → ℕ

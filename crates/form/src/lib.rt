@@ -19,7 +19,7 @@ ghost use Rattle.carts.specs.View.{cartsIn, canonicalIn};
 ghost use Rattle.messages.specs.View.{HasRoom};
 ghost use Rattle.view.specs.View.{lent, localRight, shortText};
 ghost use Rattle.form.specs.Tables.{tables, Sized, countsRule, roomSets, heldNames, copyNamed, copiesRule, tablesRule};
-ghost use Rattle.form.specs.Parts.{Home, mostOf, heldBefore, queued, missingAt, Few};
+ghost use Rattle.form.specs.Parts.{Home, mostOf, heldBefore, Entries, missingAt, Few};
 
 // "An unstarted floor fails it", "Stations 1 to 16", "Carts 1 to 64".
 fn counts_ok(stations: &[u64]) -> bool
@@ -439,67 +439,66 @@ fn all_next(carts: &[u64], set: u64, s: u64, n: u64) -> bool
     true
 }
 
-// "a queued cart is local, the message is held, names it, and is its next": the carts queued at station t for the message in room m. The
-// mask of the station's local carts is right, so it says which are local.
-fn queue_ok(stations: &[u64], carts: &[u64], messages: &[u64], m: usize, t: Station) -> bool
-    requires { ⌜ Sized (now stations) (now carts) (now messages) × (m < rooms) × (t .0 < 16) × (localRight (lent (now stations) (now carts) [] [] []) (t .0) ≡ true) ⌝ }
-    ensures { λ r. ⌜ r ≡ test (all 64 (queued (tables (now (stations .entry)) (now (carts .entry)) (now (messages .entry))) m (t .0))) ⌝ }
+// What the stations have of one room: the carts in any of its sets, the queued ones, and those of them that are queued where they are not
+// local.
+struct Gathered {
+    sets: u64,
+    queued: u64,
+    strays: u64,
+}
+
+// Of room m, at the sixteen stations. The mask of a station's local carts says which are local. No set is looked into, so it costs the same
+// whatever they hold.
+fn gather(stations: &[u64], m: usize) -> Gathered
+    requires { ⌜ (length (now stations) ≡ 1938) × (m < rooms) ⌝ }
+    ensures { λ r. ⌜ Entries (stationsIn (now (stations .entry))) m 16 (r .sets) (r .queued) (r .strays) ⌝ }
 {
-    let queue = stations::queue_of(stations, m, t);
-    if queue == 0 {
+    let mut sets: u64 = 0;
+    let mut queued: u64 = 0;
+    let mut strays: u64 = 0;
+    let mut t: u64 = 0;
+    while t < 16 {
+        let copy = stations::copy_of(stations, m, Station(t));
+        let acks = stations::acks_of(stations, m, Station(t));
+        let queue = stations::queue_of(stations, m, Station(t));
+        let local = stations::local_of(stations, Station(t));
+        sets = cartset::union(sets, cartset::union(copy, cartset::union(acks, queue)));
+        queued = cartset::union(queued, queue);
+        strays = cartset::union(strays, cartset::minus(queue, local));
+        t += 1;
+    }
+    Gathered {
+        sets,
+        queued,
+        strays,
+    }
+}
+
+// "its sets are of the floor", with the greatest such set given; "a queued cart is local, the message is held, names it, and is its next": of
+// room m at every station. A cart is looked at once, wherever it is queued.
+fn entries_of(stations: &[u64], carts: &[u64], messages: &[u64], m: usize, most: u64) -> bool
+    requires { ⌜ Sized (now stations) (now carts) (now messages) × (m < rooms) × ((t : ℕ) → t < 16 → localRight (lent (now stations) (now carts) [] [] []) t ≡ true) × (most ≡ mostOf (headIn (now stations) .carts)) ⌝ }
+    ensures { λ r. ⌜ r ≡ test (all 16 (entryRule limits (tables (now (stations .entry)) (now (carts .entry)) (now (messages .entry))) m)) ⌝ }
+{
+    let met = gather(stations, m);
+    if most < met.sets {
+        return false;
+    }
+    if 0 < met.strays {
+        return false;
+    }
+    if met.queued == 0 {
         return true;
     }
     if messages::waiting_of(messages, m) == 0 {
         return false;
     }
-    if !cartset::is_within(queue, stations::local_of(stations, t)) {
-        return false;
-    }
-    if !cartset::is_within(queue, messages::named_of(messages, m)) {
+    if !cartset::is_within(met.queued, messages::named_of(messages, m)) {
         return false;
     }
     let s = messages::initiator_of(messages, m);
     let n = messages::number_of(messages, m);
-    all_next(carts, queue, s.0, n.0)
-}
-
-// "its sets are of the floor", with the greatest such set given; and the queue.
-fn entry_ok(
-    stations: &[u64],
-    carts: &[u64],
-    messages: &[u64],
-    m: usize,
-    t: Station,
-    most: u64,
-) -> bool
-    requires { ⌜ Sized (now stations) (now carts) (now messages) × (m < rooms) × (t .0 < 16) × (localRight (lent (now stations) (now carts) [] [] []) (t .0) ≡ true) × (most ≡ mostOf (headIn (now stations) .carts)) ⌝ }
-    ensures { λ r. ⌜ r ≡ test (entryRule limits (tables (now (stations .entry)) (now (carts .entry)) (now (messages .entry))) m (t .0)) ⌝ }
-{
-    if most < stations::copy_of(stations, m, t) {
-        return false;
-    }
-    if most < stations::acks_of(stations, m, t) {
-        return false;
-    }
-    if most < stations::queue_of(stations, m, t) {
-        return false;
-    }
-    queue_ok(stations, carts, messages, m, t)
-}
-
-// The entries of every room at station t, which stand side by side.
-fn entries_at(stations: &[u64], carts: &[u64], messages: &[u64], t: Station, most: u64) -> bool
-    requires { ⌜ Sized (now stations) (now carts) (now messages) × (t .0 < 16) × (localRight (lent (now stations) (now carts) [] [] []) (t .0) ≡ true) × (most ≡ mostOf (headIn (now stations) .carts)) ⌝ }
-    ensures { λ r. ⌜ r ≡ test (all 32 (λ m. entryRule limits (tables (now (stations .entry)) (now (carts .entry)) (now (messages .entry))) m (t .0))) ⌝ }
-{
-    let mut m: usize = 0;
-    while m < 32 {
-        if !entry_ok(stations, carts, messages, m, t, most) {
-            return false;
-        }
-        m += 1;
-    }
-    true
+    all_next(carts, met.queued, s.0, n.0)
 }
 
 // The entries of every room at every station.
@@ -508,12 +507,12 @@ fn entries_ok(stations: &[u64], carts: &[u64], messages: &[u64]) -> bool
     ensures { λ r. ⌜ r ≡ test (all 32 (λ m. all 16 (entryRule limits (tables (now (stations .entry)) (now (carts .entry)) (now (messages .entry))) m))) ⌝ }
 {
     let most = most_of(stations::cart_count(stations));
-    let mut t: u64 = 0;
-    while t < 16 {
-        if !entries_at(stations, carts, messages, Station(t), most) {
+    let mut m: usize = 0;
+    while m < 32 {
+        if !entries_of(stations, carts, messages, m, most) {
             return false;
         }
-        t += 1;
+        m += 1;
     }
     true
 }

@@ -14,3 +14,4 @@ pub mod Theorem
 pub mod CodeLaws
 pub mod StepLaws
 pub mod PassLaws
+pub mod Chained

@@ -6,7 +6,7 @@ use lines::Record;
 ghost use mathlib.Core.Path.{_≡_};
 ghost use mathlib.Core.Bool.{_&&_, _||_, cond, not, true, false};
 ghost use mathlib.Core.List.{List};
-ghost use Prim.Native.Nat.{ℕ, _<_, _≤_, _^_};
+ghost use Prim.Native.Nat.{ℕ, _+_, _*_, _<_, _≤_, _^_};
 ghost use lib.Dec.{eqb, ltb};
 ghost use lib.ListN.{length};
 ghost use Rattle.protocol.specs.Folds.{every, listOf};
@@ -19,10 +19,11 @@ ghost use Rattle.carts.specs.Records.{seen};
 ghost use Rattle.carts.specs.View.{cartsIn};
 ghost use Rattle.messages.specs.View.{roomsIn};
 ghost use Rattle.view.specs.Records.{isIn};
-ghost use Rattle.lines.specs.Form.{form};
+ghost use Rattle.lines.specs.Form.{form, sized};
+ghost use Rattle.lines.specs.Parts.{Walked};
 ghost use Rattle.formlines.specs.Said.{aMulticast, anAckList, aDelete, aDeregister, said, saidOn};
 ghost use Rattle.formlines.specs.Pass.{isLeaving, isTravelling, right, provided, fresh, meet, along, onLine, fromStation, fromEach, gathered, apart, isTaken, passed, ended, movers, passes, linesPass};
-ghost use Rattle.formlines.specs.Ways.{metOf, outcome, Inside};
+ghost use Rattle.formlines.specs.Ways.{metOf, outcome, Inside, Whole, Checked};
 
 // Both are yes.
 fn both(a: bool, b: bool) -> bool
@@ -288,9 +289,16 @@ fn meet(
     take(masks, way, both(open, right), r)
 }
 
-// The records of the line from i to j, one after the other.
+// A walk, so far: its rows are rows of the pool, each met once, and the tails are right; and what was met on it.
+struct Walk {
+    whole: bool,
+    met: Way,
+}
+
+// The records of the line from i to j, one after the other, with a mark for each row that they lie in.
 fn along(
     masks: &mut [u64],
+    seen: &mut [u64],
     messages: &[u64],
     carts: &[u64],
     lines: &[u64],
@@ -299,22 +307,33 @@ fn along(
     i: u64,
     j: u64,
     way: Way,
-) -> Way
-    requires { ⌜ (length (now masks) ≡ 32) × (length (now messages) ≡ 192) × (length (now carts) ≡ 1216) × (form (now lines) ≡ true) × (k ≤ 64) × (i < 16) × (j < 16) ⌝ }
-    ensures { λ x. ⌜ metOf x (now (masks .exit)) ≡ along n k (cartsIn (now (carts .entry))) (roomsIn (now (messages .entry))) (metOf way (now (masks .entry))) i j (saidOn (now (lines .entry)) i j) ⌝ }
-    ensures { λ _. ⌜ length (now (masks .exit)) ≡ length (now (masks .entry)) ⌝ }
+) -> Walk
+    requires { ⌜ (length (now masks) ≡ 32) × (length (now seen) ≡ 49) × (length (now messages) ≡ 192) × (length (now carts) ≡ 1216) × (sized (now lines) ≡ true) × (k ≤ 64) × (i < 16) × (j < 16) ⌝ }
+    ensures { λ x. ⌜ Walked (now (lines .entry)) (i * 16 + j) (now (seen .entry)) (now (seen .exit)) (x .whole) ⌝ }
+    ensures { λ x. ⌜ (x .whole ≡ true → metOf (x .met) (now (masks .exit)) ≡ along n k (cartsIn (now (carts .entry))) (roomsIn (now (messages .entry))) (metOf way (now (masks .entry))) i j (saidOn (now (lines .entry)) i j)) × ((length (now (masks .exit)) ≡ length (now (masks .entry))) × (length (now (seen .exit)) ≡ length (now (seen .entry)))) ⌝ }
 {
     let line = (i * 16 + j) as usize;
+    let rows = lines::row_count(lines);
     let mut left = lines::length_of(lines, line);
     let mut row = lines::head_of(lines, line);
+    let mut last = lines::tail_of(lines, line);
     let mut met = way;
     while 0 < left {
+        if rows <= row {
+            return Walk { whole: false, met };
+        }
+        if lines::is_marked(seen, row) {
+            return Walk { whole: false, met };
+        }
+        lines::mark(seen, row);
         let r = lines::record_of(lines, row);
         met = meet(masks, messages, carts, n, k, i, j, met, r);
+        last = row;
         row = lines::next_of(lines, row);
         left -= 1;
     }
-    met
+    let whole = last == lines::tail_of(lines, line);
+    Walk { whole, met }
 }
 
 // ---- All lines.
@@ -322,6 +341,7 @@ fn along(
 // The line from i to j: its multicasts run from the number that j expects up to what i has sent.
 fn on_line(
     masks: &mut [u64],
+    seen: &mut [u64],
     stations: &[u64],
     messages: &[u64],
     carts: &[u64],
@@ -331,10 +351,11 @@ fn on_line(
     i: u64,
     j: u64,
     way: Way,
-) -> Way
-    requires { ⌜ (length (now masks) ≡ 32) × (length (now stations) ≡ 1938) × (length (now messages) ≡ 192) × (length (now carts) ≡ 1216) × (form (now lines) ≡ true) × (k ≤ 64) × (i < 16) × (j < 16) ⌝ }
-    ensures { λ x. ⌜ metOf x (now (masks .exit)) ≡ onLine n k (cartsIn (now (carts .entry))) (roomsIn (now (messages .entry))) (stationsIn (now (stations .entry))) (now (lines .entry)) (metOf way (now (masks .entry))) i j ⌝ }
-    ensures { λ _. ⌜ length (now (masks .exit)) ≡ length (now (masks .entry)) ⌝ }
+) -> Walk
+    requires { ⌜ (length (now masks) ≡ 32) × (length (now seen) ≡ 49) × (length (now stations) ≡ 1938) × (length (now messages) ≡ 192) × (length (now carts) ≡ 1216) × (sized (now lines) ≡ true) × (k ≤ 64) × (i < 16) × (j < 16) ⌝ }
+    ensures { λ x. ⌜ Walked (now (lines .entry)) (i * 16 + j) (now (seen .entry)) (now (seen .exit)) (x .whole) ⌝ }
+    ensures { λ x. ⌜ (x .whole ≡ true → metOf (x .met) (now (masks .exit)) ≡ onLine n k (cartsIn (now (carts .entry))) (roomsIn (now (messages .entry))) (stationsIn (now (stations .entry))) (now (lines .entry)) (metOf way (now (masks .entry))) i j) ⌝ }
+    ensures { λ _. ⌜ (length (now (masks .exit)) ≡ length (now (masks .entry))) × (length (now (seen .exit)) ≡ length (now (seen .entry))) ⌝ }
 {
     let expected = stations::expected_of(stations, Station(j), Station(i));
     let sent = stations::sent_of(stations, Station(i));
@@ -344,19 +365,24 @@ fn on_line(
         gone: 0,
         found: way.found,
     };
-    let met = along(masks, messages, carts, lines, n, k, i, j, begin);
+    let walk = along(masks, seen, messages, carts, lines, n, k, i, j, begin);
+    let met = walk.met;
     let ok = both(met.ok, either(n <= j, met.next == sent));
-    Way {
-        ok,
-        next: met.next,
-        gone: met.gone,
-        found: met.found,
+    Walk {
+        whole: walk.whole,
+        met: Way {
+            ok,
+            next: met.next,
+            gone: met.gone,
+            found: met.found,
+        },
     }
 }
 
-// The lines from station i.
+// The lines from station i, once those of the stations before it are whole.
 fn from_station(
     masks: &mut [u64],
+    seen: &mut [u64],
     stations: &[u64],
     messages: &[u64],
     carts: &[u64],
@@ -365,23 +391,39 @@ fn from_station(
     k: u64,
     i: u64,
     way: Way,
-) -> Way
-    requires { ⌜ (length (now masks) ≡ 32) × (length (now stations) ≡ 1938) × (length (now messages) ≡ 192) × (length (now carts) ≡ 1216) × (form (now lines) ≡ true) × (k ≤ 64) × (i < 16) ⌝ }
-    ensures { λ x. ⌜ metOf x (now (masks .exit)) ≡ fromStation n k (cartsIn (now (carts .entry))) (roomsIn (now (messages .entry))) (stationsIn (now (stations .entry))) (now (lines .entry)) (metOf way (now (masks .entry))) i 16 ⌝ }
-    ensures { λ _. ⌜ length (now (masks .exit)) ≡ length (now (masks .entry)) ⌝ }
+) -> Walk
+    requires { ⌜ (length (now masks) ≡ 32) × (length (now seen) ≡ 49) × (length (now stations) ≡ 1938) × (length (now messages) ≡ 192) × (length (now carts) ≡ 1216) × (sized (now lines) ≡ true) × (k ≤ 64) × (i < 16) × Whole (now lines) (i * 16) (now seen) ⌝ }
+    ensures { λ x. ⌜ Checked (now (lines .entry)) (i * 16 + 16) (now (seen .exit)) (x .whole) (metOf (x .met) (now (masks .exit))) (fromStation n k (cartsIn (now (carts .entry))) (roomsIn (now (messages .entry))) (stationsIn (now (stations .entry))) (now (lines .entry)) (metOf way (now (masks .entry))) i 16) × ((length (now (masks .exit)) ≡ length (now (masks .entry))) × (length (now (seen .exit)) ≡ length (now (seen .entry)))) ⌝ }
 {
     let mut met = way;
     let mut j: u64 = 0;
     while j < 16 {
-        met = on_line(masks, stations, messages, carts, lines, n, k, i, j, met);
+        let walk = on_line(
+            masks,
+            seen,
+            stations,
+            messages,
+            carts,
+            lines,
+            n,
+            k,
+            i,
+            j,
+            met,
+        );
+        met = walk.met;
+        if !walk.whole {
+            return Walk { whole: false, met };
+        }
         j += 1;
     }
-    met
+    Walk { whole: true, met }
 }
 
-// The lines from each station.
+// The lines from each station, where no row is marked yet.
 fn from_each(
     masks: &mut [u64],
+    seen: &mut [u64],
     stations: &[u64],
     messages: &[u64],
     carts: &[u64],
@@ -389,18 +431,22 @@ fn from_each(
     n: u64,
     k: u64,
     way: Way,
-) -> Way
-    requires { ⌜ (length (now masks) ≡ 32) × (length (now stations) ≡ 1938) × (length (now messages) ≡ 192) × (length (now carts) ≡ 1216) × (form (now lines) ≡ true) × (k ≤ 64) ⌝ }
-    ensures { λ x. ⌜ metOf x (now (masks .exit)) ≡ fromEach n k (cartsIn (now (carts .entry))) (roomsIn (now (messages .entry))) (stationsIn (now (stations .entry))) (now (lines .entry)) (metOf way (now (masks .entry))) 16 ⌝ }
-    ensures { λ _. ⌜ length (now (masks .exit)) ≡ length (now (masks .entry)) ⌝ }
+) -> Walk
+    requires { ⌜ (length (now masks) ≡ 32) × (length (now seen) ≡ 49) × (length (now stations) ≡ 1938) × (length (now messages) ≡ 192) × (length (now carts) ≡ 1216) × (sized (now lines) ≡ true) × (k ≤ 64) × Whole (now lines) 0 (now seen) ⌝ }
+    ensures { λ x. ⌜ Checked (now (lines .entry)) 256 (now (seen .exit)) (x .whole) (metOf (x .met) (now (masks .exit))) (fromEach n k (cartsIn (now (carts .entry))) (roomsIn (now (messages .entry))) (stationsIn (now (stations .entry))) (now (lines .entry)) (metOf way (now (masks .entry))) 16) ⌝ }
+    ensures { λ _. ⌜ (length (now (masks .exit)) ≡ length (now (masks .entry))) × (length (now (seen .exit)) ≡ length (now (seen .entry))) ⌝ }
 {
     let mut met = way;
     let mut i: u64 = 0;
     while i < 16 {
-        met = from_station(masks, stations, messages, carts, lines, n, k, i, met);
+        let walk = from_station(masks, seen, stations, messages, carts, lines, n, k, i, met);
+        met = walk.met;
+        if !walk.whole {
+            return Walk { whole: false, met };
+        }
         i += 1;
     }
-    met
+    Walk { whole: true, met }
 }
 
 // ---- Before the lines.
@@ -516,12 +562,13 @@ fn movers(carts: &[u64], k: u64) -> u64
     set
 }
 
-// ---- THE PASS, on a floor of n stations and k carts.
+// ---- THE PASS, on a floor of n stations and k carts. It walks each line once, for its chain of rows and for its records.
 fn passes(stations: &[u64], carts: &[u64], messages: &[u64], lines: &[u64], n: u64, k: u64) -> bool
-    requires { ⌜ (length (now stations) ≡ 1938) × (length (now carts) ≡ 1216) × (length (now messages) ≡ 192) × (form (now lines) ≡ true) × (n ≤ 16) × (k ≤ 64) ⌝ }
-    ensures { λ r. ⌜ r ≡ passes n k (stationsIn (now (stations .entry))) (cartsIn (now (carts .entry))) (roomsIn (now (messages .entry))) (now (lines .entry)) ⌝ }
+    requires { ⌜ (length (now stations) ≡ 1938) × (length (now carts) ≡ 1216) × (length (now messages) ≡ 192) × (sized (now lines) ≡ true) × (n ≤ 16) × (k ≤ 64) ⌝ }
+    ensures { λ r. ⌜ r ≡ (form (now (lines .entry)) && passes n k (stationsIn (now (stations .entry))) (cartsIn (now (carts .entry))) (roomsIn (now (messages .entry))) (now (lines .entry))) ⌝ }
 {
     let mut masks = [0u64; 32];
+    let mut seen = [0u64; 49];
     let ok = begin(&mut masks, stations, messages, n);
     let way = Way {
         ok,
@@ -529,16 +576,33 @@ fn passes(stations: &[u64], carts: &[u64], messages: &[u64], lines: &[u64], n: u
         gone: 0,
         found: 0,
     };
-    let met = from_each(&mut masks, stations, messages, carts, lines, n, k, way);
+    let walk = from_each(
+        &mut masks,
+        &mut seen,
+        stations,
+        messages,
+        carts,
+        lines,
+        n,
+        k,
+        way,
+    );
+    if !walk.whole {
+        return false;
+    }
+    if !lines::rest_ok(lines, &seen) {
+        return false;
+    }
+    let met = walk.met;
     let ends = all_ended(&masks, messages, carts, k);
     let set = movers(carts, k);
     both(met.ok, both(met.found == set, ends))
 }
 
-// Of the lent parts.
+// Of the lent parts, with the form of the pool itself.
 pub fn lines_pass(stations: &[u64], carts: &[u64], messages: &[u64], lines: &[u64]) -> bool
-    requires { ⌜ (length (now stations) ≡ 1938) × (length (now carts) ≡ 1216) × (length (now messages) ≡ 192) × (form (now lines) ≡ true) ⌝ }
-    ensures { λ r. ⌜ ((texts : List ℕ) → r ≡ linesPass (lent (now (stations .entry)) (now (carts .entry)) (now (messages .entry)) (now (lines .entry)) texts)) ⌝ }
+    requires { ⌜ (length (now stations) ≡ 1938) × (length (now carts) ≡ 1216) × (length (now messages) ≡ 192) × (sized (now lines) ≡ true) ⌝ }
+    ensures { λ r. ⌜ ((texts : List ℕ) → r ≡ (form (now (lines .entry)) && linesPass (lent (now (stations .entry)) (now (carts .entry)) (now (messages .entry)) (now (lines .entry)) texts))) ⌝ }
 {
     let n = stations::station_count(stations);
     if 16 < n {

@@ -1,8 +1,8 @@
 -- THE FORM RULE IS THE LENGTHS, THE TABLES' PART, THE POOL'S WORDS AND THE LINES' PART: what the parts of the test decide of the whole floor.
-use mathlib.Core.Path.{_≡_, refl, sym, _∙_}
-use mathlib.Core.Bool.{Bool, true, false}
+use mathlib.Core.Path.{_≡_, refl, sym, ap, _∙_}
+use mathlib.Core.Bool.{Bool, true, false, _&&_}
 use mathlib.Core.List.{List, []}
-use Prim.Native.Nat.{ℕ, _*_, _≤_, _<_}
+use Prim.Native.Nat.{ℕ, _-_, _*_, _/_, _≤_, _<_}
 use native.Mathlib.Omega.{arith}
 use lib.ListN.{length, drop, length-take}
 use borrow.Author.Tests.{eqb-true, eq-eqb, leb-true, le-leb}
@@ -10,14 +10,16 @@ use Rattle.protocol.specs.CartSets.{setOf}
 use Rattle.protocol.specs.Floor.{limits, localTo}
 use Rattle.protocol.specs.Claims.{Claim, True, test, is, both}
 use Rattle.protocol.specs.Form.{roomRule, passesForm}
-use Rattle.protocol.proofs.Tests.{same-test, clash}
+use Rattle.protocol.proofs.Tests.{by-test, same-test, clash}
 use Rattle.protocol.proofs.ClaimLaws.{reflect}
 use Rattle.protocol.proofs.FormTest.{Clauses, clauses-of, passes-of}
 use Rattle.stations.specs.View.{stationsIn}
 use Rattle.carts.specs.View.{cartsIn}
 use Rattle.messages.specs.View.{roomsIn}
 use Rattle.messages.specs.Texts.{textIn}
-use Rattle.lines.specs.Form.{form}
+use Rattle.lines.specs.Words.{capacity}
+use Rattle.lines.specs.Form.{sized, form}
+use Rattle.lines.proofs.Formed.{of-sized}
 use Rattle.view.specs.View.{Lent, lent, floorIn, lengthsIn, localRight, shortText, lineRight}
 use Rattle.view.proofs.Laid.{Laid, laid-of, words-right}
 use Rattle.view.proofs.Lengths.{lengths-of}
@@ -33,9 +35,13 @@ text-fits : (T : List ℕ) (n m : ℕ) → n ≤ 32 → length (textIn T n m) �
 unfolding textIn
 text-fits T n m h = omega (arith, length-take n (drop (m * 32) T))
 
--- the pool is well-formed
-pub whole-pool : (W : List ℕ) (r : Bool) → r ≡ form W → r ≡ true → form W ≡ true
-whole-pool W r e q = sym e ∙ q
+-- a pool of that many words has whole rows, and no more than there are bits for
+all-rows : (W : List ℕ) → length W ≡ 10226 → capacity W ≡ 3136
+unfolding capacity
+all-rows W e = ap (λ (n : ℕ). (n - 818) / 3) e
+
+pub pool-sized : (W : List ℕ) → length W ≡ 10226 → sized W ≡ true
+pool-sized W e = let q = all-rows W e in of-sized W (omega arith) (omega arith)
 
 module _ (S C M W T : List ℕ) where
   abbrev L : Lent
@@ -146,7 +152,7 @@ module _ (S C M W T : List ℕ) where
   pub fails-tables : (r : Bool) → r ≡ test (tablesRule S C M) → r ≡ false → false ≡ passesForm limits (floorIn L)
   fails-tables r e q = fails (λ p. clash r (e ∙ reflect (tablesRule S C M) .1 (p .1 .0)) q)
 
-  pub fails-pool : (r : Bool) → r ≡ form W → r ≡ false → false ≡ passesForm limits (floorIn L)
+  fails-pool : (r : Bool) → r ≡ form W → r ≡ false → false ≡ passesForm limits (floorIn L)
   fails-pool r e q = fails (λ p. clash r (e ∙ p .1 .1 .0) q)
 
   -- what the pass over the lines builds on
@@ -162,16 +168,17 @@ module _ (S C M W T : List ℕ) where
         entry = a .1 .1 .1 .1 .1 .1 .1 .1 .0;
       }
 
-  -- WHERE THE OTHERS DO, it rests on the pass over the lines
-  pub rests-on-lines : (a b f r : Bool) → a ≡ lengthsIn L → a ≡ true → b ≡ test (tablesRule S C M) → b ≡ true → f ≡ form W → f ≡ true → r ≡ linesPass L
+  -- WHERE THE OTHERS DO, it rests on the pool and the pass over its lines
+  pub rests-on-lines : (a b r : Bool) → a ≡ lengthsIn L → a ≡ true → b ≡ test (tablesRule S C M) → b ≡ true → r ≡ (form W && linesPass L)
       → r ≡ passesForm limits (floorIn L)
-  rests-on-lines a b f r ea qa eb qb ef qf er =
-      let l : lengthsIn L ≡ true = sym ea ∙ qa in
-      let t = reflect (tablesRule S C M) .0 (sym eb ∙ qb) in
-      let w : form W ≡ true = sym ef ∙ qf in
-      er
-      ∙ pass-is-test L (tables-right l t)
-      ∙ same-test (test (linesClaim L)) (test parts)
-      (λ e. reflect parts .1 (l, (t, (w, reflect (linesClaim L) .0 e))))
-      (λ e. reflect (linesClaim L) .1 (reflect parts .0 e .1 .1 .1))
-      ∙ sym form-split
+  rests-on-lines a b r ea qa eb qb er = by-test (form W) (λ w. er ∙ ap (λ (x : Bool). x && linesPass L) w ∙ on w) (λ w. er ∙ ap (λ (x : Bool). x && linesPass L) w ∙ fails-pool (form W) refl w)
+    where
+      on : form W ≡ true → linesPass L ≡ passesForm limits (floorIn L)
+      on w =
+          let l : lengthsIn L ≡ true = sym ea ∙ qa in
+          let t = reflect (tablesRule S C M) .0 (sym eb ∙ qb) in
+          pass-is-test L (tables-right l t)
+          ∙ same-test (test (linesClaim L)) (test parts)
+          (λ e. reflect parts .1 (l, (t, (w, reflect (linesClaim L) .0 e))))
+          (λ e. reflect (linesClaim L) .1 (reflect parts .0 e .1 .1 .1))
+          ∙ sym form-split

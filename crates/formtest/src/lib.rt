@@ -30,8 +30,8 @@ pub fn lengths_ok(
     texts.len() == 1024
 }
 
-// The lent floor passes the form rule. Each part makes the next one safe to ask: the tables are read where they have their lengths, and the
-// lines are walked where their chains are whole. An unstarted floor ends it at once.
+// The lent floor passes the form rule. The lengths make the other parts safe to ask, and an unstarted floor ends it at once. The lines come
+// last, since their records are told by the tables: one walk is for their chains and for what their records say.
 pub fn passes(
     stations: &[u64],
     carts: &[u64],
@@ -45,9 +45,6 @@ pub fn passes(
         return false;
     }
     if !form::tables_pass(stations, carts, messages) {
-        return false;
-    }
-    if !lines::form_ok(lines) {
         return false;
     }
     formlines::lines_pass(stations, carts, messages, lines)

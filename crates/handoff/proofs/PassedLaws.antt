@@ -1,49 +1,77 @@
 -- The ways through the test whether a cart is past a message that is buffered at a station.
-use mathlib.Core.Path.{_≡_, sym, ap, ap₂, _∙_}
-use mathlib.Core.Bool.{Bool, true, false, _&&_}
+use mathlib.Core.Path.{_≡_, refl, sym, ap, ap₂, _∙_, fun-ext, subst}
+use mathlib.Core.Bool.{Bool, true, false, not, _&&_}
 use mathlib.Core.List.{List}
-use Prim.Native.Nat.{ℕ, _<_, _≤_}
+use Prim.Native.Nat.{ℕ, zero, suc, _<_, _≤_, _^_}
 use native.Mathlib.Omega.{arith}
-use lib.Dec.{ltb}
-use lib.ListN.{getD}
-use borrow.Author.Tests.{lt-ltb, le-ltb}
+use lib.Dec.{ltb, eqb}
+use borrow.Author.Tests.{lt-ltb, le-ltb, eqb-true}
+use native.Mathlib.Nat.{pow-suc}
 use Rattle.protocol.specs.CartSets.{has, without}
-use Rattle.protocol.proofs.Tests.{and-second-false}
-use Rattle.stations.specs.View.{Stations}
+use Rattle.protocol.proofs.Tests.{and-second-false, and-false, by-test, on-cond, on-update2}
+use Rattle.protocol.proofs.SetLaws.{same-members, without-lt, has-without}
+use Rattle.stations.specs.View.{Stations, withCopy}
 use Rattle.messages.specs.View.{Rooms}
-use Rattle.handoff.specs.Struck.{isPassed, struckCopy}
+use Rattle.handoff.specs.Struck.{withCopies, isBelow, isPassed, struckCopy, struckIn}
 
-module _ (S : Stations) (R : Rooms) (t : ℕ) (row : List ℕ) (m : ℕ) where
-  -- it is waited for here, and expected; and the cart's next number is above
-  unbuffered : (has (R .waiting m) t && ltb (R .number m) (S .expected t (R .initiator m)) ≡ false) → false ≡ isPassed S R t row m
-  unbuffered e = rw e
-
-  -- nothing is expected of an initiator that there is not
-  pub from-nobody : (i : ℕ) → i ≡ R .initiator m → S .expected t i ≡ 0 → false ≡ isPassed S R t row m
-  from-nobody i e z =
-      unbuffered (and-second-false (has (R .waiting m) t) (ltb (R .number m) (S .expected t (R .initiator m)))
-      (le-ltb (R .number m) (S .expected t (R .initiator m)) (let y : S .expected t (R .initiator m) ≡ 0 = rw e at z in omega arith)))
-
-  pub not-waiting : (w : ℕ) (b : Bool) → w ≡ R .waiting m → b ≡ has w t → b ≡ false → false ≡ isPassed S R t row m
+module _ (S : Stations) (R : Rooms) (t m x : ℕ) where
+  -- it is waited for here, and expected; and its number is below x
+  pub not-waiting : (w : ℕ) (b : Bool) → w ≡ R .waiting m → b ≡ has w t → b ≡ false → false ≡ isBelow S R t m x
   not-waiting w b ew eb n = rw (ap (λ (x : ℕ). has x t) (sym ew) ∙ sym eb ∙ n)
 
-  pub not-handled : (i n y : ℕ) → i ≡ R .initiator m → n ≡ R .number m → y ≡ S .expected t i → y ≤ n → false ≡ isPassed S R t row m
+  pub not-handled : (i n y : ℕ) → i ≡ R .initiator m → n ≡ R .number m → y ≡ S .expected t i → y ≤ n → false ≡ isBelow S R t m x
   not-handled i n y ei en ey l =
-      unbuffered (and-second-false (has (R .waiting m) t) (ltb (R .number m) (S .expected t (R .initiator m)))
+      rw (and-second-false (has (R .waiting m) t) (ltb (R .number m) (S .expected t (R .initiator m)))
       (le-ltb (R .number m) (S .expected t (R .initiator m)) (let z : S .expected t (R .initiator m) ≡ y = (ap (S .expected t) (sym ei) ∙ sym ey) in omega arith)))
 
   pub by-next : (w i n y : ℕ) (b : Bool) → w ≡ R .waiting m → i ≡ R .initiator m → n ≡ R .number m → y ≡ S .expected t i → b ≡ has w t → b ≡ true → n < y
-      → ltb n (getD row i 0) ≡ isPassed S R t row m
+      → ltb n x ≡ isBelow S R t m x
   by-next w i n y b ew ei en ey eb waits low =
       rw (ap (λ (x : ℕ). has x t) (sym ew) ∙ sym eb ∙ waits, lt-ltb (R .number m) (S .expected t (R .initiator m)) below)
-      (ap₂ (λ (x z : ℕ). ltb x (getD row z 0)) en ei)
+      (ap (λ (z : ℕ). ltb z x) en)
     where
       below : R .number m < S .expected t (R .initiator m)
       below = let z : S .expected t (R .initiator m) ≡ y = (ap (S .expected t) (sym ei) ∙ sym ey) in omega arith
 
-  -- THE COPY AFTERWARDS
-  pub is-struck : (c x k r : ℕ) (b : Bool) → b ≡ isPassed S R t row m → b ≡ true → k ≡ x → r ≡ without k c → r ≡ struckCopy S R t c row m x
-  is-struck c x k r b e y ek er = rw (sym e ∙ y) (er ∙ ap (λ (z : ℕ). without z c) ek)
+-- WHERE NOTHING IS STRUCK
+self-below : (x : ℕ) → x < 2 ^ x
+self-below zero = omega arith
+self-below (suc x) = let z = self-below x in let p = pow-suc 2 x in omega arith
 
-  pub is-kept : (c x k : ℕ) (b : Bool) → b ≡ isPassed S R t row m → b ≡ false → k ≡ x → k ≡ struckCopy S R t c row m x
-  is-kept c x k b e n ek = rw (sym e ∙ n) ek
+and-true : (a : Bool) → a && true ≡ a
+and-true true = refl
+and-true false = refl
+
+-- a set that lacks the cart stays as it is without it
+without-absent : (x c : ℕ) → has x c ≡ false → without x c ≡ x
+without-absent x c n =
+    same-members x (without x c) x (without-lt x x c (self-below x)) (self-below x)
+    (λ d l. has-without x c d ∙ by-test (eqb c d)
+    (λ e. rw e (and-false (has x d) ∙ sym (subst (λ (z : ℕ). has x z ≡ false) (eqb-true c d e) n)))
+    (λ e. rw e (and-true (has x d))))
+
+module _ (S : Stations) (R : Rooms) (t : ℕ) (row : List ℕ) (m : ℕ) where
+  -- the copy does not name the cart
+  pub not-named : (c k : ℕ) (b : Bool) → k ≡ S .copy m t → b ≡ has k c → b ≡ false → struckCopy S R t c row m (S .copy m t) ≡ S .copy m t
+  not-named c k b ek eb n =
+      on-cond (λ (x : ℕ). x ≡ S .copy m t) (isPassed S R t row m)
+      (λ e. without-absent (S .copy m t) c (ap (λ (z : ℕ). has z c) (sym ek) ∙ sym eb ∙ n)) (λ e. refl)
+
+  -- nothing is expected of an initiator that there is not
+  pub from-nobody : (c i : ℕ) → i ≡ R .initiator m → S .expected t i ≡ 0 → struckCopy S R t c row m (S .copy m t) ≡ S .copy m t
+  from-nobody c i e z =
+      rw (and-second-false (has (R .waiting m) t) (ltb (R .number m) (S .expected t (R .initiator m)))
+      (le-ltb (R .number m) (S .expected t (R .initiator m)) (let y : S .expected t (R .initiator m) ≡ 0 = rw e at z in omega arith)))
+
+-- ONE COPY WRITTEN, OR NONE
+pub same-copy : (S : Stations) (m t : ℕ) → S ≡ withCopy S m t (S .copy m t)
+same-copy S m t =
+    ap (withCopies S)
+    (fun-ext (λ k. fun-ext (λ u. on-update2 (λ (y : ℕ). S .copy k u ≡ y) (S .copy) m t (S .copy m t) k u (λ p q. ap₂ (S .copy) p q) (λ h. refl))))
+
+module _ (S : Stations) (R : Rooms) (t c m x : ℕ) where
+  pub is-struck : (k r : ℕ) (b : Bool) {U : Stations} → b ≡ isBelow S R t m x → b ≡ true → k ≡ S .copy m t → r ≡ without k c → U ≡ withCopy S m t r → U ≡ struckIn S R t c m x
+  is-struck k r b e y ek er f = f ∙ ap (withCopy S m t) (rw (sym e ∙ y) (er ∙ ap (λ (z : ℕ). without z c) ek))
+
+  pub is-kept : (b : Bool) → b ≡ isBelow S R t m x → b ≡ false → S ≡ struckIn S R t c m x
+  is-kept b e n = same-copy S m t ∙ ap (withCopy S m t) (rw (sym e ∙ n) refl)

@@ -5,6 +5,7 @@ use mathlib.Core.List.{List}
 use Prim.Native.Nat.{ℕ, _+_, _≤_}
 use native.Mathlib.Omega.{arith}
 use lib.Dec.{eqb, ltb}
+use lib.ListN.{getD}
 use borrow.Author.Tests.{lt-ltb, le-ltb, eqb-true}
 use Rattle.protocol.specs.Folds.{update2}
 use Rattle.protocol.specs.CartSets.{without}
@@ -14,7 +15,8 @@ use Rattle.rows.proofs.ColumnLaws.{column-beyond}
 use Rattle.stations.specs.View.{Stations, stationsIn, stationWord, rooms, copyAt, withQueue, withCopy}
 use Rattle.messages.specs.View.{Rooms}
 use Rattle.handoff.specs.Left.{withQueues, unqueued}
-use Rattle.handoff.specs.Struck.{withCopies, isPassed, struckCopy, struckFrom}
+use Rattle.handoff.specs.Struck.{withCopies, isPassed, struckCopy, struckIn, struckFrom}
+use Rattle.handoff.proofs.PassedLaws.{same-copy}
 
 -- ENTRIES g m u, of room m at station u: those at station t go by f
 module _ (g : ℕ → ℕ → ℕ) (t : ℕ) (f : ℕ → ℕ → ℕ) where
@@ -83,6 +85,15 @@ module _ (S : Stations) (R : Rooms) (t c : ℕ) (row : List ℕ) where
   strike-one n x e ex f =
       f ∙ ap (λ (X : Stations). withCopy X n t x) e
       ∙ ap (withCopies S) (changed-one (S .copy) t (struckCopy S R t c row) n x (ex ∙ ap (λ (X : Stations). struckCopy X R t c row n (X .copy n t)) e))
+
+  -- it goes by the initiator's entry of the row
+  pub strike-by : (n s : ℕ) {T U : Stations} → T ≡ struckTo n → s ≡ R .initiator n → U ≡ struckIn T R t c n (getD row s 0) → U ≡ struckTo (n + 1)
+  strike-by n s {T} e es f =
+      strike-one n _ e refl (f ∙ ap (λ (z : ℕ). struckIn T R t c n (getD row z 0)) es)
+
+  -- nothing is struck there
+  pub strike-kept : (n : ℕ) {T U : Stations} → T ≡ struckTo n → struckCopy T R t c row n (T .copy n t) ≡ T .copy n t → U ≡ T → U ≡ struckTo (n + 1)
+  strike-kept n {T} e k f = strike-one n (T .copy n t) e (sym k) (f ∙ same-copy T n t)
 
   -- at station t, where the cart is past the message
   by-both : (m u : ℕ) → cond (eqb u t) (struckCopy S R t c row m (S .copy m u)) (S .copy m u) ≡ struckFrom S R t c row .copy m u

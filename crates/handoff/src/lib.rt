@@ -19,7 +19,7 @@ ghost use Rattle.queue.specs.Rooms.{tablesFloor, HasRooms};
 ghost use Rattle.catchup.specs.Arrival.{stopIn, Rises, risen};
 ghost use Rattle.handoff.specs.Moved.{Moved};
 ghost use Rattle.handoff.specs.Left.{unqueued, left, Left};
-ghost use Rattle.handoff.specs.Struck.{isPassed, struckCopy, struckFrom};
+ghost use Rattle.handoff.specs.Struck.{isBelow, struckIn, PassesBy, struckFrom};
 ghost use Rattle.handoff.specs.Arrived.{allZero, joined, Docked, Arrived};
 
 // "Stations 1 to 16": as many initiators.
@@ -93,16 +93,37 @@ pub fn on_deregister(
     );
 }
 
-// Is the message in room m buffered at the station, "with a number below the cart's next number"?
-fn is_passed(stations: &[u64], messages: &[u64], station: Station, row: [u64; 16], m: usize) -> bool
-    requires { ⌜ HasStation (now stations) (station .0) × HasRooms (now messages) × (station .0 < 16) × (m < rooms) ⌝ }
-    ensures { λ r. ⌜ r ≡ isPassed (stationsIn (now (stations .entry))) (roomsIn (now (messages .entry))) (station .0) row m ⌝ }
+// Whose next number says whether the cart is past the message in room m: its initiator's where "the buffered copy" names the cart, and else
+// nobody's, which is 16. Most copies do not, so this is asked before anything else.
+fn passes_by(
+    stations: &[u64],
+    messages: &[u64],
+    station: Station,
+    cart: CartNumber,
+    m: usize,
+) -> u64
+    requires { ⌜ HasStation (now stations) (station .0) × HasRooms (now messages) × (cart .0 < 64) × (m < rooms) ⌝ }
+    ensures { λ r. ⌜ PassesBy (stationsIn (now (stations .entry))) (roomsIn (now (messages .entry))) (station .0) (cart .0) m r ⌝ }
 {
-    let initiator = messages::initiator_of(messages, m);
-    let s = initiator.0 as usize;
-    if INITIATORS <= s {
-        return false;
+    if cartset::has(stations::copy_of(stations, m, station), cart.0) {
+        return messages::initiator_of(messages, m).0;
     }
+    INITIATORS as u64
+}
+
+// Is the message in room m, of that initiator, buffered at the station, "with a number below the cart's next number"?
+fn is_passed(
+    stations: &[u64],
+    messages: &[u64],
+    station: Station,
+    initiator: Station,
+    next: u64,
+    m: usize,
+) -> bool
+    requires { ⌜ HasStation (now stations) (station .0) × HasRooms (now messages) × (station .0 < 16) × (m < rooms) × (initiator .0 < initiators) ⌝ }
+    requires { ⌜ initiator .0 ≡ roomsIn (now messages) .initiator m ⌝ }
+    ensures { λ r. ⌜ r ≡ isBelow (stationsIn (now (stations .entry))) (roomsIn (now (messages .entry))) (station .0) m next ⌝ }
+{
     if !cartset::has(messages::waiting_of(messages, m), station.0) {
         return false;
     }
@@ -110,29 +131,34 @@ fn is_passed(stations: &[u64], messages: &[u64], station: Station, row: [u64; 16
     if stations::expected_of(stations, station, initiator) <= number {
         return false;
     }
-    number < row[s]
+    number < next
 }
 
-// The station's copy of the set of the message in room m, from which the cart is struck if it is past that message.
-fn struck_copy(
-    stations: &[u64],
+// The cart is struck from the station's copy of the set of the message in room m, of that initiator, if it is past that message.
+fn strike_from(
+    stations: &mut [u64],
     messages: &[u64],
     station: Station,
     cart: CartNumber,
-    row: [u64; 16],
+    initiator: Station,
+    next: u64,
     m: usize,
-) -> u64
-    requires { ⌜ HasStation (now stations) (station .0) × HasRooms (now messages) × (station .0 < 16) × (cart .0 < 64) × (m < rooms) ⌝ }
-    ensures { λ r. ⌜ r ≡ struckCopy (stationsIn (now (stations .entry))) (roomsIn (now (messages .entry))) (station .0) (cart .0) row m (stationsIn (now (stations .entry)) .copy m (station .0)) ⌝ }
+)
+    requires { ⌜ HasStation (now stations) (station .0) × HasRooms (now messages) × (station .0 < 16) × (cart .0 < 64) × (m < rooms) × (initiator .0 < initiators) ⌝ }
+    requires { ⌜ initiator .0 ≡ roomsIn (now messages) .initiator m ⌝ }
+    ensures { λ _. ⌜ stationsIn (now (stations .exit)) ≡ struckIn (stationsIn (now (stations .entry))) (roomsIn (now (messages .entry))) (station .0) (cart .0) m next ⌝ }
+    ensures { λ _. ⌜ headIn (now (stations .exit)) ≡ headIn (now (stations .entry)) ⌝ }
+    ensures { λ _. ⌜ length (now (stations .exit)) ≡ length (now (stations .entry)) ⌝ }
 {
-    let copy = stations::copy_of(stations, m, station);
-    if is_passed(stations, messages, station, row, m) {
-        return cartset::without_cart(copy, cart.0);
+    if !is_passed(stations, messages, station, initiator, next, m) {
+        return;
     }
-    copy
+    let copy = cartset::without_cart(stations::copy_of(stations, m, station), cart.0);
+    stations::put_copy(stations, m, station, copy);
 }
 
-// "from each buffered copy naming the cart with a number below the cart's next number, the cart is struck"
+// "from each buffered copy naming the cart with a number below the cart's next number, the cart is struck". The row stays where it is: only
+// the one entry that a message asks for is handed on.
 fn strike(
     stations: &mut [u64],
     messages: &[u64],
@@ -147,8 +173,19 @@ fn strike(
 {
     let mut m: usize = 0;
     while m < queue::ROOMS {
-        let copy = struck_copy(stations, messages, station, cart, row, m);
-        stations::put_copy(stations, m, station, copy);
+        let initiator = passes_by(stations, messages, station, cart, m);
+        let s = initiator as usize;
+        if s < INITIATORS {
+            strike_from(
+                stations,
+                messages,
+                station,
+                cart,
+                Station(initiator),
+                row[s],
+                m,
+            );
+        }
         m += 1;
     }
 }

@@ -60,7 +60,7 @@ pub fn head_of(pool: &[u64], k: usize) -> usize
     pool[LINES + k * LINE_WORDS] as usize
 }
 
-fn tail_of(pool: &[u64], k: usize) -> usize
+pub fn tail_of(pool: &[u64], k: usize) -> usize
     requires { ⌜ lineAt k + 3 ≤ length (now pool) ⌝ }
     ensures { λ r. ⌜ r ≡ tailOf (now (pool .entry)) k ⌝ }
 {
@@ -84,7 +84,7 @@ pub fn record_of(pool: &[u64], row: usize) -> Record
     )
 }
 
-fn row_count(pool: &[u64]) -> usize
+pub fn row_count(pool: &[u64]) -> usize
     requires { ⌜ rowsAt ≤ length (now pool) ⌝ }
     ensures { λ r. ⌜ r ≡ capacity (now (pool .entry)) ⌝ }
 {
@@ -323,14 +323,14 @@ pub fn clear(pool: &mut [u64])
 // ---- The form test. It walks each line and marks the rows that it sees, so no row is on two lines or twice on one. Then the rows seen
 // and the free rows have to be all the rows of the pool, and none both. It visits the records on the lines, and no other row.
 
-fn is_marked(seen: &[u64], row: usize) -> bool
+pub fn is_marked(seen: &[u64], row: usize) -> bool
     requires { ⌜ row < length (now seen) * 64 ⌝ }
     ensures { λ r. ⌜ r ≡ eqb (bitAt (now (seen .entry)) row) 1 ⌝ }
 {
     digit_of(seen[row / 64], row % 64) == 1
 }
 
-fn mark(seen: &mut [u64], row: usize)
+pub fn mark(seen: &mut [u64], row: usize)
     requires { ⌜ row < length (now seen) * 64 ⌝ }
     ensures { λ _. ⌜ Marked (now (seen .entry)) (now (seen .exit)) row ⌝ }
 {
@@ -430,6 +430,17 @@ fn is_sized(pool: &[u64]) -> bool
     pool.len() == ROWS + rows * ROW_WORDS
 }
 
+// What the words that say which rows are free have to be, once every line is walked and right: then it is all of the form.
+pub fn rest_ok(pool: &[u64], seen: &[u64]) -> bool
+    requires { ⌜ (sized (now pool) ≡ true) × (length (now seen) ≡ freeWords) × Surveyed (now pool) (now seen) true ⌝ }
+    ensures { λ r. ⌜ r ≡ form (now (pool .entry)) ⌝ }
+{
+    if !rows_ok(pool, seen) {
+        return false;
+    }
+    summary_ok(pool)
+}
+
 // The pool is well-formed. Any words, of any number, may be asked about.
 pub fn form_ok(pool: &[u64]) -> bool
     ensures { λ r. ⌜ r ≡ form (now (pool .entry)) ⌝ }
@@ -441,8 +452,5 @@ pub fn form_ok(pool: &[u64]) -> bool
     if !lines_ok(pool, &mut seen) {
         return false;
     }
-    if !rows_ok(pool, &seen) {
-        return false;
-    }
-    summary_ok(pool)
+    rest_ok(pool, &seen)
 }

@@ -1,15 +1,20 @@
 -- The parts of a radio step, store by store.
-use mathlib.Core.Path.{_≡_, ap, ap₂, _∙_}
+use mathlib.Core.Path.{_≡_, refl, sym, ap, ap₂, _∙_}
 use mathlib.Core.Option.{Option, none, some}
-use Prim.Native.Nat.{ℕ, _-_, _≤_}
+use Prim.Native.Nat.{ℕ, _+_, _-_, _<_, _≤_}
 use native.Mathlib.Omega.{arith}
-use Rattle.protocol.specs.CartSets.{minus, with, without}
+use lib.Dec.{ltb}
+use borrow.Author.Tests.{ltb-true}
+use Rattle.protocol.specs.CartSets.{has, minus, with, without}
 use Rattle.protocol.specs.Floor.{Floor}
+use Rattle.protocol.proofs.Tests.{and-right}
 use Rattle.stations.specs.View.{Stations, withCopy, withAcks, withQueue}
 use Rattle.queue.specs.Rooms.{roomCode, roomIn}
 use Rattle.catchup.specs.Nearest.{nearestAmong, stopBy}
+use Rattle.catchup.specs.Arrival.{isFound, queuedFor}
 use Rattle.catchup.proofs.ClosedForm.{IsNearest, nearest-is, would}
 use Rattle.catchup.proofs.RoomLaws.{nearest-decoded}
+use Rattle.catchup.proofs.QueueLaws.{queued-none}
 
 -- the entry, then the ack list
 pub received-stations : (X X₁ X₂ : Stations) (m t c q q′ a a′ : ℕ) → q ≡ X .queue m t → q′ ≡ without q c → X₁ ≡ withQueue X m t q′ → a ≡ X₁ .acks m t → a′ ≡ with a c → X₂ ≡ withAcks X₁ m t a′
@@ -37,3 +42,23 @@ module _ (F : Floor) (t c s x : ℕ) where
       above : (o : Option ℕ) → IsNearest F t c s x 32 o → x ≤ stopBy F t s x o .upto
       above none n = omega arith
       above (some k) n = would F t c s x k (n .1 .0) .far
+
+  -- a next number that is not below the expected one meets no message
+  pub nothing-ahead : F .expected t s ≤ x → nearestAmong F t c s x 32 ≡ none
+  nothing-ahead h = none-there (nearestAmong F t c s x 32) (nearest-is F t c s x 32)
+    where
+      none-there : (o : Option ℕ) → IsNearest F t c s x 32 o → o ≡ none
+      none-there none n = refl
+      none-there (some k) n =
+          let p = would F t c s x k (n .1 .0) in
+          let z = ltb-true (F .number k) (F .expected t (F .initiator k)) (and-right (has (F .waiting k) t) (ltb (F .number k) (F .expected t (F .initiator k))) (p .buffered)) in
+          let y : F .number k < F .expected t s = rw (p .is-initiator) at z in
+          let far = p .far in
+          absurd (omega arith)
+
+  -- and it stays
+  pub stays : F .expected t s ≤ x → x ≡ stopBy F t s x (nearestAmong F t c s x 32) .upto
+  stays h = let z : x ≡ x + (F .expected t s - x) = omega arith in z ∙ ap (λ (o : Option ℕ). stopBy F t s x o .upto) (sym (nothing-ahead h))
+
+  pub none-queued : (S : Stations) → F .expected t s ≤ x → S ≡ queuedFor S t c (isFound (nearestAmong F t c s x 32))
+  none-queued S h = queued-none S t c (isFound none) (λ k. refl) ∙ ap (λ (o : Option ℕ). queuedFor S t c (isFound o)) (sym (nothing-ahead h))

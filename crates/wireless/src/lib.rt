@@ -78,6 +78,11 @@ fn catch_up(
     requires { ⌜ HasStation (now stations) (station .0) × HasRooms (now messages) × (station .0 < 16) × (initiator .0 < initiators) × (number .0 < 64) × HasRow (now carts) (number .0) ⌝ }
     ensures { λ r. ⌜ CaughtUp (now (stations .entry)) (now (stations .exit)) (now (carts .entry)) (now (carts .exit)) (now (messages .entry)) (initiator .0) (station .0) (number .0) next r ⌝ }
 {
+    // "while the cart's next number is below the expected number": it is not, so no message is looked at.
+    if stations::expected_of(stations, station, initiator) <= next {
+        carts::put_next(carts, number, initiator, next);
+        return 0;
+    }
     let nearest = catchup::nearest_of(stations, messages, station, number, initiator, next);
     let upto = catchup::stop_of(stations, messages, station, initiator, next, nearest);
     carts::put_next(carts, number, initiator, upto);

@@ -1,24 +1,23 @@
--- `form::entries_ok` meets its contract. The invariant: every room keeps the rule at the stations passed.
+-- `form::entries_ok` meets its contract. The invariant: the rooms passed keep the rule at every station.
 use mathlib.Core.Path.{ap, _∙_}
-use Prim.Native.Nat.{_-_, _≤_}
+use Prim.Native.Nat.{ℕ, _-_, _≤_}
 use native.Mathlib.Omega.{arith}
 use borrow.Author.Needs.{needs}
 use borrow.Author.Tests.{not-true, not-false}
 use Rattle.protocol.specs.Floor.{limits}
-use Rattle.protocol.specs.Claims.{True, all}
+use Rattle.protocol.specs.Claims.{Claim, True, all}
 use Rattle.protocol.specs.Form.{entryRule}
-use Rattle.form.proofs.Answers.{passed, refused, one-more}
-use Rattle.form.proofs.Queues.{turned-yes, turned-no}
+use Rattle.form.proofs.Answers.{passed, refused, one-more, all-yes, all-no}
 use Rattle.form.specs.Tables.{tables}
 use Rattle.form.specs.Parts.{mostOf}
 use Rattle.form.proofs.entries_ok.Statement.{statement}
 use Rattle.form.proofs.entries_ok.Tie as tie
 
 abbrev Inv-loop : tie.InvT-loop
-Inv-loop stations carts messages most t₀ t = (t ≤ 16) × True (all t (λ u. all 32 (λ m. entryRule limits (tables stations carts messages) m u)))
+Inv-loop stations carts messages most m₀ m = (m ≤ 32) × True (all m (λ k. all 16 (entryRule limits (tables stations carts messages) k)))
 
 abbrev μ-loop : tie.MeasureT-loop
-μ-loop stations carts messages most t₀ t = 16 - t
+μ-loop stations carts messages most m₀ m = 32 - m
 
 cart-count-requires : tie.Need-cart-count-requires Inv-loop μ-loop
 cart-count-requires c κs = omega arith
@@ -29,24 +28,21 @@ most-of-requires c κs = search needs
 loop-holds : tie.Need-loop-holds Inv-loop μ-loop
 loop-holds c = (omega arith, λ k l. absurd (omega arith))
 
-entries-at-requires : tie.Need-entries-at-requires Inv-loop μ-loop
-entries-at-requires c κs = (
-  c .before .before .before .before .before .before .before .pre .0,
-  omega arith,
-  c .before .before .before .before .before .before .before .pre .1 (c .before .loop .t) (omega arith),
-  c .before .before .most-of .ensures ∙ ap mostOf (c .before .before .before .cart-count .ensures),
-)
+entries-of-requires : tie.Need-entries-of-requires Inv-loop μ-loop
+entries-of-requires c κs =
+    let s = c .before .before .before .before .before .before .before in
+    (s .pre .0, omega arith, s .pre .1, c .before .before .most-of .ensures ∙ ap mostOf (c .before .before .before .cart-count .ensures))
 
 returns : tie.Need-returns Inv-loop μ-loop
 returns c =
     let s = c .before .before .before .before .before .before .before .before .before .args in
-    let f = entryRule limits (tables (s .stations .now) (s .carts .now) (s .messages .now)) in
+    let f : ℕ → Claim = λ k. all 16 (entryRule limits (tables (s .stations .now) (s .carts .now) (s .messages .now)) k) in
     let a = c .before .before .before .loop in
-    let t = c .before .entries-at in
-    turned-no 32 16 f (a .t) (omega arith) (refused (all 32 (λ m. f m (a .t))) (t .result) (t .ensures) (not-true _ (c .if1 .taken)))
+    let t = c .before .entries-of in
+    all-no 32 f (a .m) (omega arith) (refused (f (a .m)) (t .result) (t .ensures) (not-true _ (c .if1 .taken)))
 
-add-t : tie.Need-add-t Inv-loop μ-loop
-add-t c = omega arith
+add-m : tie.Need-add-m Inv-loop μ-loop
+add-m c = omega arith
 
 loop-less : tie.Need-loop-less Inv-loop μ-loop
 loop-less c = omega arith
@@ -54,16 +50,17 @@ loop-less c = omega arith
 loop-again : tie.Need-loop-again Inv-loop μ-loop
 loop-again c =
     let s = c .before .before .before .before .before .before .before .before .before .args in
-    let f = entryRule limits (tables (s .stations .now) (s .carts .now) (s .messages .now)) in
+    let f : ℕ → Claim = λ k. all 16 (entryRule limits (tables (s .stations .now) (s .carts .now) (s .messages .now)) k) in
     let a = c .before .before .before .loop in
-    let t = c .before .entries-at in
-    (omega arith, one-more (λ u. all 32 (λ m. f m u)) (a .t) (a .inv .1) (passed (all 32 (λ m. f m (a .t))) (t .result) (t .ensures) (not-false _ (c .if1 .left))))
+    let t = c .before .entries-of in
+    (omega arith, one-more f (a .m) (a .inv .1) (passed (f (a .m)) (t .result) (t .ensures) (not-false _ (c .if1 .left))))
 
 returns-2 : tie.Need-returns-2 Inv-loop μ-loop
 returns-2 c =
     let s = c .before .before .before .before .before .before .before .args in
+    let f : ℕ → Claim = λ k. all 16 (entryRule limits (tables (s .stations .now) (s .carts .now) (s .messages .now)) k) in
     let a = c .before .loop in
-    turned-yes 32 16 (entryRule limits (tables (s .stations .now) (s .carts .now) (s .messages .now))) (a .t) (omega arith) (a .inv .1)
+    all-yes 32 f (a .m) (omega arith) (a .inv .1)
 
 pub entries-ok-spec : {M : Type 1} → statement M
 entries-ok-spec =
@@ -74,9 +71,9 @@ entries-ok-spec =
     cart-count-requires
     most-of-requires
     loop-holds
-    entries-at-requires
+    entries-of-requires
     returns
-    add-t
+    add-m
     loop-less
     loop-again
     returns-2)

@@ -1,6 +1,5 @@
 -- `formlines::on_line` meets its contract.
 use borrow.Author.Needs.{needs}
-use denote.Ref.{now}
 use Rattle.carts.specs.View.{cartsIn}
 use Rattle.messages.specs.View.{roomsIn}
 use Rattle.stations.specs.View.{stationsIn}
@@ -27,8 +26,23 @@ both-requires c κs = search needs
 same-length : tie.Need-same-length
 same-length c = search needs
 
+same-length-2 : tie.Need-same-length-2
+same-length-2 c = search needs
+
 returns : tie.Need-returns
-returns c = (lined (c .before .before .before .before .before .before .before .before .before .before .before .before .before .before .args .n) (c .before .before .before .before .before .before .before .before .before .before .before .before .before .before .args .k) (cartsIn (now (c .before .before .before .before .before .before .before .before .before .before .before .before .before .before .args .carts))) (roomsIn (now (c .before .before .before .before .before .before .before .before .before .before .before .before .before .before .args .messages))) (stationsIn (now (c .before .before .before .before .before .before .before .before .before .before .before .before .before .before .args .stations))) (now (c .before .before .before .before .before .before .before .before .before .before .before .before .before .before .args .lines)) (metOf (c .before .before .before .before .before .before .before .before .before .before .before .before .before .before .args .way) (now (c .before .before .before .before .before .before .before .before .before .before .before .before .before .before .args .masks))) (c .before .before .before .before .before .before .before .before .before .before .before .before .before .before .args .i) (c .before .before .before .before .before .before .before .before .before .before .before .before .before .before .args .j) (c .before .before .before .before .before .before .before .before .expected-of .result) (c .before .before .before .before .before .before .before .sent-of .result) (c .before .before .before .before .before .along .result) (c .before .before .before .before .before .along .last .0) (c .before .either .result) (c .both .result) (c .before .before .before .before .before .before .before .before .expected-of .ensures) (c .before .before .before .before .before .before .before .sent-of .ensures) (c .before .before .before .before .before .along .ensures .0) (c .before .either .ensures) (c .both .ensures), c .before .before .before .before .before .along .ensures .1)
+returns c =
+    let s = c .before .before .before .before .before .before .before .before .before .before .before .before .before .before .before .before .before .before .before in
+    let e = c .before .before .before .before .before .before .before .before .before .before .before .before .expected-of in
+    let t = c .before .before .before .before .before .before .before .before .before .before .before .sent-of in
+    let a = c .before .before .before .before .before .before .before .before .along in
+    let d = c .before .either in
+    let b = c .both in (
+      a .ensures .0,
+      (
+        (λ q. lined (s .args .n) (s .args .k) (cartsIn (s .args .carts .now)) (roomsIn (s .args .messages .now)) (stationsIn (s .args .stations .now)) (s .args .lines .now) (metOf (s .args .way) (s .args .masks .now)) (s .args .i) (s .args .j) (e .result) (t .result) (a .result .met) (a .last .0) (d .result) (b .result) (e .ensures) (t .ensures) (a .ensures .1 .0 q) (d .ensures) (b .ensures)),
+        a .ensures .1 .1,
+      ),
+    )
 
 pub on-line-spec : {M : Type 1} → statement M
 on-line-spec =
@@ -40,4 +54,5 @@ on-line-spec =
     either-requires
     both-requires
     same-length
+    same-length-2
     returns)

@@ -3,7 +3,7 @@ use borrow.Author.Needs.{needs}
 use borrow.Author.Tests.{not-true, not-false}
 use Rattle.view.specs.View.{Lent, lent}
 use Rattle.formtest.proofs.Lengths.{right-lengths}
-use Rattle.formtest.proofs.Split.{whole-pool, fails-lengths, fails-tables, fails-pool, rests-on-lines}
+use Rattle.formtest.proofs.Split.{pool-sized, fails-lengths, fails-tables, rests-on-lines}
 use Rattle.formtest.proofs.passes.Statement.{statement}
 use Rattle.formtest.proofs.passes.Tie as tie
 
@@ -30,32 +30,21 @@ returns-2 c =
     let t = c .before .tables-pass in
     fails-tables (a .stations .now) (a .carts .now) (a .messages .now) (a .lines .now) (a .texts .now) (t .result) (t .ensures) (not-true _ (c .if2 .taken))
 
-form-ok-requires : tie.Need-form-ok-requires
-form-ok-requires c κs = search needs
+lines-pass-requires : tie.Need-lines-pass-requires
+lines-pass-requires c κs =
+    let a = c .before .before .before .before .before .before .before .before .before .args in
+    let t = c .before .before .before .lengths-ok in
+    let L : Lent = lent (a .stations .now) (a .carts .now) (a .messages .now) (a .lines .now) (a .texts .now) in
+    let h = right-lengths L (t .result) (t .ensures) (not-false _ (c .before .before .if1 .left)) in
+    (h .stations, h .carts, h .messages, pool-sized (a .lines .now) (h .lines))
 
 returns-3 : tie.Need-returns-3
 returns-3 c =
-    let a = c .before .before .before .before .before .before .before .before .before .before .before .args in
-    let t = c .before .form-ok in
-    fails-pool (a .stations .now) (a .carts .now) (a .messages .now) (a .lines .now) (a .texts .now) (t .result) (t .ensures) (not-true _ (c .if3 .taken))
-
-lines-pass-requires : tie.Need-lines-pass-requires
-lines-pass-requires c κs =
-    let a = c .before .before .before .before .before .before .before .before .before .before .before .args in
-    let t = c .before .before .before .before .before .lengths-ok in
-    let f = c .before .form-ok in
-    let L : Lent = lent (a .stations .now) (a .carts .now) (a .messages .now) (a .lines .now) (a .texts .now) in
-    let h = right-lengths L (t .result) (t .ensures) (not-false _ (c .before .before .before .before .if1 .left)) in
-    (h .stations, h .carts, h .messages, whole-pool (a .lines .now) (f .result) (f .ensures) (not-false _ (c .if3 .left)))
-
-returns-4 : tie.Need-returns-4
-returns-4 c =
-    let a = c .before .before .before .before .before .before .before .before .before .before .before .before .args in
-    let t = c .before .before .before .before .before .before .lengths-ok in
-    let s = c .before .before .before .before .tables-pass in
-    let f = c .before .before .form-ok in
-    rests-on-lines (a .stations .now) (a .carts .now) (a .messages .now) (a .lines .now) (a .texts .now) (t .result) (s .result) (f .result) (c .lines-pass .result)
-    (t .ensures) (not-false _ (c .before .before .before .before .before .if1 .left)) (s .ensures) (not-false _ (c .before .before .before .if2 .left)) (f .ensures) (not-false _ (c .before .if3 .left)) (c .lines-pass .ensures (a .texts .now))
+    let a = c .before .before .before .before .before .before .before .before .before .before .args in
+    let t = c .before .before .before .before .lengths-ok in
+    let s = c .before .before .tables-pass in
+    rests-on-lines (a .stations .now) (a .carts .now) (a .messages .now) (a .lines .now) (a .texts .now) (t .result) (s .result) (c .lines-pass .result)
+    (t .ensures) (not-false _ (c .before .before .before .if1 .left)) (s .ensures) (not-false _ (c .before .if2 .left)) (c .lines-pass .ensures (a .texts .now))
 
 pub passes-spec : {M : Type 1} → statement M
 passes-spec =
@@ -65,7 +54,5 @@ passes-spec =
     returns
     tables-pass-requires
     returns-2
-    form-ok-requires
-    returns-3
     lines-pass-requires
-    returns-4)
+    returns-3)

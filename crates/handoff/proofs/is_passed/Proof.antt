@@ -2,21 +2,10 @@
 use borrow.Author.Needs.{needs}
 use borrow.Author.Tests.{not-true, not-false}
 use Rattle.stations.specs.View.{stationsIn}
-use Rattle.stations.proofs.TableLaws.{expected-beyond}
 use Rattle.messages.specs.View.{roomsIn}
-use Rattle.handoff.proofs.PassedLaws.{from-nobody, not-waiting, not-handled, by-next}
+use Rattle.handoff.proofs.PassedLaws.{not-waiting, not-handled, by-next}
 use Rattle.handoff.proofs.is_passed.Statement.{statement}
 use Rattle.handoff.proofs.is_passed.Tie as tie
-
-initiator-of-requires : tie.Need-initiator-of-requires
-initiator-of-requires c κs = search needs
-
-returns : tie.Need-returns
-returns c =
-    let a = c .before .before .before .before .args in
-    let i = c .before .initiator-of in
-    from-nobody (stationsIn (a .stations .now)) (roomsIn (a .messages .now)) (a .station .0) (a .t4) (a .m) (i .result .0) (i .ensures)
-    (expected-beyond (a .stations .now) (a .station .0) (i .result .0) (c .if1 .taken))
 
 waiting-of-requires : tie.Need-waiting-of-requires
 waiting-of-requires c κs = search needs
@@ -24,13 +13,13 @@ waiting-of-requires c κs = search needs
 has-requires : tie.Need-has-requires
 has-requires c κs = search needs
 
-returns-2 : tie.Need-returns-2
-returns-2 c =
-    let a = c .before .before .before .before .before .before .before .args in
+returns : tie.Need-returns
+returns c =
+    let a = c .before .before .before .before .before .args in
     let w = c .before .before .waiting-of in
     let h = c .before .has in
-    not-waiting (stationsIn (a .stations .now)) (roomsIn (a .messages .now)) (a .station .0) (a .t4) (a .m) (w .result) (h .result) (w .ensures) (h .ensures)
-    (not-true _ (c .if2 .taken))
+    not-waiting (stationsIn (a .stations .now)) (roomsIn (a .messages .now)) (a .station .0) (a .m) (a .next) (w .result) (h .result) (w .ensures) (h .ensures)
+    (not-true _ (c .if1 .taken))
 
 number-of-requires : tie.Need-number-of-requires
 number-of-requires c κs = search needs
@@ -38,44 +27,32 @@ number-of-requires c κs = search needs
 expected-of-requires : tie.Need-expected-of-requires
 expected-of-requires c κs = search needs
 
-returns-3 : tie.Need-returns-3
-returns-3 c =
-    let a = c .before .before .before .before .before .before .before .before .before .before .args in
-    let i = c .before .before .before .before .before .before .before .initiator-of in
+returns-2 : tie.Need-returns-2
+returns-2 c =
+    let a = c .before .before .before .before .before .before .before .before .args in
     let n = c .before .before .number-of in
     let y = c .before .expected-of in
-    not-handled (stationsIn (a .stations .now)) (roomsIn (a .messages .now)) (a .station .0) (a .t4) (a .m) (i .result .0) (n .result .0) (y .result)
-    (i .ensures) (n .ensures) (y .ensures) (c .if3 .taken)
+    not-handled (stationsIn (a .stations .now)) (roomsIn (a .messages .now)) (a .station .0) (a .m) (a .next) (a .initiator .0) (n .result .0) (y .result)
+    (c .before .before .before .before .before .before .before .before .pre .1) (n .ensures) (y .ensures) (c .if2 .taken)
 
-mul-result : tie.Need-mul-result
-mul-result c = search needs
-
-array-read-result : tie.Need-array-read-result
-array-read-result c = search needs
-
-returns-4 : tie.Need-returns-4
-returns-4 c =
-    let a = c .before .before .before .before .before .before .before .before .before .before .args in
-    let i = c .before .before .before .before .before .before .before .initiator-of in
+returns-3 : tie.Need-returns-3
+returns-3 c =
+    let a = c .before .before .before .before .before .before .before .before .args in
     let w = c .before .before .before .before .before .waiting-of in
     let h = c .before .before .before .before .has in
     let n = c .before .before .number-of in
     let y = c .before .expected-of in
-    by-next (stationsIn (a .stations .now)) (roomsIn (a .messages .now)) (a .station .0) (a .t4) (a .m) (w .result) (i .result .0) (n .result .0) (y .result) (h .result)
-    (w .ensures) (i .ensures) (n .ensures) (y .ensures) (h .ensures) (not-false _ (c .before .before .before .if2 .left)) (c .if3 .left)
+    by-next (stationsIn (a .stations .now)) (roomsIn (a .messages .now)) (a .station .0) (a .m) (a .next) (w .result) (a .initiator .0) (n .result .0) (y .result) (h .result)
+    (w .ensures) (c .before .before .before .before .before .before .before .before .pre .1) (n .ensures) (y .ensures) (h .ensures) (not-false _ (c .before .before .before .if1 .left)) (c .if2 .left)
 
 pub is-passed-spec : {M : Type 1} → statement M
 is-passed-spec =
     tie.close
     (tie.spec
-    initiator-of-requires
-    returns
     waiting-of-requires
     has-requires
-    returns-2
+    returns
     number-of-requires
     expected-of-requires
-    returns-3
-    mul-result
-    array-read-result
-    returns-4)
+    returns-2
+    returns-3)

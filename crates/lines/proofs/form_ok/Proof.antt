@@ -1,9 +1,9 @@
--- `lines::form_ok` meets its contract. Each part refuses what the form rule refuses, and together they ask all of it.
-use native.Mathlib.Omega.{arith}
-use mathlib.Core.Path.{refl, sym, _∙_}
+-- `lines::form_ok` meets its contract. Each part refuses what the form rule refuses, and the last decides.
+use mathlib.Core.Path.{refl, sym, subst, _∙_}
+use mathlib.Core.Bool.{Bool}
 use borrow.Author.Tests.{not-true, not-false}
-use Rattle.lines.proofs.Formed.{sized-of}
-use Rattle.lines.proofs.Test.{none-seen, form-unsized, form-unwalked, form-unbalanced, form-end}
+use Rattle.lines.specs.Parts.{Surveyed}
+use Rattle.lines.proofs.Test.{none-seen, form-unsized, form-unwalked}
 use borrow.Author.Needs.{needs}
 use Rattle.lines.proofs.form_ok.Statement.{statement}
 use Rattle.lines.proofs.form_ok.Tie as tie
@@ -31,34 +31,18 @@ returns-2 c =
     let v = c .before .before .lines-ok in
     form-unwalked (s .args .pool .now) (v .last .1 .0) (v .result) (v .ensures) (not-true _ (c .if2 .taken))
 
-slice-aggregate-rows-ok : tie.Need-slice-aggregate-rows-ok
-slice-aggregate-rows-ok c = search needs
+slice-aggregate-rest-ok : tie.Need-slice-aggregate-rest-ok
+slice-aggregate-rest-ok c = search needs
 
-rows-ok-requires : tie.Need-rows-ok-requires
-rows-ok-requires c κs =
+rest-ok-requires : tie.Need-rest-ok-requires
+rest-ok-requires c κs =
+    let s = c .before .before .before .before .before .before .before .before in
     let z = c .before .before .before .before .before .before .is-sized in
-    (sym (z .ensures) ∙ not-false _ (c .before .before .before .before .before .if1 .left), c .before .before .before .lines-ok .kept .1 .0)
+    let v = c .before .before .before .lines-ok in
+    (sym (z .ensures) ∙ not-false _ (c .before .before .before .before .before .if1 .left), v .kept .1 .0, subst (λ (b : Bool). Surveyed (s .args .pool .now) (v .last .1 .0) b) (not-false _ (c .before .if2 .left)) (v .ensures))
 
 returns-3 : tie.Need-returns-3
-returns-3 c =
-    let s = c .before .before .before .before .before .before .before .before .before .before in
-    let v = c .before .before .before .before .before .lines-ok in
-    let r = c .before .rows-ok in
-    form-unbalanced (s .args .pool .now) (v .last .1 .0) (v .result) (v .ensures) (not-false _ (c .before .before .before .if2 .left)) (r .result) (r .ensures) (not-true _ (c .if3 .taken))
-
-summary-ok-requires : tie.Need-summary-ok-requires
-summary-ok-requires c κs =
-    let s = c .before .before .before .before .before .before .before .before .before .before in
-    let z = c .before .before .before .before .before .before .before .before .is-sized in
-    omega (arith, sized-of (s .args .pool .now) (sym (z .ensures) ∙ not-false _ (c .before .before .before .before .before .before .before .if1 .left)) .0)
-
-returns-4 : tie.Need-returns-4
-returns-4 c =
-    let s = c .before .before .before .before .before .before .before .before .before .before .before in
-    let z = c .before .before .before .before .before .before .before .before .before .is-sized in
-    let v = c .before .before .before .before .before .before .lines-ok in
-    let r = c .before .before .rows-ok in
-    c .summary-ok .ensures ∙ form-end (s .args .pool .now) (v .last .1 .0) (v .result) (v .ensures) (not-false _ (c .before .before .before .before .if2 .left)) (r .result) (r .ensures) (sym (z .ensures) ∙ not-false _ (c .before .before .before .before .before .before .before .before .if1 .left)) (not-false _ (c .before .if3 .left))
+returns-3 c = c .rest-ok .ensures
 
 pub form-ok-spec : {M : Type 1} → statement M
 form-ok-spec =
@@ -69,8 +53,6 @@ form-ok-spec =
     slice-aggregate-lines-ok
     lines-ok-requires
     returns-2
-    slice-aggregate-rows-ok
-    rows-ok-requires
-    returns-3
-    summary-ok-requires
-    returns-4)
+    slice-aggregate-rest-ok
+    rest-ok-requires
+    returns-3)

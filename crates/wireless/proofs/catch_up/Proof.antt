@@ -1,37 +1,23 @@
 -- `wireless::catch_up` meets its contract.
-use mathlib.Core.Path.{ap, _∙_}
+use mathlib.Core.Path.{refl, ap, _∙_}
 use mathlib.Core.Option.{Option}
-use Prim.Native.Nat.{ℕ, _-_}
+use Prim.Native.Nat.{ℕ, _-_, _≤_}
 use native.Mathlib.Omega.{arith}
 use Rattle.stations.specs.View.{stationsIn}
 use Rattle.carts.specs.View.{cartsIn, withNext}
 use Rattle.queue.specs.Rooms.{tablesFloor}
 use Rattle.catchup.specs.Nearest.{stopBy}
 use Rattle.catchup.specs.Arrival.{isFound, queuedFor}
-use Rattle.wireless.proofs.Parts.{found-is, no-fall}
+use Rattle.wireless.proofs.Parts.{found-is, no-fall, stays, none-queued}
 use borrow.Author.Needs.{needs}
 use Rattle.wireless.proofs.catch_up.Statement.{statement}
 use Rattle.wireless.proofs.catch_up.Tie as tie
 
-nearest-of-requires : tie.Need-nearest-of-requires
-nearest-of-requires c κs = search needs
-
-stop-of-requires : tie.Need-stop-of-requires
-stop-of-requires c κs = search needs
+expected-of-requires : tie.Need-expected-of-requires
+expected-of-requires c κs = search needs
 
 put-next-requires : tie.Need-put-next-requires
 put-next-requires c κs = search needs
-
-enqueue-requires : tie.Need-enqueue-requires
-enqueue-requires c κs = search needs
-
-sub-result : tie.Need-sub-result
-sub-result c =
-    let a = c .before .before .before .before .before .before .before .before .before .before .before .before .before .before .before .args in
-    let F = tablesFloor (a .stations .now) (a .messages .now) in
-    let found = found-is F (a .station .0) (a .number .0) (a .initiator .0) (a .next) (c .before .before .before .before .before .before .before .before .before .before .nearest-of .result) (c .before .before .before .before .before .before .before .before .before .before .nearest-of .ensures) in
-    let upto = c .before .before .before .before .before .before .before .before .stop-of .ensures ∙ ap (λ (o : Option ℕ). stopBy F (a .station .0) (a .initiator .0) (a .next) o .upto) found in
-    omega (arith, upto, no-fall F (a .station .0) (a .number .0) (a .initiator .0) (a .next))
 
 same-length : tie.Need-same-length
 same-length c = search needs
@@ -39,13 +25,61 @@ same-length c = search needs
 same-length-2 : tie.Need-same-length-2
 same-length-2 c = search needs
 
+-- the next number is not below the expected one
 returns : tie.Need-returns
 returns c =
-    let a = c .before .before .before .before .before .before .before .before .before .before .before .before .before .before .before .args in
+    let a = c .before .before .before .before .before .before .before .before .before .before .args in
     let F = tablesFloor (a .stations .now) (a .messages .now) in
-    let found = found-is F (a .station .0) (a .number .0) (a .initiator .0) (a .next) (c .before .before .before .before .before .before .before .before .before .before .nearest-of .result) (c .before .before .before .before .before .before .before .before .before .before .nearest-of .ensures) in
+    let y = c .before .before .before .before .before .expected-of in
+    let taken = c .before .before .before .before .if1 .taken in
+    let low : F .expected (a .station .0) (a .initiator .0) ≤ a .next = omega (arith, y .ensures, taken) in
+    let upto = stays F (a .station .0) (a .number .0) (a .initiator .0) (a .next) low in
+    let put = c .before .before .put-next .ensures in
+    record {
+      stations = none-queued F (a .station .0) (a .number .0) (a .initiator .0) (a .next) (stationsIn (a .stations .now)) low;
+      head = refl;
+      words = refl;
+      carts = put .0 ∙ ap (withNext (cartsIn (a .carts .now)) (a .number .0) (a .initiator .0)) upto;
+      canonical = put .1 .0;
+      rows = put .1 .1;
+      passed = omega (arith, upto);
+    }
+
+nearest-of-requires : tie.Need-nearest-of-requires
+nearest-of-requires c κs = search needs
+
+stop-of-requires : tie.Need-stop-of-requires
+stop-of-requires c κs = search needs
+
+put-next-requires-2 : tie.Need-put-next-requires-2
+put-next-requires-2 c κs = search needs
+
+enqueue-requires : tie.Need-enqueue-requires
+enqueue-requires c κs = search needs
+
+sub-result : tie.Need-sub-result
+sub-result c =
+    let a = c .before .before .before .before .before .before .before .before .before .before .before .before .before .before .before .before .before .before .args in
+    let F = tablesFloor (a .stations .now) (a .messages .now) in
+    let n = c .before .before .before .before .before .before .before .before .before .before .nearest-of in
+    let found = found-is F (a .station .0) (a .number .0) (a .initiator .0) (a .next) (n .result) (n .ensures) in
     let upto = c .before .before .before .before .before .before .before .before .stop-of .ensures ∙ ap (λ (o : Option ℕ). stopBy F (a .station .0) (a .initiator .0) (a .next) o .upto) found in
-    let raised = c .before .before .before .before .before .before .put-next .ensures in
+    omega (arith, upto, no-fall F (a .station .0) (a .number .0) (a .initiator .0) (a .next))
+
+same-length-3 : tie.Need-same-length-3
+same-length-3 c = search needs
+
+same-length-4 : tie.Need-same-length-4
+same-length-4 c = search needs
+
+returns-2 : tie.Need-returns-2
+returns-2 c =
+    let a = c .before .before .before .before .before .before .before .before .before .before .before .before .before .before .before .before .before .before .args in
+    let F = tablesFloor (a .stations .now) (a .messages .now) in
+    let n = c .before .before .before .before .before .before .before .before .before .before .nearest-of in
+    let found = found-is F (a .station .0) (a .number .0) (a .initiator .0) (a .next) (n .result) (n .ensures) in
+    let upto = c .before .before .before .before .before .before .before .before .stop-of .ensures ∙ ap (λ (o : Option ℕ). stopBy F (a .station .0) (a .initiator .0) (a .next) o .upto) found in
+    let raised = c .before .before .before .before .before .before .put-next2 .ensures in
     let queued = c .before .before .enqueue .ensures in
     record {
       stations = queued .0 ∙ ap (λ (o : Option ℕ). queuedFor (stationsIn (a .stations .now)) (a .station .0) (a .number .0) (isFound o)) found;
@@ -61,11 +95,16 @@ pub catch-up-spec : {M : Type 1} → statement M
 catch-up-spec =
     tie.close
     (tie.spec
-    nearest-of-requires
-    stop-of-requires
+    expected-of-requires
     put-next-requires
-    enqueue-requires
-    sub-result
     same-length
     same-length-2
-    returns)
+    returns
+    nearest-of-requires
+    stop-of-requires
+    put-next-requires-2
+    enqueue-requires
+    sub-result
+    same-length-3
+    same-length-4
+    returns-2)
