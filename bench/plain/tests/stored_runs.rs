@@ -2,26 +2,40 @@
 
 use std::fs;
 use std::io::{self, Read, Write};
-use std::path::{Path, PathBuf};
+use std::path::Path;
 use std::process::{Command, Stdio};
 
-/// Where the stored runs lie, seen from this package: NAME.frames and NAME.out.
-const RUNS: &str = "../runs";
+/// The crate that has the stored runs, seen from this package: the frames of each in `data`, and in
+/// `stdout` what they print, each under a line with the name of its frames.
+const RUNS: &str = "../../crates/runs";
 
-fn stored_runs() -> Vec<PathBuf> {
+struct Stored {
+    name: String,
+    frames: Vec<u8>,
+    printed: Vec<u8>,
+}
+
+fn stored_runs() -> Vec<Stored> {
     let folder = Path::new(env!("CARGO_MANIFEST_DIR")).join(RUNS);
-    let mut runs: Vec<PathBuf> = fs::read_dir(&folder)
-        .unwrap_or_else(|error| panic!("{}: {error}", folder.display()))
-        .map(|entry| entry.unwrap().path())
-        .filter(|path| path.extension().is_some_and(|extension| extension == "frames"))
-        .collect();
-    runs.sort();
-    assert!(!runs.is_empty(), "no stored run in {}", folder.display());
+    let stdout = fs::read_to_string(folder.join("stdout")).expect("stdout of the crate runs");
+    let mut runs: Vec<Stored> = Vec::new();
+    for line in stdout.split_inclusive('\n') {
+        let name = line.trim_end();
+        if name.ends_with(".frames") {
+            let frames = fs::read(folder.join("data").join(name)).expect(name);
+            runs.push(Stored { name: name.into(), frames, printed: Vec::new() });
+        } else {
+            runs.last_mut().expect("a name").printed.extend(line.as_bytes());
+        }
+    }
+    let files = fs::read_dir(folder.join("data")).unwrap().count();
+    assert!(files > 0 && runs.len() == files, "{} runs of {files} files", runs.len());
     runs
 }
 
 /// Says where two printed runs part, since a whole run is too long to print.
-fn assert_same(run: &Path, printed: &[u8], wanted: &[u8]) {
+fn assert_same(run: &Stored, printed: &[u8]) {
+    let wanted = run.printed.as_slice();
     if printed == wanted {
         return;
     }
@@ -30,14 +44,13 @@ fn assert_same(run: &Path, printed: &[u8], wanted: &[u8]) {
     };
     let (printed, wanted) = (lines(printed), lines(wanted));
     let at = printed.iter().zip(&wanted).take_while(|(a, b)| a == b).count();
-    panic!("{}: line {at}: {:?}, not {:?}", run.display(), printed.get(at), wanted.get(at));
+    panic!("{}: line {at}: {:?}, not {:?}", run.name, printed.get(at), wanted.get(at));
 }
 
 #[test]
 fn the_program_prints_every_stored_run() {
     for run in stored_runs() {
-        let frames = fs::read(&run).unwrap();
-        let wanted = fs::read(run.with_extension("out")).unwrap();
+        let frames = run.frames.clone();
         let mut program = Command::new(env!("CARGO_BIN_EXE_plain"))
             .stdin(Stdio::piped())
             .stdout(Stdio::piped())
@@ -49,7 +62,7 @@ fn the_program_prints_every_stored_run() {
         let output = program.wait_with_output().unwrap();
         writer.join().unwrap();
         assert!(output.status.success());
-        assert_same(&run, &output.stdout, &wanted);
+        assert_same(&run, &output.stdout);
     }
 }
 
@@ -77,13 +90,11 @@ impl Read for Pieces<'_> {
 #[test]
 fn pieces_of_any_size_make_no_difference() {
     for run in stored_runs() {
-        let octets = fs::read(&run).unwrap();
-        let wanted = fs::read(run.with_extension("out")).unwrap();
         for size in [1, 2, 7, 15, 16, 17, 33, 48, 1000, 1 << 20] {
             let mut printed = Vec::new();
-            let pieces = Pieces { octets: &octets, size, interrupted: false };
+            let pieces = Pieces { octets: &run.frames, size, interrupted: false };
             plain::run::run(pieces, &mut printed).unwrap();
-            assert_same(&run, &printed, &wanted);
+            assert_same(&run, &printed);
         }
     }
 }

@@ -2,6 +2,7 @@
 
 #![forbid(unsafe_code)]
 
+pub mod cases;
 pub mod damage;
 pub mod generate;
 pub mod random;

@@ -3,6 +3,7 @@
 use std::fs;
 use std::path::Path;
 
+use frames::cases::{case, CASES};
 use frames::damage::any_stream;
 use frames::generate::{give, stream, Wishes};
 use frames::random::Random;
@@ -10,8 +11,8 @@ use frames::script::{script, show};
 use plain::frames::{Reader, Taken};
 use plain::Floor;
 
-/// Where the stored runs lie, seen from this package: NAME.frames and NAME.out.
-const RUNS: &str = "../runs";
+/// Where the frames of the stored runs lie, seen from this package.
+const RUNS: &str = "../../crates/runs/data";
 
 const K1: &str = "
 # K1: a cart moves to the initiator before it has the message.
@@ -30,11 +31,42 @@ wire 1 0
 wire 1 1
 ";
 
+/// The frames of a stored run, if it is stored.
+fn stored(name: &str) -> Option<Vec<u8>> {
+    let folder = Path::new(env!("CARGO_MANIFEST_DIR")).join(RUNS);
+    fs::read(folder.join(name).with_extension("frames")).ok()
+}
+
 #[test]
 fn the_script_of_k1_gives_the_stored_frames() {
-    let folder = Path::new(env!("CARGO_MANIFEST_DIR")).join(RUNS);
-    let stored = fs::read(folder.join("k1.frames")).expect("k1.frames among the stored runs");
-    assert_eq!(script(K1).unwrap(), stored);
+    assert_eq!(script(K1).unwrap(), stored("k1").expect("k1 among the stored runs"));
+}
+
+#[test]
+fn the_frames_of_the_example_are_those_of_its_script() {
+    let folder = Path::new(env!("CARGO_MANIFEST_DIR")).join("../../examples");
+    let text = fs::read_to_string(folder.join("hand-off.txt")).unwrap();
+    assert_eq!(script(&text).unwrap(), fs::read(folder.join("hand-off.frames")).unwrap());
+    // `example` shows the script and the printed run line by line.
+    assert_eq!(show(&script(&text).unwrap()).lines().count(), text.lines().count());
+}
+
+#[test]
+fn the_runs_that_have_a_name_are_the_stored_ones() {
+    for (name, _) in CASES {
+        let octets = case(name).unwrap();
+        // The longest is too long to store.
+        if name != "late_60000" {
+            assert!(stored(name) == Some(octets), "{name} is not the stored run");
+        }
+    }
+    assert_eq!(case("another"), None);
+}
+
+#[test]
+fn the_stored_random_run_of_a_full_floor() {
+    let (octets, _) = stream(20, 4_000, Wishes { bad: 6, ..Wishes::default() });
+    assert!(stored("random_16x64") == Some(octets));
 }
 
 #[test]

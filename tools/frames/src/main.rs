@@ -3,6 +3,7 @@
 use std::io::{self, Read, Write};
 use std::process::ExitCode;
 
+use frames::cases::{case, CASES};
 use frames::generate::{Generator, Wishes};
 use frames::script::{script, show};
 
@@ -14,7 +15,9 @@ frames script < TEXT > FRAMES
     enter STATION CART, send STATION CARTS TEXT, wire FROM TO, radio STATION CART,
     move CART TO, octets HEXADECIMAL; CARTS as 0,3 or -, TEXT in hexadecimal or -
 frames show < FRAMES > TEXT
-    writes the script of a stream";
+    writes the script of a stream
+frames case NAME > FRAMES
+    writes a run that has a name; without one, says which there are";
 
 /// Octets written at a time.
 const PIECE: usize = 1 << 16;
@@ -28,6 +31,14 @@ fn main() -> ExitCode {
             let text = String::from_utf8(octets).map_err(|_| "the script is not UTF-8")?;
             write_all(&script(&text).map_err(|mistake| mistake.to_string())?)
         }),
+        ["case", name] => case(name)
+            .ok_or_else(|| format!("no run is called {name:?}"))
+            .and_then(|octets| write_all(&octets)),
+        ["case"] => {
+            let lines: Vec<String> =
+                CASES.iter().map(|(name, what)| format!("{name}: {what}\n")).collect();
+            write_all(lines.concat().as_bytes())
+        }
         ["show"] => read_all().and_then(|octets| write_all(show(&octets).as_bytes())),
         _ => Err(USAGE.into()),
     };
