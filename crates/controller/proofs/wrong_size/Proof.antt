@@ -8,7 +8,7 @@ returns : tie.Need-returns
 returns c = let a = c .before .args in no-stations (a .n) (a .k) (c .if1 .taken)
 
 returns-2 : tie.Need-returns-2
-returns-2 c = let a = c .before .before .args in many-stations (a .n) (a .k) (c .before .if1 .left) (c .if2 .taken)
+returns-2 c = let a = c .before .before .args in many-stations (a .n) (a .k) (c .before .if1 .left) (omega (arith, c .if2 .taken))
 
 returns-3 : tie.Need-returns-3
 returns-3 c = let a = c .before .before .before .args in no-carts (a .n) (a .k) (c .before .before .if1 .left) (omega (arith, c .before .if2 .left)) (c .if3 .taken)
