@@ -1,16 +1,14 @@
--- FOR A CALLER: what a radio step came to, case by case, and the text in a lent buffer.
-use mathlib.Core.Path.{_≡_, refl, ap, _∙_, subst}
-use mathlib.Core.List.{List, [], _∷_, _++_}
+-- FOR A CALLER: what a radio step came to, case by case.
+use mathlib.Core.Path.{_≡_, refl, subst}
+use mathlib.Core.List.{List, [], _∷_}
 use Prim.{tt}
 use Prim.Native.Nat.{ℕ, _≤_, _<_}
-use lib.ListN.{length, drop}
 use denote.Enum.Declared.{tagOf}
 use types.Run.{OneOf, miss}
-use Rattle.protocol.specs.Events.{refused, bufferAfter}
+use Rattle.protocol.specs.Events.{refused}
 use Rattle.ids.specs.declared.Station.{Station}
 use Rattle.ids.specs.declared.MessageNumber.{MessageNumber}
-use Rattle.messages.specs.Texts.{longest, textOctets, textIn}
-use Rattle.messages.proofs.TextLaws.{whole-texts, length-text}
+use Rattle.messages.specs.Texts.{longest}
 use Rattle.receiving.specs.declared.Handing.{Handing}
 use Rattle.receiving.specs.declared.Handing.the-variants.{Refused, Over}
 use Rattle.receiving.specs.Handing.{handingIn, refusalOfHanding, Fits}
@@ -25,9 +23,3 @@ module _ (buffer : ℕ) (h : Handing) (m size : ℕ) (s : Station) (n : MessageN
   -- the room and the octets of a message that was handed over
   pub over-fits : (m < 32) × (size ≤ longest) × (size ≤ buffer)
   over-fits = subst (Fits buffer) is fits
-
-  -- "writes the text at the front of the lent buffer and leaves the rest"
-  pub over-buffer : (T B : List ℕ) → length T ≡ textOctets → bufferAfter (handingIn T h) B ≡ textIn T size m ++ drop size B
-  over-buffer T B e =
-      ap (λ (g : Handing). bufferAfter (handingIn T g) B) is
-      ∙ ap (λ (k : ℕ). textIn T size m ++ drop k B) (length-text T size m (whole-texts T e m (over-fits .0)) (over-fits .1))

@@ -71,14 +71,20 @@ short-text l n h = omega (arith, length-take n (drop 16 l))
 pub for-event : (L L′ : Lent) (e ev : events.Event) (b : events.Answer) → e ≡ ev → Met L L′ e b → Met L L′ ev b
 for-event L L′ e ev b q met = subst (λ (x : events.Event). Met L L′ x b) q met
 
--- an answer without a text, as it is told
+-- an answer as it is told: it may look at the texts
+told-as : (L L′ : Lent) (ev e : events.Event) (b : List ℕ → events.Answer) (r : Told) (T : List ℕ) → ev ≡ e → Within r × ((T : List ℕ) → toldIn T r ≡ b T)
+    → Met L L′ e (b T) → Within r × Met L L′ ev (toldIn T r)
+told-as L L′ ev e b r T q told met = (told .0, subst (λ (x : events.Answer). Met L L′ ev x) (sym (told .1 T)) (subst (λ (x : events.Event). Met L L′ x (b T)) (sym q) met))
+
+-- one without a text
 pub told-plainly : (L L′ : Lent) (ev e : events.Event) (b : events.Answer) (r : Told) (T : List ℕ) → ev ≡ e → Within r × ((T : List ℕ) → toldIn T r ≡ b)
     → Met L L′ e b → Within r × Met L L′ ev (toldIn T r)
-told-plainly L L′ ev e b r T q told met = (told .0, subst (λ (x : events.Answer). Met L L′ ev x) (sym (told .1 T)) (subst (λ (x : events.Event). Met L L′ x b) (sym q) met))
+told-plainly L L′ ev e b r T q told met = told-as L L′ ev e (λ _. b) r T q told met
 
+-- and a radio step's
 pub told-text : (L L′ : Lent) (ev e : events.Event) (h : Handing) (r : Told) (T : List ℕ) → ev ≡ e → Within r × ((T : List ℕ) → toldIn T r ≡ handingIn T h)
     → Met L L′ e (handingIn T h) → Within r × Met L L′ ev (toldIn T r)
-told-text L L′ ev e h r T q told met = (told .0, subst (λ (x : events.Answer). Met L L′ ev x) (sym (told .1 T)) (subst (λ (x : events.Event). Met L L′ x (handingIn T h)) (sym q) met))
+told-text L L′ ev e h r T q told met = told-as L L′ ev e (λ T. handingIn T h) r T q told met
 
 -- the event of a send, with its text from the input
 pub send-is : (l : List ℕ) (at n : ℕ) (e : Event) (s : Station) (set : ℕ) → e ≡ Send s set n

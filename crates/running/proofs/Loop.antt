@@ -32,6 +32,7 @@ pub record Going (input : List ℕ) (index : ℕ) (last : Bool) (L₀ L : Lent) 
   pub kept : length out ≡ length out₀
   pub few : p .state ≡ 0 → p .frames ≤ p .read
   pub counted : p .frames ≤ p .read + 1
+  pub why : p .state ≤ 2
   pub waits : p .state ≡ 1 → NoneWhole last (readAt limits input (p .read))
   pub ends : p .state ≡ 2 → EndsRun last (readAt limits input (p .read))
 
@@ -51,6 +52,7 @@ module _ (input : List ℕ) (index : ℕ) (last : Bool) (L₀ : Lent) (out₀ : 
         kept = refl;
         few = λ z. omega arith;
         counted = omega arith;
+        why = omega arith;
         waits = λ z. absurd (omega arith);
         ends = λ z. absurd (omega arith);
       }
@@ -66,6 +68,7 @@ module _ (input : List ℕ) (index : ℕ) (last : Bool) (L₀ : Lent) (out₀ : 
           kept = t .kept ∙ g .kept;
           few = t .few;
           counted = t .counted;
+          why = t .why;
           waits = t .waits;
           ends = t .ends;
         }
@@ -95,6 +98,7 @@ module _ (input : List ℕ) (index : ℕ) (last : Bool) (L₀ : Lent) (out₀ : 
             few = g .counted;
             within = let a = g .within in let k = g .kept in omega arith;
             kept = g .kept;
+            why = g .why;
             waits = g .waits;
             ends = g .ends;
             full = λ z. let none : leb (p .written + longestLine) (length out) ≡ false = ap (λ (x : Bool). x && leb (p .written + longestLine) (length out)) (sym (eq-eqb (p .state) 0 z)) ∙ sym test ∙ t in

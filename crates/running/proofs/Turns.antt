@@ -124,6 +124,7 @@ module _ (input : List ℕ) (index : ℕ) (last : Bool) (L : Lent) (out : List �
             counted = omega arith;
             onward = λ z. absurd (omega arith);
             stays = omega arith;
+            why = omega arith;
             waits = λ z. none;
             ends = λ z. absurd (omega arith);
           }
@@ -146,6 +147,7 @@ module _ (input : List ℕ) (index : ℕ) (last : Bool) (L : Lent) (out : List �
         counted = let a = is .0 in let b = is .1 in omega arith;
         onward = λ z. absurd (let a = is .2 in omega arith);
         stays = let a = is .0 in omega arith;
+        why = let a = is .2 in omega arith;
         waits = λ z. absurd (let a = is .2 in omega arith);
         ends = λ z. subst (λ (x : Reading). EndsRun last x) (sym (ap (readAt limits input) (is .0) ∙ q)) cut-last;
       }
@@ -170,6 +172,7 @@ module _ (input : List ℕ) (index : ℕ) (last : Bool) (L : Lent) (out : List �
         counted = let a = t .read in let b = t .frames in omega arith;
         onward = λ z. let a = t .read in omega arith;
         stays = let a = t .read in omega arith;
+        why = let a = t .state in omega arith;
         waits = λ z. absurd (let a = t .state in omega arith);
         ends = λ z. absurd (let a = t .state in omega arith);
       }

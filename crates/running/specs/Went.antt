@@ -47,6 +47,7 @@ pub record Went (input : List ℕ) (index : ℕ) (last : Bool) (L L′ : Lent) (
   pub few : p .frames ≤ p .read + 1
   pub within : p .written ≤ length out
   pub kept : length out′ ≡ length out
+  pub why : p .state ≤ 2
   pub waits : p .state ≡ 1 → NoneWhole last (readAt limits input (p .read))
   pub ends : p .state ≡ 2 → EndsRun last (readAt limits input (p .read))
   pub full : p .state ≡ 0 → length out < p .written + longestLine
@@ -71,5 +72,6 @@ pub record Turned (input : List ℕ) (index : ℕ) (last : Bool) (L L′ : Lent)
   pub counted : r .frames ≤ r .read + 1
   pub onward : r .state ≡ 0 → p .read < r .read
   pub stays : p .read ≤ r .read
+  pub why : r .state ≤ 2
   pub waits : r .state ≡ 1 → NoneWhole last (readAt limits input (r .read))
   pub ends : r .state ≡ 2 → EndsRun last (readAt limits input (r .read))
