@@ -2,7 +2,7 @@
 
 use crate::numbers::Numbers;
 use crate::rule;
-use plain::words::{Words, ROWS};
+use plain::words::{Words, COPIES, ENTRIES, ROOM_WORDS, ROWS, STATION_ROW};
 
 /// Where the lines and the records begin among the words of the lines.
 const LINES: usize = 50;
@@ -47,8 +47,24 @@ fn swap(numbers: &mut Numbers, lines: &mut [u64]) {
     lines.swap(RECORDS + 3 * a + 2, RECORDS + 3 * b + 2);
 }
 
+/// A room that has a message, if any has.
+fn held_room(numbers: &mut Numbers, messages: &[u64]) -> usize {
+    let held: Vec<usize> = (0..32).filter(|m| messages[6 * m + 4] != 0).collect();
+    match held.len() {
+        0 => 0,
+        some => held[numbers.below(some as u64) as usize],
+    }
+}
+
+/// At some station the copy or the queue's entry of a room counts that did not, or the other way round.
+fn recount(numbers: &mut Numbers, w: &mut Words) {
+    let room = held_room(numbers, &w.messages);
+    let row = STATION_ROW * (1 + numbers.below(w.stations[1]) as usize);
+    w.stations[row + COPIES + numbers.below(2) as usize] ^= 1 << room;
+}
+
 fn word(numbers: &mut Numbers, w: &mut Words) {
-    match numbers.below(9) {
+    match numbers.below(10) {
         0 => {
             let at = numbers.below(w.texts.len() as u64) as usize;
             w.texts[at] ^= 1 << numbers.below(8);
@@ -56,6 +72,7 @@ fn word(numbers: &mut Numbers, w: &mut Words) {
         1..=3 => replace(numbers, &mut w.stations),
         4 => replace(numbers, &mut w.carts),
         5..=6 => replace(numbers, &mut w.messages),
+        7 => recount(numbers, w),
         _ => {
             let at = line_word(numbers, &w.lines);
             w.lines[at] = other(numbers, &w.lines, at);
@@ -92,15 +109,34 @@ fn length(numbers: &mut Numbers, w: &mut Words) {
 fn many_numbers(numbers: &mut Numbers, w: &mut Words) {
     let n = w.stations[1] as usize;
     let s = numbers.below(n as u64) as usize;
-    if (0..n).any(|t| w.stations[114 * (1 + t) + 1 + s] != w.stations[114 * (1 + s)]) {
+    let row = |t: usize| STATION_ROW * (1 + t);
+    if (0..n).any(|t| w.stations[row(t) + 1 + s] != w.stations[row(s)]) {
         return;
     }
     let sent = [65_535, 65_534, 65_535, 65_533, 40_000][numbers.below(5) as usize];
-    w.stations[114 * (1 + s)] = sent;
-    (0..n).for_each(|t| w.stations[114 * (1 + t) + 1 + s] = sent);
+    w.stations[row(s)] = sent;
+    (0..n).for_each(|t| w.stations[row(t) + 1 + s] = sent);
 }
 
-/// What no step looks at: the words of free rooms, of free rows and behind a text.
+/// Where a room has no copy at a station, or no entry in its queue: an empty word that counts, or any word that does not. Bits of no room are any.
+fn uncounted(numbers: &mut Numbers, stations: &mut [u64]) {
+    for row in stations.chunks_exact_mut(STATION_ROW).skip(1) {
+        for (among, first) in [(COPIES, ROOM_WORDS), (ENTRIES, ROOM_WORDS + 2)] {
+            for m in 0..32 {
+                let at = first + 3 * m;
+                if row[among] >> m & 1 == 1 && row[at] != 0 {
+                    continue;
+                }
+                let counts = numbers.below(2);
+                row[among] = row[among] & !(1 << m) | counts << m;
+                row[at] = if counts == 1 { 0 } else { numbers.next() };
+            }
+            row[among] ^= numbers.next() << 32;
+        }
+    }
+}
+
+/// What no step looks at: the words of free rooms, of rooms that do not count, of free rows and behind a text.
 fn leftovers(numbers: &mut Numbers, w: &mut Words) {
     let all = u64::MAX >> (64 - w.stations[2]);
     for m in 0..32 {
@@ -112,11 +148,13 @@ fn leftovers(numbers: &mut Numbers, w: &mut Words) {
         w.messages[6 * m + 2] = numbers.next() & all;
         w.messages[6 * m + 3] = numbers.next() & all;
         w.messages[6 * m + 5] = numbers.below(33);
-        for t in 1..17 {
-            w.stations[114 * t + 18 + 3 * m] = numbers.next() & all;
-            w.stations[114 * t + 19 + 3 * m] = numbers.next() & all;
+        for row in w.stations.chunks_exact_mut(STATION_ROW).skip(1) {
+            row[ROOM_WORDS + 3 * m] = numbers.next() & all;
+            row[ROOM_WORDS + 3 * m + 1] = numbers.next() & all;
+            row[COPIES] ^= numbers.below(2) << m;
         }
     }
+    uncounted(numbers, &mut w.stations);
     for r in 0..ROWS {
         if w.lines[r / 64] >> (r % 64) & 1 == 1 {
             w.lines[RECORDS + 3 * r + numbers.below(3) as usize] = numbers.next();
@@ -127,18 +165,16 @@ fn leftovers(numbers: &mut Numbers, w: &mut Words) {
 /// A word that says something of a cart, a held message, or what a station of the floor keeps: its part, and where it stands.
 fn meaningful(numbers: &mut Numbers, w: &Words) -> (usize, usize) {
     let (n, k) = (w.stations[1], w.stations[2]);
-    let held: Vec<usize> = (0..32).filter(|m| w.messages[6 * m + 4] != 0).collect();
-    let room = match held.len() {
-        0 => 0,
-        some => held[numbers.below(some as u64) as usize],
-    };
+    let room = held_room(numbers, &w.messages);
     let (t, c) = (numbers.below(n) as usize, numbers.below(k) as usize);
-    match numbers.below(6) {
+    let row = STATION_ROW * (1 + t);
+    match numbers.below(7) {
         0 => (1, 19 * c + 3 + t),
         1 => (2, 6 * room + 2 + numbers.below(4) as usize),
-        2 => (0, 114 * (1 + t)),
-        3 => (0, 114 * (1 + t) + 1 + numbers.below(n) as usize),
-        _ => (0, 114 * (1 + t) + 18 + 3 * room + numbers.below(3) as usize),
+        2 => (0, row),
+        3 => (0, row + 1 + numbers.below(n) as usize),
+        4 => (0, row + COPIES + numbers.below(2) as usize),
+        _ => (0, row + ROOM_WORDS + 3 * room + numbers.below(3) as usize),
     }
 }
 

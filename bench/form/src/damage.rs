@@ -1,7 +1,7 @@
-//! Damage to the words of a floor: a word or two replaced, a record doubled, a length changed.
+//! Damage to the words of a floor: a word or two replaced, which rooms count, a record doubled, a length changed.
 
 use crate::numbers::Numbers;
-use plain::words::{Words, ROWS};
+use plain::words::{Words, COPIES, ROOM_WORDS, ROWS, STATION_ROW};
 
 /// Where the lines and the records begin among the words of the lines.
 const LINES: usize = 50;
@@ -37,6 +37,17 @@ fn double(numbers: &mut Numbers, lines: &mut [u64]) {
     lines.copy_within(from + 1..from + 3, to + 1);
 }
 
+/// At some station the copy or the queue's entry of a room counts that did not, or the other way round; half the time it is another one too.
+fn recount(numbers: &mut Numbers, stations: &mut [u64]) {
+    let rows = stations.len() / STATION_ROW;
+    let row = STATION_ROW * (1 + numbers.below(rows as u64 - 1) as usize);
+    let (room, entry) = (numbers.below(32) as usize, numbers.below(2) as usize);
+    stations[row + COPIES + entry] ^= 1 << room;
+    if numbers.below(2) == 0 {
+        replace(numbers, stations, row + ROOM_WORDS + 3 * room + 2 * entry);
+    }
+}
+
 /// More often than not, a word of the lines that means something.
 fn line_word(numbers: &mut Numbers, lines: &[u64]) -> usize {
     match numbers.below(4) {
@@ -65,6 +76,7 @@ fn one(numbers: &mut Numbers, w: &mut Words) {
             let room = numbers.below(w.messages.len() as u64 / 6) as usize;
             w.messages[6 * room + 4] ^= 1 << numbers.below(16);
         }
+        10..=13 => recount(numbers, &mut w.stations),
         part => {
             let words = [&mut w.stations, &mut w.carts, &mut w.messages, &mut w.lines];
             let words = words.into_iter().nth(part as usize % 4).expect("there are four");

@@ -46,7 +46,11 @@ pub enum Fault {
 
 use Fault::*;
 
-type StationRow = [u64; 114];
+/// Which rooms' copies count at a station, and which rooms' queue entries.
+const COPIES: usize = 114;
+const ENTRIES: usize = 115;
+
+type StationRow = [u64; 116];
 type CartRow = [u64; 19];
 
 /// What the tables say of a room.
@@ -142,6 +146,15 @@ fn within(a: u64, b: u64) -> bool {
     a & !b == 0
 }
 
+/// The word of room m where that room is among those which count; else it has none.
+fn counted(among: u64, m: usize, word: u64) -> u64 {
+    if among >> m & 1 == 1 {
+        word
+    } else {
+        0
+    }
+}
+
 /// The members of a set, lowest first.
 fn members(mut set: u64) -> impl Iterator<Item = usize> {
     std::iter::from_fn(move || {
@@ -227,9 +240,11 @@ impl Floor<'_> {
         let mut missing = [0; ROOMS];
         let mut sets = 0;
         for (t, row) in self.stations[1..].iter().enumerate() {
-            let (entries, _) = row[18..].as_chunks::<3>();
+            let (entries, _) = row[18..COPIES].as_chunks::<3>();
             for ((m, room), &[copy, acks, queue]) in self.rooms.iter_mut().enumerate().zip(entries)
             {
+                let (copy, queue) =
+                    (counted(row[COPIES], m, copy), counted(row[ENTRIES], m, queue));
                 sets |= copy | acks | queue;
                 if queue != 0 {
                     ensure(room.waiting != 0 && within(queue, row[17] & room.named), Queue)?;

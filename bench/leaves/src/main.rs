@@ -32,7 +32,7 @@ fn floors(held: usize) -> (proved::Tables, plain::Tables) {
     let mut words = proved::Tables::new();
     let mut plain = plain::Tables::new();
     for t in 0..16 {
-        let row = 114 * (1 + t);
+        let row = 116 * (1 + t);
         for s in 0..16 {
             let expected = 100 + numbers.below(20);
             words.stations[row + 1 + s] = expected;
@@ -48,8 +48,10 @@ fn floors(held: usize) -> (proved::Tables, plain::Tables) {
             words.stations[row + 18 + 3 * m] = copy;
             words.stations[row + 19 + 3 * m] = acks;
             words.stations[row + 20 + 3 * m] = queue;
-            plain.stations[t].entries[m] = plain::Entry { copy, acks, queue };
+            plain.stations[t].put(m, plain::Entry { copy, acks, queue });
         }
+        words.stations[row + 114] = plain.stations[t].copied as u64;
+        words.stations[row + 115] = plain.stations[t].queued as u64;
     }
     for m in 0..held {
         let (initiator, number, waiting) =

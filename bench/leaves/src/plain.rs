@@ -43,7 +43,29 @@ pub struct Entry {
 pub struct Station {
     pub expected: [u64; 16],
     pub local: u64,
+    /// The rooms that have a copy here, and those that have an entry in the queue.
+    pub copied: u32,
+    pub queued: u32,
     pub entries: [Entry; 32],
+}
+
+impl Station {
+    pub fn put(&mut self, m: usize, entry: Entry) {
+        self.copied |= ((entry.copy != 0) as u32) << m;
+        self.queued |= ((entry.queue != 0) as u32) << m;
+        self.entries[m] = entry;
+    }
+}
+
+/// The rooms of a set, lowest first.
+fn rooms_of(mut set: u32) -> impl Iterator<Item = usize> {
+    std::iter::from_fn(move || {
+        (set != 0).then(|| {
+            let m = set.trailing_zeros() as usize;
+            set &= set - 1;
+            m
+        })
+    })
 }
 
 #[derive(Clone, Copy, Default)]
@@ -71,12 +93,8 @@ impl Tables {
     /// The room at the head of the queue: least number, then higher initiator.
     #[inline(never)]
     pub fn head(&self, t: usize) -> Option<usize> {
-        let station = &self.stations[t];
         let mut head: Option<usize> = None;
-        for (m, entry) in station.entries.iter().enumerate() {
-            if entry.queue == 0 {
-                continue;
-            }
+        for m in rooms_of(self.stations[t].queued) {
             let held = &self.held[m];
             let first = head.is_none_or(|k| {
                 let other = &self.held[k];
@@ -97,13 +115,14 @@ impl Tables {
         station.local & entry.copy & !entry.acks == 0
     }
 
-    /// How far the cart's next numbers rise: for each initiator to its nearest message, by one pass over the rooms.
+    /// How far the cart's next numbers rise: for each initiator to its nearest message, by one pass over the rooms that have a copy.
     #[inline(never)]
     pub fn catch_up(&self, t: usize, c: usize) -> u64 {
         let station = &self.stations[t];
         let row = &self.next[c];
         let mut stop = [u64::MAX; 16];
-        for (held, entry) in self.held.iter().zip(&station.entries) {
+        for m in rooms_of(station.copied) {
+            let (held, entry) = (&self.held[m], &station.entries[m]);
             let s = held.initiator;
             if held.waiting >> t & 1 == 1
                 && held.number < station.expected[s]

@@ -81,7 +81,7 @@ pub struct Tables {
 
 impl Tables {
     pub fn new() -> Self {
-        Tables { stations: vec![0; 1_938], carts: vec![0; 1_216], messages: vec![0; 192] }
+        Tables { stations: vec![0; 1_972], carts: vec![0; 1_216], messages: vec![0; 192] }
     }
 
     #[inline(always)]

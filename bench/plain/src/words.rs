@@ -8,6 +8,15 @@ use crate::floor::{
 /// Rows of the pool of records.
 pub const ROWS: usize = 3_136;
 
+/// Words of a row of the stations' table: row 0 is the floor's own, row 1 + t station t's.
+pub const STATION_ROW: usize = 116;
+
+/// Where the rooms begin in a station's row, with three words each; and which rooms' copies count
+/// there, and which rooms' queue entries. A room that does not has none, whatever its word says.
+pub const ROOM_WORDS: usize = 18;
+pub const COPIES: usize = 114;
+pub const ENTRIES: usize = 115;
+
 /// Where the lines and the rows begin among the words of the pool.
 const LINES: usize = 50;
 const RECORDS: usize = 818;
@@ -36,16 +45,20 @@ impl Floor {
     }
 
     fn station_words(&self) -> Vec<u64> {
-        let mut words = vec![0; 114 * (1 + STATIONS)];
+        let mut words = vec![0; STATION_ROW * (1 + STATIONS)];
         words[..3].copy_from_slice(&[self.started as u64, self.stations as u64, self.carts as u64]);
-        for (row, station) in words.chunks_exact_mut(114).skip(1).zip(&self.station) {
+        for (row, station) in words.chunks_exact_mut(STATION_ROW).skip(1).zip(&self.station) {
             row[0] = station.sent as u64;
             row[17] = station.local;
             for (word, expected) in row[1..].iter_mut().zip(station.expected) {
                 *word = expected as u64;
             }
-            for (entry, at) in row[18..].chunks_exact_mut(3).zip(&station.buffered) {
+            for (m, at) in station.buffered.iter().enumerate() {
+                let entry = &mut row[ROOM_WORDS + 3 * m..][..3];
                 entry.copy_from_slice(&[at.copy, at.ack_list, at.queued]);
+                // Those that are not empty count.
+                row[COPIES] |= ((at.copy != 0) as u64) << m;
+                row[ENTRIES] |= ((at.queued != 0) as u64) << m;
             }
         }
         words
@@ -148,8 +161,8 @@ impl Floor {
 }
 
 /// The floor that words say which pass the form rule; of others it may say anything, or panic.
-/// What the rule leaves open where nothing is (in a free room, beyond the stations, behind a text)
-/// is read as empty.
+/// What the rule leaves open where nothing is (in a free room, in a copy or an entry that does not
+/// count, beyond the stations, behind a text) is read as empty.
 impl Floor {
     pub fn from_words(words: &Words) -> Floor {
         let mut floor = Floor::new();
@@ -200,7 +213,7 @@ impl Floor {
     }
 
     fn read_stations(&mut self, words: &Words) {
-        let rows = words.stations.chunks_exact(114).skip(1);
+        let rows = words.stations.chunks_exact(STATION_ROW).skip(1);
         for (t, (row, station)) in
             rows.zip(&mut self.station).take(self.stations as usize).enumerate()
         {
@@ -211,12 +224,12 @@ impl Floor {
                 if self.rooms & (1 << m) == 0 {
                     continue;
                 }
-                let entry = &row[18 + 3 * m..][..3];
+                let entry = &row[ROOM_WORDS + 3 * m..][..3];
                 let waiting = words.messages[6 * m + 4] >> t & 1 == 1;
                 let at = &mut station.buffered[m];
-                at.copy = if waiting { entry[0] } else { 0 };
+                at.copy = if waiting && row[COPIES] >> m & 1 == 1 { entry[0] } else { 0 };
                 at.ack_list = entry[1];
-                at.queued = entry[2];
+                at.queued = if row[ENTRIES] >> m & 1 == 1 { entry[2] } else { 0 };
                 if waiting && held.number < station.expected[held.initiator.at()] {
                     station.buffer |= 1 << m;
                 }

@@ -1,21 +1,30 @@
 //! Words read back: the floor is the same.
 
+use plain::words::{Words, ROWS};
 use plain::{CartNo, Floor, StationNo};
 
 /// Numbers that look random, and are the same in every run.
 struct Numbers(u64);
 
 impl Numbers {
-    fn below(&mut self, n: u64) -> u64 {
+    fn next(&mut self) -> u64 {
         self.0 ^= self.0 << 13;
         self.0 ^= self.0 >> 7;
         self.0 ^= self.0 << 17;
-        (self.0 >> 11) % n
+        self.0
+    }
+
+    fn below(&mut self, n: u64) -> u64 {
+        (self.next() >> 11) % n
     }
 }
 
-#[test]
-fn words_say_the_floor_they_were_made_of() {
+fn words(floor: &Floor) -> Words {
+    floor.words(|k| k * 1_237 % ROWS)
+}
+
+/// Random events on floors of many sizes; now and then the floor is looked at.
+fn on_many_floors(look: impl Fn(&Floor)) {
     for seed in 1..60 {
         let mut numbers = Numbers(seed * 0x9e37_79b9);
         let (n, k) = (1 + numbers.below(16), 1 + numbers.below(64));
@@ -33,13 +42,61 @@ fn words_say_the_floor_they_were_made_of() {
                 _ => floor.wire(s, t),
             };
             if event % 50 == 0 {
-                let words = floor.words(|k| k * 1_237 % plain::words::ROWS);
-                let read = Floor::from_words(&words);
-                assert_eq!(read.difference(&floor), None);
-                assert_eq!(read.words(|k| k * 1_237 % plain::words::ROWS).lines, words.lines);
+                look(&floor);
             }
         }
     }
+}
+
+#[test]
+fn words_say_the_floor_they_were_made_of() {
+    on_many_floors(|floor| {
+        let said = words(floor);
+        let read = Floor::from_words(&said);
+        assert_eq!(read.difference(floor), None);
+        assert_eq!(words(&read).lines, said.lines);
+    });
+}
+
+/// Where the words of the rooms begin in a station's row, and where it says which of them count:
+/// the copies, and the queue's entries.
+const COUNTED: [(usize, usize); 2] = [(18, 114), (20, 115)];
+
+#[test]
+fn rooms_count_where_they_have_something() {
+    on_many_floors(|floor| {
+        let said = words(floor);
+        assert_eq!(said.stations.len(), 1_972);
+        for row in said.stations.chunks_exact(116).skip(1) {
+            for (first, among) in COUNTED {
+                let some = (0..32).filter(|m| row[first + 3 * m] != 0);
+                assert_eq!(row[among], some.fold(0, |set, m| set | 1 << m));
+            }
+        }
+    });
+}
+
+#[test]
+fn rooms_that_do_not_count_have_nothing() {
+    on_many_floors(|floor| {
+        let mut said = words(floor);
+        let mut numbers = Numbers(0x5eed);
+        for row in said.stations.chunks_exact_mut(116).skip(1) {
+            for (first, among) in COUNTED {
+                for m in (0..32).filter(|m| row[among] >> m & 1 == 0).collect::<Vec<_>>() {
+                    row[first + 3 * m] = numbers.next();
+                }
+                // There is no room for these bits.
+                row[among] |= numbers.next() << 32;
+            }
+        }
+        assert_eq!(Floor::from_words(&said).difference(floor), None);
+        for row in said.stations.chunks_exact_mut(116).skip(1) {
+            row[115] = 0;
+        }
+        let read = Floor::from_words(&said);
+        assert!((0..floor.stations()).all(|t| read.head(StationNo(t)).is_none()));
+    });
 }
 
 #[test]

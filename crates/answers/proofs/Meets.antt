@@ -55,7 +55,7 @@ module _ (L : Lent) (e : Event) where
 
 -- what the checks of a call ask of a floor that passes: the tables' lengths, and counts in range
 pub checks-ready : (L : Lent) → passesForm limits (floorIn L) ≡ true
-    → (length (L .stations) ≡ 1938) × (length (L .carts) ≡ 1216) × (headIn (L .stations) .carts ≤ 64)
+    → (length (L .stations) ≡ 1972) × (length (L .carts) ≡ 1216) × (headIn (L .stations) .carts ≤ 64)
 checks-ready L p = let X = standing L p in (X .lengths .stations, X .lengths .carts, X .sized .counts .carts)
 
 -- THE FLOOR THAT A CALL LEAVES passes the form rule again

@@ -118,26 +118,9 @@ module _ (C : Carts) (sixteen : Sixteen C) (c : ℕ) (k : Cart) (is : IsCart C c
       goes (Leaving r u) q = cc
       goes (Travelling r u) q = cc
 
-  -- "its next number rises"
-  pub receive-step : (s : Station) (k′ : Cart) → s .0 < 16 → k′ ≡ received k s → withCart C c k′ ≡ withNext C c (s .0) (C .next c (s .0) + 1)
-  receive-step s k′ h g = λ i. record { place = place i; next = λ d u. row d u i }
-    where
-      place : update (C .place) c (seen (k′ .place)) ≡ C .place
-      place = place-same (C .place) c (seen (k′ .place)) (ap (λ x. seen (x .place)) g ∙ is .place)
-
-      long : s .0 < length (k .next)
-      long = let z = ap length (is .next) ∙ length-listOf 16 (C .next c) in omega arith
-
-      at-entry : (u : ℕ) → getD (k′ .next) u 0 ≡ cond (eqb u (s .0)) (C .next c (s .0) + 1) (C .next c u)
-      at-entry u =
-          ap (λ x. getD (x .next) u 0) g
-          ∙ by-eq u (s .0)
-          (λ q. rw (eq-eqb u (s .0) q) (ap (λ (n : ℕ). getD (set (k .next) (s .0) (getD (k .next) (s .0) 0 + 1)) n 0) q
-          ∙ getD-set-same (k .next) (s .0) (getD (k .next) (s .0) 0 + 1) 0 long ∙ ap (λ (n : ℕ). n + 1) (entry (s .0))))
-          (λ q. rw (ne-eqb u (s .0) q) (getD-set-other (k .next) (s .0) u (getD (k .next) (s .0) 0 + 1) 0 q ∙ entry u))
-
-      row : (d u : ℕ) → cond (eqb d c) (getD (k′ .next) u 0) (C .next d u) ≡ update2 (C .next) c (s .0) (C .next c (s .0) + 1) d u
-      row d u =
-          by-test (eqb d c)
-          (λ q. rw q (at-entry u ∙ ap (λ (x : ℕ). cond (eqb u (s .0)) (C .next c (s .0) + 1) (C .next x u)) (sym (eqb-true d c q))))
-          (λ q. rw q)
+  -- "its next number rises": that of the record received
+  pub receive-entry : (s : Station) (k′ : Cart) → s .0 < 16 → k′ ≡ received k s → getD (k′ .next) (s .0) 0 ≡ C .next c (s .0) + 1
+  receive-entry s k′ h g =
+      ap (λ x. getD (x .next) (s .0) 0) g
+      ∙ getD-set-same (k .next) (s .0) (getD (k .next) (s .0) 0 + 1) 0 (let z = ap length (is .next) ∙ length-listOf 16 (C .next c) in omega arith)
+      ∙ ap (λ (n : ℕ). n + 1) (entry (s .0))

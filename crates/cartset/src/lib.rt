@@ -1,6 +1,6 @@
 // A set of carts as one word: "cart c has weight 2^c". A set of stations is the same, so a member here is a bare number.
 ghost use mathlib.Core.Path.{_≡_};
-ghost use mathlib.Core.Bool.{true};
+ghost use mathlib.Core.Bool.{true, cond};
 ghost use mathlib.Core.Option.{some};
 ghost use Prim.Native.Nat.{ℕ, _<_, _≤_};
 ghost use Rattle.protocol.specs.CartSets.{has, union, minus, with, without, setOf};
@@ -34,6 +34,14 @@ pub fn with_cart(set: u64, cart: u64) -> u64
     ensures { λ r. ⌜ r ≡ with set cart ⌝ }
 {
     union(set, 1 << cart)
+}
+
+// The set, and the cart if it joins. Both are at hand, so that nothing has to be guessed.
+pub fn with_if(set: u64, cart: u64, joins: bool) -> u64
+    requires { ⌜ cart < 64 ⌝ }
+    ensures { λ r. ⌜ r ≡ cond joins (with set cart) set ⌝ }
+{
+    if joins { with_cart(set, cart) } else { set }
 }
 
 // The set but for the cart.

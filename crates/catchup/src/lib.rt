@@ -9,6 +9,7 @@ ghost use lib.ListN.{length};
 ghost use Rattle.protocol.specs.Folds.{listOf};
 ghost use Rattle.stations.specs.View.{initiators, rooms, HasStation, stationsIn, headIn};
 ghost use Rattle.queue.specs.Rooms.{tablesFloor, HasRooms, roomCode, roomIn};
+ghost use Rattle.catchup.specs.Naming.{namingIn, Covers};
 ghost use Rattle.catchup.specs.Nearest.{wouldStop, nearerWith, nearestAmong, stopBy};
 ghost use Rattle.catchup.specs.Arrival.{CanStop, nearestRow, stopIn, Rises, Small, risen, isFound, occurs, queuedFor};
 
@@ -76,6 +77,23 @@ fn nearer(
     }
 }
 
+// The rooms whose copies at the station name the cart. Most do not, and which do cannot be guessed: so it is found out for all of them first, and a
+// search then looks at those rooms alone.
+pub fn rooms_naming(stations: &[u64], station: Station, cart: CartNumber) -> u64
+    requires { ⌜ HasStation (now stations) (station .0) × (cart .0 < 64) ⌝ }
+    ensures { λ r. ⌜ r ≡ namingIn (stationsIn (now (stations .entry))) (station .0) (cart .0) ⌝ }
+{
+    let mut naming: u64 = 0;
+    let mut left = stations::copies_of(stations, station);
+    while 0 < left {
+        let m = cartset::first(left);
+        left = cartset::without_first(left);
+        let copy = stations::copy_of(stations, m as usize, station);
+        naming = cartset::with_if(naming, m, cartset::has(copy, cart.0));
+    }
+    naming
+}
+
 // The nearest message of the initiator that would stop the cart: its room, or none.
 pub fn nearest_of(
     stations: &[u64],
@@ -89,8 +107,10 @@ pub fn nearest_of(
     ensures { λ r. ⌜ r ≡ roomCode (nearestAmong (tablesFloor (now (stations .entry)) (now (messages .entry))) (station .0) (cart .0) (initiator .0) next 32) ⌝ }
 {
     let mut nearest = queue::NONE;
-    let mut m: usize = 0;
-    while m < queue::ROOMS {
+    let mut left = rooms_naming(stations, station, cart);
+    while 0 < left {
+        let m = cartset::first(left) as usize;
+        left = cartset::without_first(left);
         nearest = nearer(
             stations,
             messages,
@@ -101,7 +121,6 @@ pub fn nearest_of(
             m,
             nearest,
         );
-        m += 1;
     }
     nearest
 }
@@ -123,21 +142,25 @@ fn initiator_for(
     INITIATORS as u64
 }
 
-// The nearest message of each initiator, in one pass over the rooms, for a cart with that row of next numbers. A message has one initiator,
-// so only that entry can change, and it is not touched where the message cannot stop the cart.
+// The nearest message of each initiator, in one pass over the rooms that may name the cart, for a cart with that row of next numbers. A message has
+// one initiator, so only that entry can change, and it is not touched where the message cannot stop the cart.
 pub fn nearest_of_all(
     stations: &[u64],
     messages: &[u64],
     station: Station,
     cart: CartNumber,
+    naming: u64,
     row: [u64; 16],
 ) -> [usize; 16]
+    requires { ⌜ Covers (stationsIn (now stations)) (station .0) (cart .0) naming ⌝ }
     requires { ⌜ HasStation (now stations) (station .0) × HasRooms (now messages) × (station .0 < 16) × (cart .0 < 64) ⌝ }
     ensures { λ r. ⌜ r ≡ nearestRow (tablesFloor (now (stations .entry)) (now (messages .entry))) (station .0) (cart .0) row 32 ⌝ }
 {
     let mut nearest = [queue::NONE; 16];
-    let mut m: usize = 0;
-    while m < queue::ROOMS {
+    let mut left = naming;
+    while 0 < left {
+        let m = cartset::first(left) as usize;
+        left = cartset::without_first(left);
         let initiator = initiator_for(stations, messages, station, cart, m);
         let s = initiator as usize;
         if s < INITIATORS {
@@ -152,7 +175,6 @@ pub fn nearest_of_all(
                 nearest[s],
             );
         }
-        m += 1;
     }
     nearest
 }

@@ -78,7 +78,7 @@ module _ (S C M W T : List ℕ) (n k : ℕ) (ok : Bool) (lengths-are : ok ≡ le
           met : refusal limits (floorIn L) (start n k) ≡ 7
           met = rw (right, ne-eqb (headIn S .mark) 1 fresh, sym size-is, e) refl
 
-      pub start-fits : (length S ≡ 1938) × (length W ≡ 10226)
+      pub start-fits : (length S ≡ 1972) × (length W ≡ 10226)
       start-fits = (lengths .stations, lengths .lines)
 
       -- "it writes all the rest afresh"

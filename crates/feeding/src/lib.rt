@@ -34,10 +34,10 @@ const OVER: u64 = 2;
 const FRAMES: u64 = 9223372036854775808;
 
 // The lent parts of a floor that is not started.
-fn no_stations() -> [u64; 1938]
-    ensures { λ r. ⌜ (length r ≡ 1938) × (headIn r .mark ≡ 0) ⌝ }
+fn no_stations() -> [u64; 1972]
+    ensures { λ r. ⌜ (length r ≡ 1972) × (headIn r .mark ≡ 0) ⌝ }
 {
-    [0; 1938]
+    [0; 1972]
 }
 
 fn no_carts() -> [u64; 1216]

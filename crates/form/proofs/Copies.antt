@@ -13,9 +13,8 @@ use Rattle.protocol.specs.Floor.{Floor, isHeld}
 use Rattle.protocol.specs.Claims.{Claim, True, test, all, is}
 use Rattle.protocol.proofs.Tests.{by-test, by-lt, by-eq, clash, and-left, and-right, and-intro, or-right, or-cases}
 use Rattle.protocol.proofs.SetLaws.{has-zero, has-union, has-minus}
-use Rattle.rows.proofs.RowLaws.{cell-past}
-use Rattle.rows.proofs.ColumnLaws.{column-zero}
-use Rattle.stations.specs.View.{width, initiators, rooms, expectedAt, copyAt, stationWord, stationsIn}
+use Rattle.stations.specs.View.{stationsIn}
+use Rattle.stations.proofs.TableLaws as table
 use Rattle.cartset.specs.Masks.{least}
 use Rattle.cartset.proofs.MaskLaws.{Lowest, least-lowest}
 use Rattle.form.specs.Tables.{copyNamed, copiesRule}
@@ -150,15 +149,10 @@ module _ (F : Floor) (m : ℕ) where
     pub copies-end : (r : Bool) → r ≡ test (over k x (nextAbove (F .next) s n)) → r ≡ test (copiesRule F m)
     copies-end r g = g ∙ same-answer (over k x (nextAbove (F .next) s n)) (copiesRule F m) received missing
 
--- a table of 1,938 words has nothing beyond sixteen stations
-module _ (l : List ℕ) (whole : length l ≡ 1938) where
-  no-word : (t : ℕ) → 16 ≤ t → (k : ℕ) → stationWord l t k ≡ 0
-  no-word t g k = cell-past width l (1 + t) k (omega arith)
-
+-- a table of 1,972 words has nothing beyond sixteen stations
+module _ (l : List ℕ) (whole : length l ≡ 1972) where
   pub copy-past : (m t : ℕ) → 16 ≤ t → stationsIn l .copy m t ≡ 0
-  unfolding stationsIn
-  copy-past m t g = column-zero rooms copyAt (stationWord l) t m (no-word t g)
+  copy-past m t g = table.copy-past l t (omega arith) m
 
   pub expected-past : (t s : ℕ) → 16 ≤ t → stationsIn l .expected t s ≡ 0
-  unfolding stationsIn
-  expected-past t s g = column-zero initiators expectedAt (stationWord l) t s (no-word t g)
+  expected-past t s g = table.expected-past l t (omega arith) s

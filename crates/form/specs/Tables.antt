@@ -17,7 +17,7 @@ tables stations carts messages = floorIn (lent stations carts messages [] [])
 
 -- they have their lengths
 pub record Sized (S C M : List ℕ) : Type 0 where
-  pub stations : length S ≡ 1938
+  pub stations : length S ≡ 1972
   pub carts : length C ≡ 1216
   pub messages : length M ≡ 192
 

@@ -23,7 +23,7 @@ ghost use Rattle.form.specs.Parts.{Home, mostOf, heldBefore, Entries, mi
 
 // "An unstarted floor fails it", "Stations 1 to 16", "Carts 1 to 64".
 fn counts_ok(stations: &[u64]) -> bool
-    requires { ⌜ length (now stations) ≡ 1938 ⌝ }
+    requires { ⌜ length (now stations) ≡ 1972 ⌝ }
     ensures { λ r. ⌜ r ≡ test (countsRule (tables (now (stations .entry)) [] [])) ⌝ }
 {
     if stations::mark_of(stations) != 1 {
@@ -48,7 +48,7 @@ fn counts_ok(stations: &[u64]) -> bool
 
 // "last number 65,534": no station has sent more, and one beyond the floor has sent nothing.
 fn station_ok(stations: &[u64], s: Station) -> bool
-    requires { ⌜ (length (now stations) ≡ 1938) × (s .0 < 16) ⌝ }
+    requires { ⌜ (length (now stations) ≡ 1972) × (s .0 < 16) ⌝ }
     ensures { λ r. ⌜ r ≡ test (stationRule limits (tables (now (stations .entry)) [] []) (s .0)) ⌝ }
 {
     let sent = stations::sent_of(stations, s);
@@ -65,7 +65,7 @@ fn station_ok(stations: &[u64], s: Station) -> bool
 
 // The same of each of the sixteen.
 fn stations_ok(stations: &[u64]) -> bool
-    requires { ⌜ length (now stations) ≡ 1938 ⌝ }
+    requires { ⌜ length (now stations) ≡ 1972 ⌝ }
     ensures { λ r. ⌜ r ≡ test (all 16 (stationRule limits (tables (now (stations .entry)) [] []))) ⌝ }
 {
     let mut s: u64 = 0;
@@ -143,7 +143,7 @@ fn locals_of(carts: &[u64]) -> [u64; 16]
 
 // The masks of local carts are right.
 fn locals_ok(stations: &[u64], carts: &[u64]) -> bool
-    requires { ⌜ (length (now stations) ≡ 1938) × (length (now carts) ≡ 1216) ⌝ }
+    requires { ⌜ (length (now stations) ≡ 1972) × (length (now carts) ≡ 1216) ⌝ }
     ensures { λ r. ⌜ r ≡ test (all 16 (λ t. is (localRight (lent (now (stations .entry)) (now (carts .entry)) [] [] []) t))) ⌝ }
 {
     let locals = locals_of(carts);
@@ -211,7 +211,7 @@ fn row_blank(carts: &[u64], number: CartNumber) -> bool
 
 // No next number of the cart is above what was sent.
 fn row_sent(stations: &[u64], carts: &[u64], number: CartNumber) -> bool
-    requires { ⌜ (length (now stations) ≡ 1938) × HasRow (now carts) (number .0) ⌝ }
+    requires { ⌜ (length (now stations) ≡ 1972) × HasRow (now carts) (number .0) ⌝ }
     ensures { λ r. ⌜ r ≡ test (all 16 (λ s. le (cartsIn (now (carts .entry)) .next (number .0) s) (stationsIn (now (stations .entry)) .sent s))) ⌝ }
 {
     let mut s: u64 = 0;
@@ -227,7 +227,7 @@ fn row_sent(stations: &[u64], carts: &[u64], number: CartNumber) -> bool
 // "its place is on the floor; if it has entered, so is the cart, and if not its next numbers are 0; no next number is above what was sent",
 // which is so of a row of zeros.
 fn cart_ok(stations: &[u64], carts: &[u64], number: CartNumber) -> bool
-    requires { ⌜ (length (now stations) ≡ 1938) × (length (now carts) ≡ 1216) × (number .0 < 64) ⌝ }
+    requires { ⌜ (length (now stations) ≡ 1972) × (length (now carts) ≡ 1216) × (number .0 < 64) ⌝ }
     ensures { λ r. ⌜ r ≡ test (cartRule limits (tables (now (stations .entry)) (now (carts .entry)) []) (number .0)) ⌝ }
 {
     let place = carts::place_of(carts, number);
@@ -245,7 +245,7 @@ fn cart_ok(stations: &[u64], carts: &[u64], number: CartNumber) -> bool
 
 // The same of each of the sixty-four.
 fn carts_ok(stations: &[u64], carts: &[u64]) -> bool
-    requires { ⌜ (length (now stations) ≡ 1938) × (length (now carts) ≡ 1216) ⌝ }
+    requires { ⌜ (length (now stations) ≡ 1972) × (length (now carts) ≡ 1216) ⌝ }
     ensures { λ r. ⌜ r ≡ test (all 64 (cartRule limits (tables (now (stations .entry)) (now (carts .entry)) []))) ⌝ }
 {
     let mut number: u64 = 0;
@@ -270,7 +270,7 @@ fn most_of(n: u64) -> u64
 
 // "its sets are of the floor": those of the message in room m.
 fn room_ok(stations: &[u64], messages: &[u64], m: usize) -> bool
-    requires { ⌜ (length (now stations) ≡ 1938) × (length (now messages) ≡ 192) × (m < rooms) ⌝ }
+    requires { ⌜ (length (now stations) ≡ 1972) × (length (now messages) ≡ 192) × (m < rooms) ⌝ }
     ensures { λ r. ⌜ r ≡ test (roomSets (tables (now (stations .entry)) [] (now (messages .entry))) m) ⌝ }
 {
     let most = most_of(stations::cart_count(stations));
@@ -288,7 +288,7 @@ fn room_ok(stations: &[u64], messages: &[u64], m: usize) -> bool
 
 // The same of each of the thirty-two rooms.
 fn rooms_ok(stations: &[u64], messages: &[u64]) -> bool
-    requires { ⌜ (length (now stations) ≡ 1938) × (length (now messages) ≡ 192) ⌝ }
+    requires { ⌜ (length (now stations) ≡ 1972) × (length (now messages) ≡ 192) ⌝ }
     ensures { λ r. ⌜ r ≡ test (all 32 (roomSets (tables (now (stations .entry)) [] (now (messages .entry))))) ⌝ }
 {
     let mut m: usize = 0;
@@ -303,7 +303,7 @@ fn rooms_ok(stations: &[u64], messages: &[u64]) -> bool
 
 // How many messages station s has sent: none, where there is no such station.
 fn sent_by(stations: &[u64], s: u64) -> u64
-    requires { ⌜ length (now stations) ≡ 1938 ⌝ }
+    requires { ⌜ length (now stations) ≡ 1972 ⌝ }
     ensures { λ r. ⌜ r ≡ stationsIn (now (stations .entry)) .sent s ⌝ }
 {
     if s < 16 {
@@ -314,7 +314,7 @@ fn sent_by(stations: &[u64], s: u64) -> u64
 
 // The number that station t expects of initiator s: 0, where there is no such initiator.
 fn expected_by(stations: &[u64], t: Station, s: u64) -> u64
-    requires { ⌜ (length (now stations) ≡ 1938) × (t .0 < 16) ⌝ }
+    requires { ⌜ (length (now stations) ≡ 1972) × (t .0 < 16) ⌝ }
     ensures { λ r. ⌜ r ≡ stationsIn (now (stations .entry)) .expected (t .0) s ⌝ }
 {
     if s < 16 {
@@ -385,7 +385,7 @@ fn delete_ok(n: u64, waiting: u64, acked: u64, named: u64) -> bool
 // "its initiator has given its number; no other held message has its name; where a station has handled its delete, the whole set has
 // acknowledged": the message in room m and the rooms before it.
 fn held_ok(stations: &[u64], messages: &[u64], m: usize) -> bool
-    requires { ⌜ (length (now stations) ≡ 1938) × (length (now messages) ≡ 192) × (m < rooms) ⌝ }
+    requires { ⌜ (length (now stations) ≡ 1972) × (length (now messages) ≡ 192) × (m < rooms) ⌝ }
     ensures { λ r. ⌜ r ≡ test (heldBefore (tables (now (stations .entry)) [] (now (messages .entry))) m) ⌝ }
 {
     let waiting = messages::waiting_of(messages, m);
@@ -410,7 +410,7 @@ fn held_ok(stations: &[u64], messages: &[u64], m: usize) -> bool
 
 // The same of each room, and so of every two rooms.
 fn messages_ok(stations: &[u64], messages: &[u64]) -> bool
-    requires { ⌜ (length (now stations) ≡ 1938) × (length (now messages) ≡ 192) ⌝ }
+    requires { ⌜ (length (now stations) ≡ 1972) × (length (now messages) ≡ 192) ⌝ }
     ensures { λ r. ⌜ r ≡ test (all 32 (heldNames (tables (now (stations .entry)) [] (now (messages .entry))))) ⌝ }
 {
     let mut m: usize = 0;
@@ -450,7 +450,7 @@ struct Gathered {
 // Of room m, at the sixteen stations. The mask of a station's local carts says which are local. No set is looked into, so it costs the same
 // whatever they hold.
 fn gather(stations: &[u64], m: usize) -> Gathered
-    requires { ⌜ (length (now stations) ≡ 1938) × (m < rooms) ⌝ }
+    requires { ⌜ (length (now stations) ≡ 1972) × (m < rooms) ⌝ }
     ensures { λ r. ⌜ Entries (stationsIn (now (stations .entry))) m 16 (r .sets) (r .queued) (r .strays) ⌝ }
 {
     let mut sets: u64 = 0;
@@ -551,7 +551,7 @@ pub fn all_past(carts: &[u64], set: u64, k: u64, s: u64, n: u64) -> bool
 
 // "the copy has only named carts".
 fn copy_named(stations: &[u64], messages: &[u64], m: usize, t: Station) -> bool
-    requires { ⌜ (length (now stations) ≡ 1938) × (length (now messages) ≡ 192) × (m < rooms) × (t .0 < 16) ⌝ }
+    requires { ⌜ (length (now stations) ≡ 1972) × (length (now messages) ≡ 192) × (m < rooms) × (t .0 < 16) ⌝ }
     ensures { λ r. ⌜ r ≡ test (copyNamed (tables (now (stations .entry)) [] (now (messages .entry))) m (t .0)) ⌝ }
 {
     let named = messages::named_of(messages, m);
@@ -561,7 +561,7 @@ fn copy_named(stations: &[u64], messages: &[u64], m: usize, t: Station) -> bool
 
 // "where the message has come": the named carts that the copy does not have.
 fn missing_at(stations: &[u64], messages: &[u64], m: usize, t: Station) -> u64
-    requires { ⌜ (length (now stations) ≡ 1938) × (length (now messages) ≡ 192) × (m < rooms) × (t .0 < 16) ⌝ }
+    requires { ⌜ (length (now stations) ≡ 1972) × (length (now messages) ≡ 192) × (m < rooms) × (t .0 < 16) ⌝ }
     ensures { λ r. ⌜ r ≡ missingAt (tables (now (stations .entry)) [] (now (messages .entry))) m (t .0) ⌝ }
 {
     let s = messages::initiator_of(messages, m);
@@ -577,7 +577,7 @@ fn missing_at(stations: &[u64], messages: &[u64], m: usize, t: Station) -> u64
 
 // How many of the sixteen stations are the floor's.
 fn stations_of(stations: &[u64]) -> u64
-    requires { ⌜ length (now stations) ≡ 1938 ⌝ }
+    requires { ⌜ length (now stations) ≡ 1972 ⌝ }
     ensures { λ r. ⌜ Few (headIn (now (stations .entry)) .stations) r ⌝ }
 {
     let n = stations::station_count(stations);

@@ -352,7 +352,7 @@ fn on_line(
     j: u64,
     way: Way,
 ) -> Walk
-    requires { ⌜ (length (now masks) ≡ 32) × (length (now seen) ≡ 49) × (length (now stations) ≡ 1938) × (length (now messages) ≡ 192) × (length (now carts) ≡ 1216) × (sized (now lines) ≡ true) × (k ≤ 64) × (i < 16) × (j < 16) ⌝ }
+    requires { ⌜ (length (now masks) ≡ 32) × (length (now seen) ≡ 49) × (length (now stations) ≡ 1972) × (length (now messages) ≡ 192) × (length (now carts) ≡ 1216) × (sized (now lines) ≡ true) × (k ≤ 64) × (i < 16) × (j < 16) ⌝ }
     ensures { λ x. ⌜ Walked (now (lines .entry)) (i * 16 + j) (now (seen .entry)) (now (seen .exit)) (x .whole) ⌝ }
     ensures { λ x. ⌜ (x .whole ≡ true → metOf (x .met) (now (masks .exit)) ≡ onLine n k (cartsIn (now (carts .entry))) (roomsIn (now (messages .entry))) (stationsIn (now (stations .entry))) (now (lines .entry)) (metOf way (now (masks .entry))) i j) ⌝ }
     ensures { λ _. ⌜ (length (now (masks .exit)) ≡ length (now (masks .entry))) × (length (now (seen .exit)) ≡ length (now (seen .entry))) ⌝ }
@@ -392,7 +392,7 @@ fn from_station(
     i: u64,
     way: Way,
 ) -> Walk
-    requires { ⌜ (length (now masks) ≡ 32) × (length (now seen) ≡ 49) × (length (now stations) ≡ 1938) × (length (now messages) ≡ 192) × (length (now carts) ≡ 1216) × (sized (now lines) ≡ true) × (k ≤ 64) × (i < 16) × Whole (now lines) (i * 16) (now seen) ⌝ }
+    requires { ⌜ (length (now masks) ≡ 32) × (length (now seen) ≡ 49) × (length (now stations) ≡ 1972) × (length (now messages) ≡ 192) × (length (now carts) ≡ 1216) × (sized (now lines) ≡ true) × (k ≤ 64) × (i < 16) × Whole (now lines) (i * 16) (now seen) ⌝ }
     ensures { λ x. ⌜ Checked (now (lines .entry)) (i * 16 + 16) (now (seen .exit)) (x .whole) (metOf (x .met) (now (masks .exit))) (fromStation n k (cartsIn (now (carts .entry))) (roomsIn (now (messages .entry))) (stationsIn (now (stations .entry))) (now (lines .entry)) (metOf way (now (masks .entry))) i 16) × ((length (now (masks .exit)) ≡ length (now (masks .entry))) × (length (now (seen .exit)) ≡ length (now (seen .entry)))) ⌝ }
 {
     let mut met = way;
@@ -432,7 +432,7 @@ fn from_each(
     k: u64,
     way: Way,
 ) -> Walk
-    requires { ⌜ (length (now masks) ≡ 32) × (length (now seen) ≡ 49) × (length (now stations) ≡ 1938) × (length (now messages) ≡ 192) × (length (now carts) ≡ 1216) × (sized (now lines) ≡ true) × (k ≤ 64) × Whole (now lines) 0 (now seen) ⌝ }
+    requires { ⌜ (length (now masks) ≡ 32) × (length (now seen) ≡ 49) × (length (now stations) ≡ 1972) × (length (now messages) ≡ 192) × (length (now carts) ≡ 1216) × (sized (now lines) ≡ true) × (k ≤ 64) × Whole (now lines) 0 (now seen) ⌝ }
     ensures { λ x. ⌜ Checked (now (lines .entry)) 256 (now (seen .exit)) (x .whole) (metOf (x .met) (now (masks .exit))) (fromEach n k (cartsIn (now (carts .entry))) (roomsIn (now (messages .entry))) (stationsIn (now (stations .entry))) (now (lines .entry)) (metOf way (now (masks .entry))) 16) ⌝ }
     ensures { λ _. ⌜ (length (now (masks .exit)) ≡ length (now (masks .entry))) × (length (now (seen .exit)) ≡ length (now (seen .entry))) ⌝ }
 {
@@ -459,7 +459,7 @@ struct Acked {
 
 // Of the message in room m, on a floor of n stations.
 fn gather(stations: &[u64], messages: &[u64], n: u64, m: usize) -> Acked
-    requires { ⌜ (length (now stations) ≡ 1938) × (length (now messages) ≡ 192) × (n ≤ 16) × (m < rooms) ⌝ }
+    requires { ⌜ (length (now stations) ≡ 1972) × (length (now messages) ≡ 192) × (n ≤ 16) × (m < rooms) ⌝ }
     ensures { λ r. ⌜ (r .apart ≡ apart (stationsIn (now (stations .entry))) (roomsIn (now (messages .entry))) m n) × (r .carts ≡ gathered (stationsIn (now (stations .entry))) (roomsIn (now (messages .entry))) m n) ⌝ }
 {
     let mut carts = messages::acked_of(messages, m);
@@ -476,7 +476,7 @@ fn gather(stations: &[u64], messages: &[u64], n: u64, m: usize) -> Acked
 
 // Of every room; those of a held message stand in one place.
 fn begin(masks: &mut [u64], stations: &[u64], messages: &[u64], n: u64) -> bool
-    requires { ⌜ (length (now masks) ≡ 32) × (length (now stations) ≡ 1938) × (length (now messages) ≡ 192) × (n ≤ 16) ⌝ }
+    requires { ⌜ (length (now masks) ≡ 32) × (length (now stations) ≡ 1972) × (length (now messages) ≡ 192) × (n ≤ 16) ⌝ }
     ensures { λ r. ⌜ r ≡ every 32 (λ m. not (isTaken (roomsIn (now (messages .entry))) m) || apart (stationsIn (now (stations .entry))) (roomsIn (now (messages .entry))) m n) ⌝ }
     ensures { λ _. ⌜ now (masks .exit) ≡ listOf 32 (λ m. gathered (stationsIn (now (stations .entry))) (roomsIn (now (messages .entry))) m n) ⌝ }
 {
@@ -564,7 +564,7 @@ fn movers(carts: &[u64], k: u64) -> u64
 
 // ---- THE PASS, on a floor of n stations and k carts. It walks each line once, for its chain of rows and for its records.
 fn passes(stations: &[u64], carts: &[u64], messages: &[u64], lines: &[u64], n: u64, k: u64) -> bool
-    requires { ⌜ (length (now stations) ≡ 1938) × (length (now carts) ≡ 1216) × (length (now messages) ≡ 192) × (sized (now lines) ≡ true) × (n ≤ 16) × (k ≤ 64) ⌝ }
+    requires { ⌜ (length (now stations) ≡ 1972) × (length (now carts) ≡ 1216) × (length (now messages) ≡ 192) × (sized (now lines) ≡ true) × (n ≤ 16) × (k ≤ 64) ⌝ }
     ensures { λ r. ⌜ r ≡ (form (now (lines .entry)) && passes n k (stationsIn (now (stations .entry))) (cartsIn (now (carts .entry))) (roomsIn (now (messages .entry))) (now (lines .entry))) ⌝ }
 {
     let mut masks = [0u64; 32];
@@ -601,7 +601,7 @@ fn passes(stations: &[u64], carts: &[u64], messages: &[u64], lines: &[u64], n: u
 
 // Of the lent parts, with the form of the pool itself.
 pub fn lines_pass(stations: &[u64], carts: &[u64], messages: &[u64], lines: &[u64]) -> bool
-    requires { ⌜ (length (now stations) ≡ 1938) × (length (now carts) ≡ 1216) × (length (now messages) ≡ 192) × (sized (now lines) ≡ true) ⌝ }
+    requires { ⌜ (length (now stations) ≡ 1972) × (length (now carts) ≡ 1216) × (length (now messages) ≡ 192) × (sized (now lines) ≡ true) ⌝ }
     ensures { λ r. ⌜ ((texts : List ℕ) → r ≡ (form (now (lines .entry)) && linesPass (lent (now (stations .entry)) (now (carts .entry)) (now (messages .entry)) (now (lines .entry)) texts))) ⌝ }
 {
     let n = stations::station_count(stations);

@@ -18,7 +18,7 @@ pub right-lengths : (L : Lent) (r : Bool) → r ≡ lengthsIn L → r ≡ true �
 right-lengths L r e q = lengths-of L (sym e ∙ q)
 
 -- it rests on the texts, where the others have theirs
-pub rests-on-texts : (L : Lent) → length (L .stations) ≡ 1938 → length (L .carts) ≡ 1216 → length (L .messages) ≡ 192 → length (L .lines) ≡ 10226
+pub rests-on-texts : (L : Lent) → length (L .stations) ≡ 1972 → length (L .carts) ≡ 1216 → length (L .messages) ≡ 192 → length (L .lines) ≡ 10226
     → eqb (length (L .texts)) 1024 ≡ lengthsIn L
 rests-on-texts L s c m l =
     same-test (eqb (length (L .texts)) 1024) (lengthsIn L)

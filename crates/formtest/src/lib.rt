@@ -15,7 +15,7 @@ pub fn lengths_ok(
 ) -> bool
     ensures { λ r. ⌜ r ≡ lengthsIn (lent (now (stations .entry)) (now (carts .entry)) (now (messages .entry)) (now (lines .entry)) (now (texts .entry))) ⌝ }
 {
-    if stations.len() != 1938 {
+    if stations.len() != 1972 {
         return false;
     }
     if carts.len() != 1216 {

@@ -8,6 +8,7 @@ use lib.Dec.{ltb, eqb}
 use borrow.Author.Tests.{lt-ltb, le-ltb, eqb-true}
 use native.Mathlib.Nat.{pow-suc}
 use Rattle.protocol.specs.CartSets.{has, without}
+use Rattle.protocol.specs.Folds.{update2}
 use Rattle.protocol.proofs.Tests.{and-second-false, and-false, by-test, on-cond, on-update2}
 use Rattle.protocol.proofs.SetLaws.{same-members, without-lt, has-without}
 use Rattle.stations.specs.View.{Stations, withCopy}
@@ -64,10 +65,11 @@ module _ (S : Stations) (R : Rooms) (t : ℕ) (row : List ℕ) (m : ℕ) where
       (le-ltb (R .number m) (S .expected t (R .initiator m)) (let y : S .expected t (R .initiator m) ≡ 0 = rw e at z in omega arith)))
 
 -- ONE COPY WRITTEN, OR NONE
+pub same-entry : (g : ℕ → ℕ → ℕ) (m t : ℕ) → g ≡ update2 g m t (g m t)
+same-entry g m t = fun-ext (λ k. fun-ext (λ u. on-update2 (λ (y : ℕ). g k u ≡ y) g m t (g m t) k u (λ p q. ap₂ g p q) (λ h. refl)))
+
 pub same-copy : (S : Stations) (m t : ℕ) → S ≡ withCopy S m t (S .copy m t)
-same-copy S m t =
-    ap (withCopies S)
-    (fun-ext (λ k. fun-ext (λ u. on-update2 (λ (y : ℕ). S .copy k u ≡ y) (S .copy) m t (S .copy m t) k u (λ p q. ap₂ (S .copy) p q) (λ h. refl))))
+same-copy S m t = ap (withCopies S) (same-entry (S .copy) m t)
 
 module _ (S : Stations) (R : Rooms) (t c m x : ℕ) where
   pub is-struck : (k r : ℕ) (b : Bool) {U : Stations} → b ≡ isBelow S R t m x → b ≡ true → k ≡ S .copy m t → r ≡ without k c → U ≡ withCopy S m t r → U ≡ struckIn S R t c m x

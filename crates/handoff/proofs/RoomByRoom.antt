@@ -1,22 +1,26 @@
 -- A STATION'S ENTRIES CHANGED ROOM BY ROOM: what a loop over the rooms leaves of the queues, and of the copies.
-use mathlib.Core.Path.{_≡_, refl, sym, ap, _∙_, fun-ext}
-use mathlib.Core.Bool.{Bool, true, cond, _&&_}
+use mathlib.Core.Path.{_≡_, refl, sym, ap, _∙_, fun-ext, subst}
+use mathlib.Core.Bool.{Bool, true, false, not, cond, _&&_}
 use mathlib.Core.List.{List}
-use Prim.Native.Nat.{ℕ, _+_, _≤_}
+use mathlib.Core.Option.{some}
+use Prim.Native.Nat.{ℕ, _+_, _≤_, _<_}
+use native.Mathlib.Numerals.{add-one}
 use native.Mathlib.Omega.{arith}
 use lib.Dec.{eqb, ltb}
 use lib.ListN.{getD}
 use borrow.Author.Tests.{lt-ltb, le-ltb, eqb-true}
 use Rattle.protocol.specs.Folds.{update2}
-use Rattle.protocol.specs.CartSets.{without}
+use Rattle.protocol.specs.CartSets.{has, without}
 use Rattle.protocol.proofs.Tests.{by-test, by-lt, and-false, on-cond, on-update2, eqb-self}
-use Rattle.protocol.proofs.SetLaws.{without-lt}
-use Rattle.rows.proofs.ColumnLaws.{column-beyond}
-use Rattle.stations.specs.View.{Stations, stationsIn, stationWord, rooms, copyAt, withQueue, withCopy}
+use Rattle.protocol.proofs.SetLaws.{without-lt, has-without}
+use Rattle.cartset.specs.Masks.{least}
+use Rattle.cartset.proofs.Walk.{Ahead, nothing-between, ahead-next, ahead-skips, ahead-end}
+use Rattle.stations.specs.View.{Stations, withQueue, withCopy}
 use Rattle.messages.specs.View.{Rooms}
+use Rattle.catchup.specs.Naming.{Covers}
 use Rattle.handoff.specs.Left.{withQueues, unqueued}
 use Rattle.handoff.specs.Struck.{withCopies, isPassed, struckCopy, struckIn, struckFrom}
-use Rattle.handoff.proofs.PassedLaws.{same-copy}
+use Rattle.handoff.proofs.PassedLaws.{same-entry, same-copy, not-named}
 
 -- ENTRIES g m u, of room m at station u: those at station t go by f
 module _ (g : ℕ → ℕ → ℕ) (t : ℕ) (f : ℕ → ℕ → ℕ) where
@@ -43,11 +47,24 @@ module _ (g : ℕ → ℕ → ℕ) (t : ℕ) (f : ℕ → ℕ → ℕ) where
       is-station : (u : ℕ) → eqb u t ≡ true → u ≡ t
       is-station u q = eqb-true u t q
 
-  -- all rooms are, when beyond thirty-two nothing changes
-  pub changed-all : (n : ℕ) → n ≡ 32 → ((m u : ℕ) → 32 ≤ m → f m (g m u) ≡ g m u) → changedTo n ≡ (λ m u. cond (eqb u t) (f m (g m u)) (g m u))
-  changed-all n z h =
+  -- a walk over a set of rooms, where f changes nothing in a room that is not in it: the rooms up to the next one are as good as changed
+  pub changed-skips : (set left k m : ℕ) → Ahead 32 set left k → 0 < left → least 64 left ≡ some m
+      → ((r : ℕ) → has set r ≡ false → f r (g r t) ≡ g r t) → changedTo k ≡ changedTo m
+  changed-skips set left k m A pos e same =
+      sym (nothing-between changedTo k m (ahead-next 32 set left k m A pos e)
+      (λ r l h. ap changedTo (sym (add-one r)) ∙ sym (kept r (same r (ahead-skips 32 set left k m A pos e r l h)))))
+    where
+      kept : (r : ℕ) → f r (g r t) ≡ g r t → changedTo r ≡ changedTo (r + 1)
+      kept r e = same-entry (changedTo r) r t ∙ changed-one r (changedTo r r t) (not-yet r ∙ sym e ∙ ap (f r) (sym (not-yet r)))
+
+  -- all rooms are, when nothing is left
+  pub changed-all : (set k : ℕ) → Ahead 32 set 0 k → ((r : ℕ) → has set r ≡ false → f r (g r t) ≡ g r t)
+      → changedTo k ≡ (λ m u. cond (eqb u t) (f m (g m u)) (g m u))
+  changed-all set k A same =
       fun-ext (λ m. fun-ext (λ u. by-test (eqb u t)
-      (λ q. rw q (by-lt m n (λ l. rw (lt-ltb m n l)) (λ l. rw (le-ltb m n l) (sym (h m u (omega arith))))))
+      (λ q. rw q (by-lt m k
+      (λ l. rw (lt-ltb m k l))
+      (λ l. rw (le-ltb m k l) (subst (λ (v : ℕ). g m v ≡ f m (g m v)) (sym (eqb-true u t q)) (sym (same m (ahead-end 32 set k A m l)))))))
       (λ q. rw q)))
 
 -- no cart leaves an empty set
@@ -68,9 +85,17 @@ module _ (S : Stations) (t c : ℕ) where
       f ∙ ap (λ (X : Stations). withQueue X n t k) e
       ∙ ap (withQueues S) (changed-one (S .queue) t (λ m x. without x c) n k (ek ∙ ap (λ (x : ℕ). without x c) (eq ∙ ap (λ (X : Stations). X .queue n t) e)))
 
-  pub unqueue-all : (n : ℕ) {T : Stations} → n ≡ 32 → ((m u : ℕ) → 32 ≤ m → S .queue m u ≡ 0) → T ≡ unqueuedTo n → T ≡ unqueued S t c
-  unqueue-all n z h e =
-      e ∙ ap (withQueues S) (changed-all (S .queue) t (λ m x. without x c) n z (λ m u l. rw (h m u l) (without-none c)))
+  -- only where there is an entry
+  no-entry : (m : ℕ) → S .queue m t ≡ 0 → without (S .queue m t) c ≡ S .queue m t
+  no-entry m e = rw e (without-none c)
+
+  module _ (set : ℕ) (empty : (m : ℕ) → has set m ≡ false → S .queue m t ≡ 0) (k : ℕ) {T : Stations} (e : T ≡ unqueuedTo k) where
+    pub unqueue-skips : (left m : ℕ) → Ahead 32 set left k → 0 < left → least 64 left ≡ some m → T ≡ unqueuedTo m
+    unqueue-skips left m A pos f =
+        e ∙ ap (withQueues S) (changed-skips (S .queue) t (λ m x. without x c) set left k m A pos f (λ r z. no-entry r (empty r z)))
+
+    pub unqueue-all : Ahead 32 set 0 k → T ≡ unqueued S t c
+    unqueue-all A = e ∙ ap (withQueues S) (changed-all (S .queue) t (λ m x. without x c) set k A (λ r z. no-entry r (empty r z)))
 
 -- "the cart is struck"
 module _ (S : Stations) (R : Rooms) (t c : ℕ) (row : List ℕ) where
@@ -99,13 +124,25 @@ module _ (S : Stations) (R : Rooms) (t c : ℕ) (row : List ℕ) where
   by-both : (m u : ℕ) → cond (eqb u t) (struckCopy S R t c row m (S .copy m u)) (S .copy m u) ≡ struckFrom S R t c row .copy m u
   by-both m u = by-test (eqb u t) (λ q. rw q) (λ q. rw q)
 
-  pub strike-all : (n : ℕ) {T : Stations} → n ≡ 32 → ((m u : ℕ) → 32 ≤ m → S .copy m u ≡ 0) → T ≡ struckTo n → T ≡ struckFrom S R t c row
-  strike-all n z h e =
-      e ∙ ap (withCopies S)
-      (changed-all (S .copy) t (struckCopy S R t c row) n z (λ m u l. rw (h m u l) (on-cond (λ (x : ℕ). x ≡ 0) (isPassed S R t row m) (λ q. without-none c) (λ q. refl)))
-      ∙ fun-ext (λ m. fun-ext (λ u. by-both m u)))
+  -- only where the copy names the cart
+  absent : (m : ℕ) → has (S .copy m t) c ≡ false → struckCopy S R t c row m (S .copy m t) ≡ S .copy m t
+  absent m e = not-named S R t row m c (S .copy m t) (has (S .copy m t) c) refl refl e
 
--- no copy beyond thirty-two rooms
-pub copy-beyond : (l : List ℕ) (m t : ℕ) → 32 ≤ m → stationsIn l .copy m t ≡ 0
-unfolding stationsIn
-copy-beyond l m t h = column-beyond rooms copyAt (stationWord l) t m h
+  module _ (set : ℕ) (others : (m : ℕ) → has set m ≡ false → has (S .copy m t) c ≡ false) (k : ℕ) {T : Stations} (e : T ≡ struckTo k) where
+    pub strike-skips : (left m : ℕ) → Ahead 32 set left k → 0 < left → least 64 left ≡ some m → T ≡ struckTo m
+    strike-skips left m A pos f =
+        e ∙ ap (withCopies S) (changed-skips (S .copy) t (struckCopy S R t c row) set left k m A pos f (λ r z. absent r (others r z)))
+
+    pub strike-all : Ahead 32 set 0 k → T ≡ struckFrom S R t c row
+    strike-all A =
+        e ∙ ap (withCopies S)
+        (changed-all (S .copy) t (struckCopy S R t c row) set k A (λ r z. absent r (others r z)) ∙ fun-ext (λ m. fun-ext (λ u. by-both m u)))
+
+  -- who is struck is named by no more copies
+  pub struck-covers : (set : ℕ) {T : Stations} → Covers S t c set → T ≡ struckFrom S R t c row → Covers T t c set
+  struck-covers set C e = rw e (record {
+    inside = C .inside;
+    others = λ m h. on-cond (λ (x : ℕ). has x c ≡ false) (eqb t t && isPassed S R t row m)
+        (λ q. has-without (S .copy m t) c c ∙ ap (λ (b : Bool). b && not (eqb c c)) (C .others m h))
+        (λ q. C .others m h);
+  })

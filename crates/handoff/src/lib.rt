@@ -16,6 +16,7 @@ ghost use Rattle.lines.specs.Form.{form};
 ghost use Rattle.lines.specs.Lines.{used};
 ghost use Rattle.lines.specs.Words.{capacity};
 ghost use Rattle.queue.specs.Rooms.{tablesFloor, HasRooms};
+ghost use Rattle.catchup.specs.Naming.{Covers};
 ghost use Rattle.catchup.specs.Arrival.{stopIn, Rises, risen};
 ghost use Rattle.handoff.specs.Moved.{Moved};
 ghost use Rattle.handoff.specs.Left.{unqueued, left, Left};
@@ -41,18 +42,19 @@ pub fn on_move(carts: &mut [u64], lines: &mut [u64], number: CartNumber, old: St
     );
 }
 
-// "the cart leaves every queue entry here (emptied entries go)"
+// "the cart leaves every queue entry here (emptied entries go)". Only rooms that have an entry are looked at.
 fn unqueue(stations: &mut [u64], number: CartNumber, station: Station)
     requires { ⌜ HasStation (now stations) (station .0) × (number .0 < 64) ⌝ }
     ensures { λ _. ⌜ stationsIn (now (stations .exit)) ≡ unqueued (stationsIn (now (stations .entry))) (station .0) (number .0) ⌝ }
     ensures { λ _. ⌜ headIn (now (stations .exit)) ≡ headIn (now (stations .entry)) ⌝ }
     ensures { λ _. ⌜ length (now (stations .exit)) ≡ length (now (stations .entry)) ⌝ }
 {
-    let mut m: usize = 0;
-    while m < queue::ROOMS {
+    let mut left = stations::entries_of(stations, station);
+    while 0 < left {
+        let m = cartset::first(left) as usize;
+        left = cartset::without_first(left);
         let carts = cartset::without_cart(stations::queue_of(stations, m, station), number.0);
         stations::put_queue(stations, m, station, carts);
-        m += 1;
     }
 }
 
@@ -157,22 +159,26 @@ fn strike_from(
     stations::put_copy(stations, m, station, copy);
 }
 
-// "from each buffered copy naming the cart with a number below the cart's next number, the cart is struck". The row stays where it is: only
-// the one entry that a message asks for is handed on.
+// "from each buffered copy naming the cart with a number below the cart's next number, the cart is struck". Only rooms that may
+// name it are looked at. The row stays where it is: only the one entry that a message asks for is handed on.
 fn strike(
     stations: &mut [u64],
     messages: &[u64],
     station: Station,
     cart: CartNumber,
+    naming: u64,
     row: [u64; 16],
 )
+    requires { ⌜ Covers (stationsIn (now stations)) (station .0) (cart .0) naming ⌝ }
     requires { ⌜ HasStation (now stations) (station .0) × HasRooms (now messages) × (station .0 < 16) × (cart .0 < 64) ⌝ }
     ensures { λ _. ⌜ stationsIn (now (stations .exit)) ≡ struckFrom (stationsIn (now (stations .entry))) (roomsIn (now (messages .entry))) (station .0) (cart .0) row ⌝ }
     ensures { λ _. ⌜ headIn (now (stations .exit)) ≡ headIn (now (stations .entry)) ⌝ }
     ensures { λ _. ⌜ length (now (stations .exit)) ≡ length (now (stations .entry)) ⌝ }
 {
-    let mut m: usize = 0;
-    while m < queue::ROOMS {
+    let mut left = naming;
+    while 0 < left {
+        let m = cartset::first(left) as usize;
+        left = cartset::without_first(left);
         let initiator = passes_by(stations, messages, station, cart, m);
         let s = initiator as usize;
         if s < INITIATORS {
@@ -186,7 +192,6 @@ fn strike(
                 m,
             );
         }
-        m += 1;
     }
 }
 
@@ -214,8 +219,9 @@ fn dock(
     requires { ⌜ ((s : ℕ) → s < initiators → stationsIn (now stations) .expected (station .0) s ≤ 65535) ⌝ }
     ensures { λ r. ⌜ Docked (now (stations .entry)) (now (stations .exit)) (now (messages .entry)) (station .0) (cart .0) row (r .row) (r .passed) ⌝ }
 {
-    strike(stations, messages, station, cart, row);
-    let nearest = catchup::nearest_of_all(stations, messages, station, cart, row);
+    let naming = catchup::rooms_naming(stations, station, cart);
+    strike(stations, messages, station, cart, naming, row);
+    let nearest = catchup::nearest_of_all(stations, messages, station, cart, naming, row);
     let caught = catchup::raised(stations, messages, station, row, nearest);
     join(stations, station, cart, nearest);
     caught

@@ -91,7 +91,15 @@ pub extern "C" fn mekhturia_catch_up(
     ensures { λ r. ⌜ r ≡ passedBy (tablesFloor (now (stations .entry)) (now (messages .entry))) t c (listOf 16 (cartsIn (now (carts .entry)) .next c)) ⌝ }
 {
     let row = carts::row_of(carts, CartNumber(c));
-    let nearest = catchup::nearest_of_all(stations, messages, Station(t), CartNumber(c), row);
+    let naming = catchup::rooms_naming(stations, Station(t), CartNumber(c));
+    let nearest = catchup::nearest_of_all(
+        stations,
+        messages,
+        Station(t),
+        CartNumber(c),
+        naming,
+        row,
+    );
     let caught = catchup::raised(stations, messages, Station(t), row, nearest);
     caught.passed
 }

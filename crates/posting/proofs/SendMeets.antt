@@ -39,7 +39,7 @@ module _ (S C M W T : List ℕ) (p : passesForm limits (floorIn (lent S C M W T)
   pub rooms-asked : length M ≡ 192
   rooms-asked = X .lengths .messages
 
-  pub checks-asked : (length S ≡ 1938) × (length C ≡ 1216) × (headIn S .stations ≤ 16) × (headIn S .carts ≤ 64)
+  pub checks-asked : (length S ≡ 1972) × (length C ≡ 1216) × (headIn S .stations ≤ 16) × (headIn S .carts ≤ 64)
   checks-asked = (X .lengths .stations, X .lengths .carts, X .sized .counts .stations, X .sized .counts .carts)
 
   -- the search found room m, and no check applied
@@ -67,7 +67,7 @@ module _ (S C M W T : List ℕ) (p : passesForm limits (floorIn (lent S C M W T)
 
     abbrev pub Asked : ℕ → ℕ → Type 0
     Asked n number =
-        ((length S ≡ 1938) × (length M ≡ 192) × (length T ≡ 1024) × (length text ≤ 32))
+        ((length S ≡ 1972) × (length M ≡ 192) × (length T ≡ 1024) × (length text ≤ 32))
         × (((m < 32) × (s < 16) × (n ≤ 16) × (number < 65536)) × ((form W ≡ true) × (used W + n ≤ capacity W)))
 
     asked : Asked (headIn S .stations) (stationsIn S .sent s)

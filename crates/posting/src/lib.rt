@@ -63,7 +63,7 @@ fn all_entered(carts: &[u64], set: u64) -> bool
 // "a cart in the set, not on the floor", 9, "empty set", 11, "a named cart never entered", 12, or 0. A set has only carts of the floor when it is
 // no greater than the set of all of them.
 fn set_refusal(stations: &[u64], carts: &[u64], set: u64) -> u64
-    requires { ⌜ (length (now stations) ≡ 1938) × (length (now carts) ≡ 1216) × (headIn (now stations) .carts ≤ 64) ⌝ }
+    requires { ⌜ (length (now stations) ≡ 1972) × (length (now carts) ≡ 1216) × (headIn (now stations) .carts ≤ 64) ⌝ }
     ensures { λ r. ⌜ ((M W T : List ℕ) → r ≡ setChecks (floorIn (lent (now (stations .entry)) (now (carts .entry)) M W T)) set) ⌝ }
 {
     if cartset::all_below(stations::cart_count(stations)) < set {
@@ -77,7 +77,7 @@ fn set_refusal(stations: &[u64], carts: &[u64], set: u64) -> u64
 
 // "the station has used number 65,534", 13, or "32 messages held", 14, or 0; m is the first free room.
 fn room_refusal(stations: &[u64], station: Station, m: usize) -> u64
-    requires { ⌜ (length (now stations) ≡ 1938) × (station .0 < 16) ⌝ }
+    requires { ⌜ (length (now stations) ≡ 1972) × (station .0 < 16) ⌝ }
     ensures { λ r. ⌜ ((C M W T : List ℕ) → m ≡ firstFree M → r ≡ roomChecks (floorIn (lent (now (stations .entry)) C M W T)) (station .0)) ⌝ }
 {
     if LAST < stations::sent_of(stations, station) {
@@ -95,7 +95,7 @@ fn first_of(refusal: u64, next: u64) -> u64
 
 // The refusal of a send, 8, 9 and 11 to 14, or 0; m is the first free room.
 fn send_refusal(stations: &[u64], carts: &[u64], station: Station, set: u64, m: usize) -> u64
-    requires { ⌜ (length (now stations) ≡ 1938) × (length (now carts) ≡ 1216) × (headIn (now stations) .stations ≤ 16) × (headIn (now stations) .carts ≤ 64) ⌝ }
+    requires { ⌜ (length (now stations) ≡ 1972) × (length (now carts) ≡ 1216) × (headIn (now stations) .stations ≤ 16) × (headIn (now stations) .carts ≤ 64) ⌝ }
     ensures { λ r. ⌜ ((M W T text : List ℕ) → m ≡ firstFree M → length text ≤ 32 → r ≡ refusalIf limits (floorIn (lent (now (stations .entry)) (now (carts .entry)) M W T)) false (send (station .0) set text)) ⌝ }
 {
     if stations::station_count(stations) <= station.0 {

@@ -1,12 +1,7 @@
-// THE PRINTED LINE OF AN ANSWER: "index from 0, kind, a, b, p, w. Refused: index, no, refusal".
+// WHAT THE LINE OF AN ANSWER SAYS: "kind, a, b, p, w", and how many octets of text.
 use answers::Answer;
 use report::Report;
 ghost use mathlib.Core.Path.{_≡_};
-ghost use Prim.Native.Nat.{_+_, _≤_};
-ghost use lib.ListN.{length};
-ghost use Rattle.protocol.specs.Printed.{lineOf};
-ghost use Rattle.report.specs.Lines.{Wrote, longestLine};
-ghost use Rattle.answers.specs.Answers.{answerIn};
 ghost use Rattle.printing.specs.Reports.{reportOf, octetsIn};
 
 // A report of these values.
@@ -42,17 +37,5 @@ pub fn octets_of(answer: Answer) -> usize
     match answer {
         Answer::Received(_, _, _, _, size) => size,
         _ => 0,
-    }
-}
-
-// The line of an answer, into lent octets; the text of a radio step is lent too, and has no more octets than the answer says. The position
-// behind the line is returned.
-pub fn put_answer(out: &mut [u8], at: usize, index: u64, answer: Answer, text: &[u8]) -> usize
-    requires { ⌜ (at + longestLine ≤ length (now out)) × (length (now text) ≤ 32) × (length (now text) ≤ octetsIn answer) ⌝ }
-    ensures { λ n. ⌜ Wrote longestLine (lineOf index (answerIn answer (now (text .entry)))) (now (out .entry)) (now (out .exit)) at n ⌝ }
-{
-    match answer {
-        Answer::Refused(number) => report::put_refusal(out, at, index, number),
-        _ => report::put_line(out, at, index, report_of(answer), text),
     }
 }

@@ -11,6 +11,7 @@ use Rattle.protocol.specs.Floor.{Floor, limits}
 use Rattle.protocol.specs.Wireless.{standsBefore, headWith, headAmong, queueHead}
 use Rattle.protocol.proofs.Tests.{on-cond}
 use Rattle.queue.specs.Rooms.{roomCode, roomIn}
+use Rattle.cartset.proofs.Walk.{nothing-between}
 use Rattle.queue.proofs.Codes.{Below, room-in, no-room-in, decoded, code-fits, encoded}
 
 or-no : (a : Bool) → a || false ≡ a
@@ -73,6 +74,15 @@ module _ (F : Floor) (t : ℕ) where
   pub head-all : (m h : ℕ) → m ≡ 32 → h ≡ roomCode (headAmong F t m) → h ≡ roomCode (queueHead limits F t)
   unfolding queueHead
   head-all m h z e = e ∙ ap (λ (n : ℕ). roomCode (headAmong F t n)) z
+
+  -- WHERE THERE IS NO ENTRY
+  head-empty : (m : ℕ) (o : Option ℕ) → F .queue m t ≡ 0 → headWith F t m o ≡ o
+  head-empty m none e = rw (eq-eqb (F .queue m t) 0 e)
+  head-empty m (some k) e = rw (eq-eqb (F .queue m t) 0 e)
+
+  pub head-skips : (a b : ℕ) → a ≤ b → ((m : ℕ) → a ≤ m → m < b → F .queue m t ≡ 0) → headAmong F t b ≡ headAmong F t a
+  unfolding headAmong
+  head-skips a b h empty = nothing-between (headAmong F t) a b h (λ m l k. head-empty m (headAmong F t m) (empty m l k))
 
   -- FOR A CALLER: what the answer says
   pub head-is : (h : ℕ) → h < 32 → h ≡ roomCode (queueHead limits F t) → queueHead limits F t ≡ some h

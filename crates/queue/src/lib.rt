@@ -48,16 +48,17 @@ fn head_with(stations: &[u64], messages: &[u64], station: Station, m: usize, hea
     }
 }
 
-// "the head message of the queue": its room, or none.
+// "the head message of the queue": its room, or none. Only rooms that have an entry are looked at.
 pub fn head(stations: &[u64], messages: &[u64], station: Station) -> usize
     requires { ⌜ HasStation (now stations) (station .0) × HasRooms (now messages) ⌝ }
     ensures { λ r. ⌜ r ≡ roomCode (queueHead limits (tablesFloor (now (stations .entry)) (now (messages .entry))) (station .0)) ⌝ }
 {
     let mut head = NONE;
-    let mut m: usize = 0;
-    while m < ROOMS {
+    let mut left = stations::entries_of(stations, station);
+    while 0 < left {
+        let m = cartset::first(left) as usize;
+        left = cartset::without_first(left);
         head = head_with(stations, messages, station, m, head);
-        m += 1;
     }
     head
 }

@@ -38,7 +38,7 @@ pub fn refusal(handing: Handing) -> u64
 
 // 8, 9 or 16, or 0. "cart is not at this station (leaving counts as not at)".
 fn not_here(stations: &[u64], carts: &[u64], station: Station, cart: CartNumber) -> u64
-    requires { ⌜ (length (now stations) ≡ 1938) × (length (now carts) ≡ 1216) × (headIn (now stations) .carts ≤ 64) ⌝ }
+    requires { ⌜ (length (now stations) ≡ 1972) × (length (now carts) ≡ 1216) × (headIn (now stations) .carts ≤ 64) ⌝ }
     ensures { λ r. ⌜ r ≡ notHere (now (stations .entry)) (now (carts .entry)) (station .0) (cart .0) ⌝ }
 {
     if stations::station_count(stations) <= station.0 {

@@ -1,28 +1,44 @@
 -- Laws of the parts of a line, written one after the other.
-use mathlib.Core.Path.{_≡_, refl, sym, subst}
+use mathlib.Core.Path.{_≡_, refl, sym, ap, ap₂, _∙_, subst}
 use mathlib.Core.Bool.{Bool, cond}
-use mathlib.Core.List.{List, [], _∷_, _++_, append-nil}
-use Prim.Native.Nat.{ℕ, _+_, _≤_}
+use mathlib.Core.List.{List, [], _∷_, _++_, append-assoc, append-nil}
+use Prim.Native.Nat.{ℕ, _+_, _*_, _≤_, _<_}
 use native.Mathlib.Omega.{arith}
-use lib.ListN.{length, set}
+use lib.ListN.{length, set, length-set}
 use borrow.Author.Tests.{eq-eqb, ne-eqb}
 use Rattle.protocol.specs.Events.{Report, accepted, refused}
-use Rattle.protocol.specs.Printed.{decimal, hexadecimal, field, textField, reportFields, lineOf}
-use Rattle.report.specs.Lines.{Wrote}
-use Rattle.report.proofs.Octets.{wrote-one, wrote-then, wrote-wider}
+use Rattle.protocol.specs.Printed.{digitChar, decimal, hexadecimal, field, textField, reportFields, lineOf}
+use Rattle.report.specs.Lines.{written, Wrote, octetsOf}
+use Rattle.report.proofs.Octets.{wrote-one, wrote-all, wrote-then, wrote-wider, pair-stored}
+use Rattle.report.proofs.Numbers.{digit-small, decimal-one, word-of, digit-written}
 
 pub field-written : (n : ℕ) (l : List ℕ) (at : ℕ) {l₁ : List ℕ} {next : ℕ} → at + 21 ≤ length l → Wrote 20 (decimal n) (set l at 32) l₁ (at + 1) next → Wrote 21 (field n) l l₁ at next
 field-written n l at h w = wrote-then (omega arith) (wrote-one l at 32 (at + 1) (omega arith) refl) w
 
+-- a number of one digit
+pub field-short : (n x : ℕ) (l : List ℕ) (at : ℕ) → at + 21 ≤ length l → n < 10 → x ≡ digitChar n
+    → Wrote 21 (field n) l (set (set l at 32) (at + 1) x) at (at + 2)
+field-short n x l at h i e =
+    field-written n l at h
+    (wrote-wider (omega arith) (digit-written (set l at 32) (at + 1) n x (at + 2) i (simp length-set (omega arith)) e (omega arith)))
+
+-- two of them, in a word
+pub fields-short : (x y : ℕ) (l l₁ : List ℕ) (at : ℕ) → at + 42 ≤ length l → x < 10 → y < 10
+    → l₁ ≡ written l at (octetsOf (807415840 + x * 256 + y * 16777216)) → Wrote 42 (field x ++ field y) l l₁ at (at + 4)
+fields-short x y l l₁ at h i j q =
+    subst (λ (a : List ℕ). Wrote 42 a l l₁ at (at + 4)) (ap₂ (λ (a b : List ℕ). (32 ∷ a) ++ (32 ∷ b)) (sym (decimal-one x i)) (sym (decimal-one y j)))
+    (wrote-all l at (32 ∷ digitChar x ∷ 32 ∷ digitChar y ∷ []) (omega arith) refl (omega arith) (q ∙ ap (λ (a : List ℕ). written l at a) octets))
+  where
+    octets : octetsOf (807415840 + x * 256 + y * 16777216) ≡ 32 ∷ digitChar x ∷ 32 ∷ digitChar y ∷ []
+    octets =
+        let a = digit-small x i in
+        let b = digit-small y j in
+        word-of _ 32 (digitChar x) 32 (digitChar y) (omega arith) (omega arith) (omega arith) (omega arith)
+
 -- A TEXT
 
 pub text-empty : (text l : List ℕ) (at : ℕ) → length text ≡ 0 → at + 65 ≤ length l → Wrote 65 (textField text) l (set (set l at 32) (at + 1) 45) at (at + 2)
-text-empty [] l at e h =
-    wrote-wider {m = 2} (omega arith)
-    (wrote-then (omega arith) blank (wrote-one (set l at 32) (at + 1) 45 (at + 2) (let k = blank .kept in omega arith) (omega arith)))
-  where
-    blank : Wrote 1 (32 ∷ []) l (set l at 32) at (at + 1)
-    blank = wrote-one l at 32 (at + 1) (omega arith) refl
+text-empty [] l at e h = wrote-wider (omega arith) (pair-stored l at 32 45 (omega arith))
 text-empty (x ∷ text) l at e h = absurd (omega arith)
 
 pub text-some : (text l l₁ : List ℕ) (at next : ℕ) → (length text ≡ 0 → ⊥) → at + 65 ≤ length l → Wrote 64 (hexadecimal text) (set l at 32) l₁ (at + 1) next
@@ -35,22 +51,24 @@ text-some (x ∷ text) l l₁ at next e h w = wrote-then (omega arith) (wrote-on
 abbrev numbers : Report → List ℕ
 numbers r = field (r .kind) ++ field (r .a) ++ field (r .b) ++ field (r .p) ++ field (r .w)
 
-module _ (r : Report) {l l₁ l₂ l₃ l₄ l₅ : List ℕ} {at p₁ p₂ p₃ p₄ p₅ : ℕ} (room : at + 170 ≤ length l)
-    (kind : Wrote 21 (field (r .kind)) l l₁ at p₁) (a : Wrote 21 (field (r .a)) l₁ l₂ p₁ p₂) (b : Wrote 21 (field (r .b)) l₂ l₃ p₂ p₃)
-    (p : Wrote 21 (field (r .p)) l₃ l₄ p₃ p₄) (w : Wrote 21 (field (r .w)) l₄ l₅ p₄ p₅) where
-  numbers-written : Wrote 105 (numbers r) l l₅ at p₅
+module _ (r : Report) {l l₁ l₂ l₃ : List ℕ} {at p₁ p₂ p₃ : ℕ} (room : at + 170 ≤ length l)
+    (first : Wrote 42 (field (r .kind) ++ field (r .a)) l l₁ at p₁) (b : Wrote 21 (field (r .b)) l₁ l₂ p₁ p₂)
+    (last : Wrote 42 (field (r .p) ++ field (r .w)) l₂ l₃ p₂ p₃) where
+  numbers-written : Wrote 105 (numbers r) l l₃ at p₃
   numbers-written =
-      wrote-then (omega arith) (wrote-then (omega arith) (wrote-then (omega arith) (wrote-then (omega arith) kind a) b) p) w
+      subst (λ (x : List ℕ). Wrote 105 x l l₃ at p₃)
+      (sym (append-assoc (field (r .kind) ++ field (r .a) ++ field (r .b)) (field (r .p)) (field (r .w))))
+      (wrote-then (omega arith) (wrote-then (omega arith) first b) last)
 
-  pub with-text : {l₆ : List ℕ} {next : ℕ} → r .kind ≡ 4 → Wrote 65 (textField (r .text)) l₅ l₆ p₅ next → Wrote 170 (reportFields r) l l₆ at next
-  with-text {l₆} {next} k t =
-      subst (λ (x : Bool). Wrote 170 (numbers r ++ cond x (textField (r .text)) []) l l₆ at next) (sym (eq-eqb (r .kind) 4 k))
+  pub with-text : {l₄ : List ℕ} {next : ℕ} → r .kind ≡ 4 → Wrote 65 (textField (r .text)) l₃ l₄ p₃ next → Wrote 170 (reportFields r) l l₄ at next
+  with-text {l₄} {next} k t =
+      subst (λ (x : Bool). Wrote 170 (numbers r ++ cond x (textField (r .text)) []) l l₄ at next) (sym (eq-eqb (r .kind) 4 k))
       (wrote-then (omega arith) numbers-written t)
 
-  pub without-text : (r .kind ≡ 4 → ⊥) → Wrote 170 (reportFields r) l l₅ at p₅
+  pub without-text : (r .kind ≡ 4 → ⊥) → Wrote 170 (reportFields r) l l₃ at p₃
   without-text k =
-      subst (λ (x : Bool). Wrote 170 (numbers r ++ cond x (textField (r .text)) []) l l₅ at p₅) (sym (ne-eqb (r .kind) 4 k))
-      (subst (λ (x : List ℕ). Wrote 170 x l l₅ at p₅) (sym (append-nil (numbers r))) (wrote-wider (omega arith) numbers-written))
+      subst (λ (x : Bool). Wrote 170 (numbers r ++ cond x (textField (r .text)) []) l l₃ at p₃) (sym (ne-eqb (r .kind) 4 k))
+      (subst (λ (x : List ℕ). Wrote 170 x l l₃ at p₃) (sym (append-nil (numbers r))) (wrote-wider (omega arith) numbers-written))
 
 -- LINES
 

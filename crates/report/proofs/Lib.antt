@@ -1,3 +1,4 @@
 pub mod Octets
 pub mod Numbers
+pub mod Counting
 pub mod Fields

@@ -1,6 +1,6 @@
 -- Laws of numbers in decimal, and of octets in hexadecimal.
 use mathlib.Core.Path.{_≡_, refl, sym, ap, ap₂, _∙_, subst}
-use mathlib.Core.List.{List, [], _∷_, _++_}
+use mathlib.Core.List.{List, [], _∷_, _++_, append-assoc, append-nil}
 use Prim.Native.Nat.{ℕ, zero, suc, _+_, _-_, _*_, _/_, _%_, _^_, _≤_, _<_}
 use native.Mathlib.Numerals.{add-one}
 use native.Mathlib.Nat.{add-zero}
@@ -10,8 +10,8 @@ use lib.Seq.{take-suc, take-length}
 use borrow.Author.Tests.{lt-ltb, le-ltb}
 use Rattle.protocol.proofs.Tests.{by-lt}
 use Rattle.protocol.specs.Printed.{digitChar, decimalDigits, decimal, hexadecimal}
-use Rattle.report.specs.Lines.{written, Wrote, lastDigits}
-use Rattle.report.proofs.Octets.{written-none, written-last, written-length, wrote-one, wrote-join, wrote-then, wrote-wider}
+use Rattle.report.specs.Lines.{written, Wrote, lastDigits, octetsOf}
+use Rattle.report.proofs.Octets.{written-none, written-last, wrote-one, wrote-all, wrote-join, pair-stored, four-stored}
 
 -- DIGITS
 
@@ -64,14 +64,45 @@ length-three n h l = let a = length-more n (omega arith) in let b = length-two (
 pub length-four : (n : ℕ) → 1000 ≤ n → n < 10000 → length (decimal n) ≡ 4
 length-four n h l = let a = length-more n (omega arith) in let b = length-three (n / 10) (omega arith) (omega arith) in omega arith
 
+pub length-last : (k n : ℕ) → length (lastDigits k n) ≡ k
+unfolding lastDigits
+length-last zero n = refl
+length-last (suc k) n = length-append (lastDigits k (n / 10)) (digitChar (n % 10) ∷ []) ∙ ap (λ (w : ℕ). w + 1) (length-last k (n / 10)) ∙ add-one k
+
+-- a number with k digits more, which are 0
+abbrev pub shift : ℕ → ℕ → ℕ
+shift zero q = q
+shift (suc k) q = 10 * shift k q
+
+shift-some : (k q : ℕ) → 0 < q → 0 < shift k q
+shift-some zero q h = h
+shift-some (suc k) q h = let z = shift-some k q h in omega arith
+
+-- its last k digits are those of the number below them, and the others stand before them
+decimal-shift : (k q m : ℕ) → 0 < q → m < shift k 1 → decimal (shift k q + m) ≡ decimal q ++ lastDigits k m
+unfolding lastDigits
+decimal-shift zero q m h i = ap (λ (n : ℕ). decimal n) (let z : q + m ≡ q = omega arith in z) ∙ sym (append-nil (decimal q))
+decimal-shift (suc k) q m h i =
+    let z = shift-some k q h in
+    decimal-more (10 * shift k q + m) (omega arith)
+    ∙ ap₂ (λ (n d : ℕ). decimal n ++ (digitChar d ∷ [])) (over (shift k q) m) (under (shift k q) m)
+    ∙ ap (λ (d : List ℕ). d ++ (digitChar (m % 10) ∷ [])) (decimal-shift k q (m / 10) h (omega arith))
+    ∙ append-assoc (decimal q) (lastDigits k (m / 10)) (digitChar (m % 10) ∷ [])
+  where
+    over : (s m : ℕ) → (10 * s + m) / 10 ≡ s + m / 10
+    over s m = omega arith
+
+    under : (s m : ℕ) → (10 * s + m) % 10 ≡ m % 10
+    under s m = omega arith
+
+decimal-split : (k n q m : ℕ) → n ≡ shift k q + m → 0 < q → m < shift k 1 → decimal n ≡ decimal q ++ lastDigits k m
+decimal-split k n q m e h i = ap (λ (x : ℕ). decimal x) e ∙ decimal-shift k q m h i
+
 pub length-four-more : (n : ℕ) → 10000 ≤ n → length (decimal n) ≡ length (decimal (n / 10000)) + 4
 length-four-more n h =
-    let a = length-more n (omega arith) in
-    let b = length-more (n / 10) (omega arith) in
-    let c = length-more (n / 10 / 10) (omega arith) in
-    let d = length-more (n / 10 / 10 / 10) (omega arith) in
-    let e : length (decimal (n / 10 / 10 / 10 / 10)) ≡ length (decimal (n / 10000)) = ap (λ (k : ℕ). length (decimal k)) (let z : n / 10 / 10 / 10 / 10 ≡ n / 10000 = omega arith in z) in
-    omega arith
+    ap (λ (d : List ℕ). length d) (decimal-split 4 n (n / 10000) (n % 10000) (omega arith) (omega arith) (omega arith))
+    ∙ length-append (decimal (n / 10000)) (lastDigits 4 (n % 10000))
+    ∙ ap (λ (k : ℕ). length (decimal (n / 10000)) + k) (length-last 4 (n % 10000))
 
 -- a number has a digit, and one below 10 ^ j at most j
 pub some-digit : (n : ℕ) → 1 ≤ length (decimal n)
@@ -98,11 +129,6 @@ last-all (suc k) n h =
 
 all-digits : (n : ℕ) → decimal n ≡ lastDigits (length (decimal n)) n
 all-digits n = last-all (suc n) n (omega arith)
-
-length-last : (k n : ℕ) → length (lastDigits k n) ≡ k
-unfolding lastDigits
-length-last zero n = refl
-length-last (suc k) n = length-append (lastDigits k (n / 10)) (digitChar (n % 10) ∷ []) ∙ ap (λ (w : ℕ). w + 1) (length-last k (n / 10)) ∙ add-one k
 
 -- the digits that are left, before and after one was stored from the right
 last-step : (l : List ℕ) (at k n : ℕ) → at + k < length l → written (set l (at + k) (digitChar (n % 10))) at (lastDigits k (n / 10)) ≡ written l at (lastDigits (suc k) n)
@@ -146,24 +172,122 @@ last-stored l at i x n d e m f q =
     let back : i - 1 ≡ at = omega arith in
     subst (λ (k : ℕ). set l k x ≡ d) back (digits-done (set l (i - 1) x) at (i - 1 - at) (n / 10) d (omega arith) (digit-stored l at i x n d (omega arith) m f q))
 
--- a number is written: its one digit, or all its digits
-pub digit-written : (l : List ℕ) (at n x : ℕ) → n < 10 → at < length l → x ≡ digitChar n → Wrote 20 (decimal n) l (set l at x) at (at + 1)
-digit-written l at n x h r e =
-    subst (λ (a : List ℕ). Wrote 20 a l (set l at x) at (at + 1)) (ap (λ (d : ℕ). d ∷ []) e ∙ sym (decimal-one n h))
-    (wrote-wider (omega arith) (wrote-one l at x (at + 1) r refl))
+-- TWO AND FOUR DIGITS IN A WORD
 
-pub digits-written : (l l₁ : List ℕ) (at n count : ℕ) → count ≡ length (decimal n) → count ≤ 20 → at + 20 ≤ length l → l₁ ≡ written l at (lastDigits count n)
-    → Wrote 20 (decimal n) l l₁ at (at + count)
-digits-written l l₁ at n count e f r q =
-    record {
-      octets = line;
-      behind = ap (λ (k : ℕ). at + k) e;
-      few = omega arith;
-      kept = ap (λ (k : List ℕ). length k) line ∙ written-length l at (decimal n) (omega arith);
-    }
+octet-low : (w x y : ℕ) → x < 256 → w ≡ x + 256 * y → w % 256 ≡ x
+octet-low w x y h e = omega arith
+
+octet-high : (w x y : ℕ) → x < 256 → w ≡ x + 256 * y → w / 256 ≡ y
+octet-high w x y h e = omega arith
+
+-- two digits side by side
+abbrev pub pairWord : ℕ → ℕ
+pairWord n = 12336 + n * 256 - n / 10 * 2559
+
+pub pair-written : (l : List ℕ) (at n : ℕ) → at + 2 ≤ length l → n < 100
+    → set (set l at (pairWord n % 256)) (at + 1) (pairWord n / 256) ≡ written l at (lastDigits 2 n)
+unfolding lastDigits
+pair-written l at n h k =
+    pair-stored l at (pairWord n % 256) (pairWord n / 256) h .octets
+    ∙ ap₂ (λ (x y : ℕ). written l at (x ∷ y ∷ []))
+    (octet-low (pairWord n) (48 + n / 10 % 10) (48 + n % 10) (omega arith) made ∙ sym (digit-small (n / 10 % 10) (omega arith)))
+    (octet-high (pairWord n) (48 + n / 10 % 10) (48 + n % 10) (omega arith) made ∙ sym (digit-small (n % 10) (omega arith)))
   where
-    line : l₁ ≡ written l at (decimal n)
-    line = q ∙ ap (λ (k : ℕ). written l at (lastDigits k n)) e ∙ ap (λ (d : List ℕ). written l at d) (sym (all-digits n))
+    made : pairWord n ≡ 48 + n / 10 % 10 + 256 * (48 + n % 10)
+    made = omega arith
+
+pub word-written : (l : List ℕ) (at w : ℕ) → at + 4 ≤ length l
+    → set (set (set (set l at (w % 256)) (at + 1) (w / 256 % 256)) (at + 2) (w / 65536 % 256)) (at + 3) (w / 16777216) ≡ written l at (octetsOf w)
+unfolding octetsOf
+word-written l at w h = four-stored l at (w % 256) (w / 256 % 256) (w / 65536 % 256) (w / 16777216) h .octets
+
+-- the octets of a word that was made of them
+pub word-of : (w a b c d : ℕ) → a < 256 → b < 256 → c < 256 → w ≡ a + 256 * b + 65536 * c + 16777216 * d → octetsOf w ≡ a ∷ b ∷ c ∷ d ∷ []
+unfolding octetsOf
+word-of w a b c d ha hb hc e =
+    let p = octet-low w a (b + 256 * (c + 256 * d)) ha (omega arith) in
+    let u = octet-high w a (b + 256 * (c + 256 * d)) ha (omega arith) in
+    let q = octet-low (w / 256) b (c + 256 * d) hb u in
+    let v = octet-high (w / 256) b (c + 256 * d) hb u in
+    let r : w / 65536 % 256 ≡ c = octet-low (w / 65536) c d hc (omega arith) in
+    let s : w / 16777216 ≡ d = omega arith in
+    cc
+
+-- four digits side by side, from two pairs
+four-word : (q r a b c d : ℕ) → q ≡ 10 * a + b → r ≡ 10 * c + d
+    → 808464432 + (q + r * 65536) * 256 - (a + c * 65536) * 2559 ≡ 48 + a + 256 * (48 + b) + 65536 * (48 + c) + 16777216 * (48 + d)
+four-word q r a b c d e f = omega arith
+
+-- the digits of the pairs are those of the number
+high-pair : (n : ℕ) → n / 100 ≡ n / 10 / 10
+high-pair n = omega arith
+
+low-pair : (n : ℕ) → n % 100 ≡ 10 * (n / 10 % 10) + n % 10
+low-pair n = omega arith
+
+split-ten : (p q : ℕ) → q ≡ p → q ≡ 10 * (p / 10) + p % 10
+split-ten p q e = omega arith
+
+pub four-digits : (n : ℕ) → n < 10000
+    → octetsOf (808464432 + (n / 100 + n % 100 * 65536) * 256 - (n / 100 / 10 + n % 100 / 10 * 65536) * 2559) ≡ lastDigits 4 n
+unfolding lastDigits
+four-digits n h =
+    ap₂ (λ (x y : ℕ). octetsOf (808464432 + (n / 100 + n % 100 * 65536) * 256 - (x + y * 65536) * 2559)) thousands tens
+    ∙ word-of _ (digitChar (n / 10 / 10 / 10 % 10)) (digitChar (n / 10 / 10 % 10)) (digitChar (n / 10 % 10)) (digitChar (n % 10))
+    (let z = a in omega arith) (let z = b in omega arith) (let z = c in omega arith)
+    (four-word (n / 100) (n % 100) (n / 10 / 10 / 10 % 10) (n / 10 / 10 % 10) (n / 10 % 10) (n % 10)
+    (split-ten (n / 10 / 10) (n / 100) (high-pair n) ∙ ap (λ (x : ℕ). 10 * x + n / 10 / 10 % 10) last) (low-pair n)
+    ∙ (let z = a in let y = b in let x = c in let w = d in omega arith))
+  where
+    last : n / 10 / 10 / 10 ≡ n / 10 / 10 / 10 % 10
+    last = omega arith
+
+    thousands : n / 100 / 10 ≡ n / 10 / 10 / 10 % 10
+    thousands = ap (λ (x : ℕ). x / 10) (high-pair n) ∙ last
+
+    tens : n % 100 / 10 ≡ n / 10 % 10
+    tens = let z = low-pair n in omega arith
+
+    a : digitChar (n / 10 / 10 / 10 % 10) ≡ 48 + n / 10 / 10 / 10 % 10
+    a = digit-small (n / 10 / 10 / 10 % 10) (omega arith)
+
+    b : digitChar (n / 10 / 10 % 10) ≡ 48 + n / 10 / 10 % 10
+    b = digit-small (n / 10 / 10 % 10) (omega arith)
+
+    c : digitChar (n / 10 % 10) ≡ 48 + n / 10 % 10
+    c = digit-small (n / 10 % 10) (omega arith)
+
+    d : digitChar (n % 10) ≡ 48 + n % 10
+    d = digit-small (n % 10) (omega arith)
+
+-- A NUMBER IS WRITTEN
+
+-- its one digit, or all its digits
+pub digit-written : (l : List ℕ) (at n x next : ℕ) → n < 10 → at < length l → x ≡ digitChar n → next ≡ at + 1
+    → Wrote 1 (decimal n) l (set l at x) at next
+digit-written l at n x next h r e f =
+    subst (λ (a : List ℕ). Wrote 1 a l (set l at x) at next) (ap (λ (d : ℕ). d ∷ []) e ∙ sym (decimal-one n h)) (wrote-one l at x next r f)
+
+pub digits-written : (most : ℕ) (l l₁ : List ℕ) (at n count : ℕ) → count ≡ length (decimal n) → count ≤ most → at + most ≤ length l
+    → l₁ ≡ written l at (lastDigits count n) → Wrote most (decimal n) l l₁ at (at + count)
+digits-written most l l₁ at n count e f r q =
+    wrote-all l at (decimal n) (omega arith) (ap (λ (k : ℕ). at + k) e) (omega arith)
+    (q ∙ ap (λ (k : ℕ). written l at (lastDigits k n)) e ∙ ap (λ (d : List ℕ). written l at d) (sym (all-digits n)))
+
+-- its last k digits behind the others
+pub split-written : (most k n q m : ℕ) {few : ℕ} {l l₁ l₂ : List ℕ} {at p next : ℕ} → n ≡ shift k q + m → 0 < q → m < shift k 1
+    → few + k ≤ most → at + most ≤ length l → next ≡ p + k
+    → Wrote few (decimal q) l l₁ at p → l₂ ≡ written l₁ p (lastDigits k m) → Wrote most (decimal n) l l₂ at next
+split-written most k n q m {few} {l} {l₁} {l₂} {at} {p} {next} e h i f r g w b =
+    subst (λ (a : List ℕ). Wrote most a l l₂ at next) (sym (decimal-split k n q m e h i))
+    (wrote-join most (omega arith) (omega arith) w low)
+  where
+    low : Wrote k (lastDigits k m) l₁ l₂ p next
+    low =
+        let z = length-last k m in
+        let y = w .few in
+        let x = w .kept in
+        wrote-all l₁ p (lastDigits k m) (omega arith) (omega arith) (omega arith) b
 
 -- HEXADECIMAL
 
@@ -192,13 +316,8 @@ hex-stored text l l₁ at next i x u v h t r n e eu ev w =
     line : hexadecimal (take i text) ++ (u ∷ v ∷ []) ≡ hexadecimal (take (i + 1) text)
     line = ap₂ (λ (y z : ℕ). hexadecimal (take i text) ++ (y ∷ z ∷ [])) eu ev ∙ hex-more text i x h e
 
-    first : Wrote 1 (u ∷ []) l₁ (set l₁ next u) next (next + 1)
-    first = wrote-one l₁ next u (next + 1) (let k = w .kept in omega arith) refl
-
     two : Wrote 2 (u ∷ v ∷ []) l₁ (set (set l₁ next u) (next + 1) v) next (next + 2)
-    two =
-        wrote-then (let k = w .kept in omega arith) first
-        (wrote-one (set l₁ next u) (next + 1) v (next + 2) (let k = w .kept in let j = first .kept in omega arith) (omega arith))
+    two = pair-stored l₁ next u v (let k = w .kept in omega arith)
 
 pub hex-none : (text l : List ℕ) (at : ℕ) → Wrote 64 (hexadecimal (take 0 text)) l l at at
 unfolding hexadecimal

@@ -1,11 +1,12 @@
 -- Lines written into lent octets.
 use mathlib.Core.Path.{_≡_}
 use mathlib.Core.List.{List, [], _∷_, _++_}
-use Prim.Native.Nat.{ℕ, zero, suc, _+_, _*_, _/_, _%_, _≤_}
-use lib.ListN.{length, take, drop}
+use Prim.Native.Nat.{ℕ, zero, suc, _+_, _*_, _/_, _%_, _≤_, _<_}
+use lib.ListN.{length, take, drop, getD}
 use Rattle.protocol.specs.Events as events
-use Rattle.protocol.specs.Printed.{digitChar}
+use Rattle.protocol.specs.Printed.{digitChar, decimal}
 use Rattle.report.specs.declared.Report.{Report}
+use Rattle.report.specs.declared.Index.{Index}
 
 -- WRITING
 
@@ -27,6 +28,9 @@ pub record Wrote (most : ℕ) (line l l′ : List ℕ) (at next : ℕ) : Type 0 
 abbrev pub reportIn : Report → List ℕ → events.Report
 reportIn r text = record { kind = r .kind; a = r .a; b = r .b; p = r .p; w = r .w; text = text }
 
+abbrev pub acceptedIn : Report → List ℕ → events.Answer
+acceptedIn r text = events.accepted (reportIn r text)
+
 -- the longest line: a number has at most 20 digits, and a text at most 32 octets
 abbrev pub longestLine : ℕ
 longestLine = 20 + 5 * 21 + 65 + 1
@@ -39,3 +43,14 @@ longestRefusal = 20 + 3 + 21 + 1
 unfoldable pub lastDigits : ℕ → ℕ → List ℕ
 lastDigits zero n = []
 lastDigits (suc k) n = lastDigits k (n / 10) ++ (digitChar (n % 10) ∷ [])
+
+-- the four octets of a word, the least first
+unfoldable pub octetsOf : ℕ → List ℕ
+octetsOf w = w % 256 ∷ w / 256 % 256 ∷ w / 65536 % 256 ∷ w / 16777216 ∷ []
+
+-- twenty octets keep an index printed: from `first` on its digits, and before them only 0, so that a carry finds a digit there
+pub record Shows (digits : List ℕ) (i : Index) : Type 0 where
+  pub size : length digits ≡ 20
+  pub begins : i .first < 20
+  pub printed : drop (i .first) digits ≡ decimal (i .number)
+  pub zeros : (k : ℕ) → k < i .first → getD digits k 0 ≡ 48

@@ -1,12 +1,12 @@
 // The printed run: "prints one line each: index from 0, kind, a, b, p, w. Refused: index, no, refusal". A line is written into octets that
 // the caller lends; everything before it and behind it stays.
 ghost use mathlib.Core.Path.{_≡_};
-ghost use mathlib.Core.List.{[], _∷_};
+ghost use mathlib.Core.List.{[], _∷_, _++_};
 ghost use Prim.Native.Nat.{_+_, _<_, _≤_};
-ghost use lib.ListN.{length};
-ghost use Rattle.protocol.specs.Events.{refused, accepted};
+ghost use lib.ListN.{length, take, drop};
+ghost use Rattle.protocol.specs.Events.{refused};
 ghost use Rattle.protocol.specs.Printed.{digitChar, decimal, hexadecimal, field, textField, reportFields, lineOf};
-ghost use Rattle.report.specs.Lines.{written, Wrote, lastDigits, reportIn, longestLine, longestRefusal};
+ghost use Rattle.report.specs.Lines.{written, Wrote, Shows, lastDigits, octetsOf, reportIn, acceptedIn, longestLine, longestRefusal};
 
 // What an accepted event reports.
 pub struct Report {
@@ -15,6 +15,12 @@ pub struct Report {
     pub b: u64,
     pub p: u64,
     pub w: u64,
+}
+
+// The index of a line, and where its digits begin in the twenty octets that keep it printed.
+pub struct Index {
+    pub number: u64,
+    pub first: usize,
 }
 
 // The longest line: six numbers of 20 digits, five blanks before them, a blank and a text of 32 octets, and the line end.
@@ -80,17 +86,152 @@ fn put_digits(out: &mut [u8], at: usize, count: usize, n: u64)
     }
 }
 
-// A number in decimal. Most have one digit.
-fn put_decimal(out: &mut [u8], at: usize, n: u64) -> usize
-    requires { ⌜ at + 20 ≤ length (now out) ⌝ }
-    ensures { λ r. ⌜ Wrote 20 (decimal n) (now (out .entry)) (now (out .exit)) at r ⌝ }
+// The two digits of a number, also where the first is 0. 256 times the number less 2559 times its tens is its tens and 256 times its units: both
+// digits side by side in one word, by one division; 12336 makes characters of them.
+fn put_pair(out: &mut [u8], at: usize, n: u64)
+    requires { ⌜ (at + 2 ≤ length (now out)) × (n < 100) ⌝ }
+    ensures { λ r. ⌜ now (out .exit) ≡ written (now (out .entry)) at (lastDigits 2 n) ⌝ }
+{
+    let word = 12336 + n * 256 - n / 10 * 2559;
+    out[at] = (word % 256) as u8;
+    out[at + 1] = (word / 256) as u8;
+}
+
+// The four octets of a word, the least first, which the compiler makes one store.
+fn put_word(out: &mut [u8], at: usize, word: u64)
+    requires { ⌜ (at + 4 ≤ length (now out)) × (word < 4294967296) ⌝ }
+    ensures { λ r. ⌜ now (out .exit) ≡ written (now (out .entry)) at (octetsOf word) ⌝ }
+{
+    out[at] = (word % 256) as u8;
+    out[at + 1] = (word / 256 % 256) as u8;
+    out[at + 2] = (word / 65536 % 256) as u8;
+    out[at + 3] = (word / 16777216) as u8;
+}
+
+// The four digits of a number, also where the first are 0: two pairs at once, as above, and one store for all four.
+fn put_four(out: &mut [u8], at: usize, n: u64)
+    requires { ⌜ (at + 4 ≤ length (now out)) × (n < 10000) ⌝ }
+    ensures { λ r. ⌜ now (out .exit) ≡ written (now (out .entry)) at (lastDigits 4 n) ⌝ }
+{
+    let high = n / 100;
+    let low = n % 100;
+    let pairs = high + low * 65536;
+    let tens = high / 10 + low / 10 * 65536;
+    put_word(out, at, 808464432 + pairs * 256 - tens * 2559);
+}
+
+// A number of at most four digits. A division costs more than a store, so there are no more of them than pairs.
+fn put_small(out: &mut [u8], at: usize, n: u64) -> usize
+    requires { ⌜ (at + 4 ≤ length (now out)) × (n < 10000) ⌝ }
+    ensures { λ r. ⌜ Wrote 4 (decimal n) (now (out .entry)) (now (out .exit)) at r ⌝ }
 {
     if n < 10 {
         out[at] = digit(n);
         return at + 1;
     }
+    if n < 100 {
+        put_pair(out, at, n);
+        return at + 2;
+    }
+    if n < 1000 {
+        out[at] = digit(n / 100);
+        put_pair(out, at + 1, n % 100);
+        return at + 3;
+    }
+    put_four(out, at, n);
+    at + 4
+}
+
+// A number in decimal. Most have at most four digits, and few have more than eight, which are stored from the right.
+fn put_decimal(out: &mut [u8], at: usize, n: u64) -> usize
+    requires { ⌜ at + 20 ≤ length (now out) ⌝ }
+    ensures { λ r. ⌜ Wrote 20 (decimal n) (now (out .entry)) (now (out .exit)) at r ⌝ }
+{
+    if n < 10000 {
+        return put_small(out, at, n);
+    }
+    if n < 100000000 {
+        let next = put_small(out, at, n / 10000);
+        put_four(out, next, n % 10000);
+        return next + 4;
+    }
     let count = digits_of(n);
     put_digits(out, at, count, n);
+    at + count
+}
+
+// An index is printed whole once, and then counted up: a line's index is one more than the last one's, and a division costs more than a store.
+pub fn show(digits: &mut [u8], number: u64) -> Index
+    requires { ⌜ length (now digits) ≡ 20 ⌝ }
+    ensures { λ r. ⌜ Shows (now (digits .exit)) r × (r .number ≡ number) ⌝ }
+{
+    put_digits(digits, 0, 20, number);
+    let count = digits_of(number);
+    Index {
+        number,
+        first: 20 - count,
+    }
+}
+
+// One more: from the right each 9 becomes 0, and the digit before them rises by one. It may be a 0 that was not printed before.
+pub fn count_up(digits: &mut [u8], index: Index) -> Index
+    requires { ⌜ Shows (now digits) index × (index .number + 1 < 18446744073709551616) ⌝ }
+    ensures { λ r. ⌜ Shows (now (digits .exit)) r × (r .number ≡ index .number + 1) ⌝ }
+{
+    let mut i: usize = 19;
+    while digits[i] == b'9' {
+        digits[i] = b'0';
+        i -= 1;
+    }
+    digits[i] = digits[i] + 1;
+    let number = index.number + 1;
+    let first = index.first;
+    if i < first {
+        return Index { number, first: i };
+    }
+    Index { number, first }
+}
+
+// Four octets, which the compiler moves as one word.
+fn copy_four(out: &mut [u8], at: usize, from: &[u8], i: usize)
+    requires { ⌜ (at + 4 ≤ length (now out)) × (i + 4 ≤ length (now from)) ⌝ }
+    ensures { λ r. ⌜ now (out .exit) ≡ written (now (out .entry)) at (take 4 (drop i (now (from .entry)))) ⌝ }
+{
+    out[at] = from[i];
+    out[at + 1] = from[i + 1];
+    out[at + 2] = from[i + 2];
+    out[at + 3] = from[i + 3];
+}
+
+// All octets from a position on, one after the other.
+fn copy_rest(out: &mut [u8], at: usize, from: &[u8], first: usize)
+    requires { ⌜ (first ≤ length (now from)) × (at + length (now from) ≤ length (now out) + first) ⌝ }
+    ensures { λ r. ⌜ now (out .exit) ≡ written (now (out .entry)) at (drop first (now (from .entry))) ⌝ }
+{
+    let mut k: usize = 0;
+    while k < from.len() - first {
+        out[at + k] = from[first + k];
+        k += 1;
+    }
+}
+
+// The index. Of four to eight digits, which most have, the first four and the last four are moved, and may overlap.
+fn put_index(out: &mut [u8], at: usize, digits: &[u8], index: Index) -> usize
+    requires { ⌜ (at + 20 ≤ length (now out)) × Shows (now digits) index ⌝ }
+    ensures { λ r. ⌜ Wrote 20 (decimal (index .number)) (now (out .entry)) (now (out .exit)) at r ⌝ }
+{
+    let first = index.first;
+    let count = 20 - first;
+    if count < 4 {
+        copy_rest(out, at, digits, first);
+        return at + count;
+    }
+    if 8 < count {
+        copy_rest(out, at, digits, first);
+        return at + count;
+    }
+    copy_four(out, at, digits, first);
+    copy_four(out, at + count - 4, digits, 16);
     at + count
 }
 
@@ -100,7 +241,26 @@ fn put_field(out: &mut [u8], at: usize, n: u64) -> usize
     ensures { λ r. ⌜ Wrote 21 (field n) (now (out .entry)) (now (out .exit)) at r ⌝ }
 {
     out[at] = b' ';
+    if n < 10 {
+        out[at + 1] = digit(n);
+        return at + 2;
+    }
     put_decimal(out, at + 1, n)
+}
+
+// Two of them. Most often both have one digit: then one word holds blank, digit, blank and digit.
+fn put_two_fields(out: &mut [u8], at: usize, x: u64, y: u64) -> usize
+    requires { ⌜ at + 42 ≤ length (now out) ⌝ }
+    ensures { λ r. ⌜ Wrote 42 (field x ++ field y) (now (out .entry)) (now (out .exit)) at r ⌝ }
+{
+    if x < 10 {
+        if y < 10 {
+            put_word(out, at, 807415840 + x * 256 + y * 16777216);
+            return at + 4;
+        }
+    }
+    let next = put_field(out, at, x);
+    put_field(out, next, y)
 }
 
 // Octets in lower-case hexadecimal.
@@ -138,11 +298,9 @@ fn put_fields(out: &mut [u8], at: usize, r: Report, text: &[u8]) -> usize
     requires { ⌜ (at + 170 ≤ length (now out)) × (length (now text) ≤ 32) ⌝ }
     ensures { λ n. ⌜ Wrote 170 (reportFields (reportIn r (now (text .entry)))) (now (out .entry)) (now (out .exit)) at n ⌝ }
 {
-    let kind = put_field(out, at, r.kind);
-    let a = put_field(out, kind, r.a);
+    let a = put_two_fields(out, at, r.kind, r.a);
     let b = put_field(out, a, r.b);
-    let p = put_field(out, b, r.p);
-    let w = put_field(out, p, r.w);
+    let w = put_two_fields(out, b, r.p, r.w);
     if r.kind == 4 {
         return put_text(out, w, text);
     }
@@ -150,11 +308,18 @@ fn put_fields(out: &mut [u8], at: usize, r: Report, text: &[u8]) -> usize
 }
 
 // The line of an accepted event; of a radio step with the text that was handed over. The position behind the line is returned.
-pub fn put_line(out: &mut [u8], at: usize, index: u64, r: Report, text: &[u8]) -> usize
-    requires { ⌜ (at + longestLine ≤ length (now out)) × (length (now text) ≤ 32) ⌝ }
-    ensures { λ n. ⌜ Wrote longestLine (lineOf index (accepted (reportIn r (now (text .entry))))) (now (out .entry)) (now (out .exit)) at n ⌝ }
+pub fn put_line(
+    out: &mut [u8],
+    at: usize,
+    digits: &[u8],
+    index: Index,
+    r: Report,
+    text: &[u8],
+) -> usize
+    requires { ⌜ (at + longestLine ≤ length (now out)) × (length (now text) ≤ 32) × Shows (now digits) index ⌝ }
+    ensures { λ n. ⌜ Wrote longestLine (lineOf (index .number) (acceptedIn r (now (text .entry)))) (now (out .entry)) (now (out .exit)) at n ⌝ }
 {
-    let number = put_decimal(out, at, index);
+    let number = put_index(out, at, digits, index);
     let fields = put_fields(out, number, r, text);
     out[fields] = b'\n';
     fields + 1
@@ -172,11 +337,11 @@ fn put_no(out: &mut [u8], at: usize) -> usize
 }
 
 // The line of a refused one.
-pub fn put_refusal(out: &mut [u8], at: usize, index: u64, number: u64) -> usize
-    requires { ⌜ at + longestRefusal ≤ length (now out) ⌝ }
-    ensures { λ r. ⌜ Wrote longestRefusal (lineOf index (refused number)) (now (out .entry)) (now (out .exit)) at r ⌝ }
+pub fn put_refusal(out: &mut [u8], at: usize, digits: &[u8], index: Index, number: u64) -> usize
+    requires { ⌜ (at + longestRefusal ≤ length (now out)) × Shows (now digits) index ⌝ }
+    ensures { λ r. ⌜ Wrote longestRefusal (lineOf (index .number) (refused number)) (now (out .entry)) (now (out .exit)) at r ⌝ }
 {
-    let head = put_decimal(out, at, index);
+    let head = put_index(out, at, digits, index);
     let word = put_no(out, head);
     let refusal = put_field(out, word, number);
     out[refusal] = b'\n';

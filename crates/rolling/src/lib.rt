@@ -22,7 +22,7 @@ ghost use Rattle.answers.specs.Met.{Met};
 
 // The refusal of an enter, 8 to 10, or 0.
 fn enter_refusal(stations: &[u64], carts: &[u64], station: Station, cart: CartNumber) -> u64
-    requires { ⌜ (length (now stations) ≡ 1938) × (length (now carts) ≡ 1216) × (headIn (now stations) .carts ≤ 64) ⌝ }
+    requires { ⌜ (length (now stations) ≡ 1972) × (length (now carts) ≡ 1216) × (headIn (now stations) .carts ≤ 64) ⌝ }
     ensures { λ r. ⌜ ((M W T : List ℕ) → r ≡ refusalIf limits (floorIn (lent (now (stations .entry)) (now (carts .entry)) M W T)) false (enter (station .0) (cart .0))) ⌝ }
 {
     if stations::station_count(stations) <= station.0 {
@@ -61,7 +61,7 @@ pub fn enter(
 
 // The refusal of a move, 8, 9 and 18 to 20, or 0.
 fn move_refusal(stations: &[u64], carts: &[u64], cart: CartNumber, to: Station) -> u64
-    requires { ⌜ (length (now stations) ≡ 1938) × (length (now carts) ≡ 1216) × (headIn (now stations) .carts ≤ 64) ⌝ }
+    requires { ⌜ (length (now stations) ≡ 1972) × (length (now carts) ≡ 1216) × (headIn (now stations) .carts ≤ 64) ⌝ }
     ensures { λ r. ⌜ ((M W T : List ℕ) → r ≡ refusalIf limits (floorIn (lent (now (stations .entry)) (now (carts .entry)) M W T)) false (move (cart .0) (to .0))) ⌝ }
 {
     if stations::station_count(stations) <= to.0 {

@@ -3,7 +3,7 @@ use mathlib.Core.Path.{_≡_, refl, sym, ap, _∙_, subst}
 use mathlib.Core.Bool.{Bool, true, false, not}
 use mathlib.Core.List.{List, [], _∷_}
 use Prim.{tt}
-use Prim.Native.Nat.{ℕ, zero, suc, _+_, _-_, _*_, _≤_}
+use Prim.Native.Nat.{ℕ, _+_, _-_, _*_, _≤_}
 use native.Mathlib.Omega.{arith}
 use lib.Dec.{eqb, ltb}
 use lib.ListN.{length, take, drop, length-take}
@@ -12,7 +12,7 @@ use borrow.Author.Tests.{eqb-true, ne-eqb}
 use denote.Enum.Declared.{tagOf}
 use types.Run.{OneOf, miss}
 use Rattle.protocol.specs.Floor.{Floor, limits}
-use Rattle.protocol.specs.Events.{start, enter, send, wire, radio, move, refused}
+use Rattle.protocol.specs.Events.{start, enter, send, wire, radio, move, refused, accepted}
 use Rattle.protocol.specs.Events as events
 use Rattle.protocol.specs.Form.{passesForm}
 use Rattle.protocol.specs.Refusals.{refusal, refusalIf}
@@ -37,21 +37,22 @@ use Rattle.receiving.specs.declared.Handing.{Handing}
 use Rattle.receiving.specs.declared.Handing.the-variants.{Over}
 use Rattle.receiving.specs.Handing.{handingIn, Fits}
 use Rattle.receiving.proofs.Values.{over-fits}
-use Rattle.answers.specs.declared.Answer.the-variants.{Received}
-use Rattle.answers.specs.Answers.{says, answerIn}
+use Rattle.answers.specs.declared.Answer.{Answer}
+use Rattle.answers.specs.declared.Answer.the-variants.{Refused, Received}
+use Rattle.answers.specs.Answers.{answerIn}
 use Rattle.answers.specs.Met.{Met}
+use Rattle.answers.proofs.Answer.{the-type as answer-type}
+use Rattle.answers.proofs.Values.{others}
+use Rattle.printing.specs.Reports.{reportOf}
+use Rattle.printing.proofs.Values.{accepted-is}
 use Rattle.controller.proofs.Broken.{broken-enter, broken-send, broken-wire, broken-radio, broken-move}
 use Rattle.controller.proofs.Starts.{start-begun}
 use Rattle.protocol.specs.Printed.{lineOf}
-use Rattle.report.specs.Lines.{Wrote}
+use Rattle.report.specs.declared.Report.{Report}
+use Rattle.report.specs.Lines.{Wrote, reportIn, longestLine, longestRefusal}
 use Rattle.running.specs.declared.Told.{Told}
 use Rattle.running.specs.Ready.{Ready}
 use Rattle.running.specs.Told.{toldIn, Within}
-
-take-again : (n : ℕ) (l : List ℕ) → take n (take n l) ≡ take n l
-take-again zero l = refl
-take-again (suc n) [] = refl
-take-again (suc n) (x ∷ l) = ap (λ (k : List ℕ). x ∷ k) (take-again n l)
 
 -- the octets of a text, where they stand in the input
 pub text-part : (l : List ℕ) (at n f e : ℕ) → f ≡ at + 16 → e ≡ f + n → take (e - f) (drop f l) ≡ take n (drop 16 (drop at l))
@@ -71,18 +72,26 @@ short-text l n h = omega (arith, length-take n (drop 16 l))
 pub for-event : (L L′ : Lent) (e ev : events.Event) (b : events.Answer) → e ≡ ev → Met L L′ e b → Met L L′ ev b
 for-event L L′ e ev b q met = subst (λ (x : events.Event). Met L L′ x b) q met
 
--- an answer as it is told: it may look at the texts
-told-as : (L L′ : Lent) (ev e : events.Event) (b : List ℕ → events.Answer) (r : Told) (T : List ℕ) → ev ≡ e → Within r × ((T : List ℕ) → toldIn T r ≡ b T)
+-- WHAT WAS TOLD, field by field
+abbrev pub told : Bool → ℕ → Report → ℕ → ℕ → Told
+told n refusal said room size = record { «is_refused» = n; refusal = refusal; report = said; room = room; size = size }
+
+-- it is this answer, which may look at the texts
+abbrev pub Tells : Told → (List ℕ → events.Answer) → Type 0
+Tells r b = Within r × ((T : List ℕ) → toldIn T r ≡ b T)
+
+-- an answer as it is told
+told-as : (L L′ : Lent) (ev e : events.Event) (b : List ℕ → events.Answer) (r : Told) (T : List ℕ) → ev ≡ e → Tells r b
     → Met L L′ e (b T) → Within r × Met L L′ ev (toldIn T r)
 told-as L L′ ev e b r T q told met = (told .0, subst (λ (x : events.Answer). Met L L′ ev x) (sym (told .1 T)) (subst (λ (x : events.Event). Met L L′ x (b T)) (sym q) met))
 
 -- one without a text
-pub told-plainly : (L L′ : Lent) (ev e : events.Event) (b : events.Answer) (r : Told) (T : List ℕ) → ev ≡ e → Within r × ((T : List ℕ) → toldIn T r ≡ b)
+pub told-plainly : (L L′ : Lent) (ev e : events.Event) (b : events.Answer) (r : Told) (T : List ℕ) → ev ≡ e → Tells r (λ _. b)
     → Met L L′ e b → Within r × Met L L′ ev (toldIn T r)
 told-plainly L L′ ev e b r T q told met = told-as L L′ ev e (λ _. b) r T q told met
 
 -- and a radio step's
-pub told-text : (L L′ : Lent) (ev e : events.Event) (h : Handing) (r : Told) (T : List ℕ) → ev ≡ e → Within r × ((T : List ℕ) → toldIn T r ≡ handingIn T h)
+pub told-text : (L L′ : Lent) (ev e : events.Event) (h : Handing) (r : Told) (T : List ℕ) → ev ≡ e → Tells r (λ T. handingIn T h)
     → Met L L′ e (handingIn T h) → Within r × Met L L′ ev (toldIn T r)
 told-text L L′ ev e h r T q told met = told-as L L′ ev e (λ T. handingIn T h) r T q told met
 
@@ -91,24 +100,41 @@ pub send-is : (l : List ℕ) (at n : ℕ) (e : Event) (s : Station) (set : ℕ) 
     → eventIn (drop at l) e ≡ send (s .0) set (take (at + 16 + n - (at + 16)) (drop (at + 16) l))
 send-is l at n e s set q = ap (eventIn (drop at l)) q ∙ ap (λ (x : List ℕ). send (s .0) set x) (sym (text-part l at n (at + 16) (at + 16 + n) refl refl))
 
--- the line of what was told: its text is that part of the texts
-pub told-line : (T : List ℕ) (r : Told) (most index : ℕ) (out out′ : List ℕ) (at next : ℕ)
-    → Wrote most (lineOf index (answerIn (r .answer) (take (r .room * 32 + r .size - r .room * 32) (drop (r .room * 32) T)))) out out′ at next
-    → Wrote most (lineOf index (toldIn T r)) out out′ at next
-told-line T r most index out out′ at next w =
-    let size : r .room * 32 + r .size - r .room * 32 ≡ r .size = omega arith in
-    subst (λ (k : ℕ). Wrote most (lineOf index (answerIn (r .answer) (take k (drop (r .room * 32) T)))) out out′ at next) size w
+-- a refusal, and a report without a text
+pub plain-refusal : (a : Answer) (r : ℕ) (said : Report) → a ≡ Refused r → Tells (told true r said 0 0) (λ _. answerIn a [])
+plain-refusal a r said q = (record { room = omega arith; size = omega arith }, λ T. sym (ap (λ (x : Answer). answerIn x []) q))
+
+pub plain-report : (a : Answer) (said : Report) → OneOf others (tagOf answer-type a) → said ≡ reportOf a → Tells (told false 0 said 0 0) (λ _. answerIn a [])
+plain-report a said h q =
+    (record { room = omega arith; size = omega arith }, λ T. ap (λ (x : Report). accepted (reportIn x [])) q ∙ accepted-is a h)
 
 -- a radio step's answer, with its text where it lies
-pub text-told : (h : Handing) (m size : ℕ) (s : Station) (n : MessageNumber) (p w : ℕ) → h ≡ Over m size s n p w → Fits 32 h
-    → Within (record { answer = Received s n p w size; room = m; size = size })
-    × ((T : List ℕ) → toldIn T (record { answer = Received s n p w size; room = m; size = size }) ≡ handingIn T h)
+pub text-told : (h : Handing) (m size : ℕ) (s : Station) (n : MessageNumber) (p w : ℕ) (said : Report)
+    → h ≡ Over m size s n p w → Fits 32 h → said ≡ reportOf (Received s n p w size) → Tells (told false 0 said m size) (λ T. handingIn T h)
 unfolding textIn
-text-told h m size s n p w q f =
+text-told h m size s n p w said q f e =
     let g = over-fits 32 h m size s n p w q f in (
-      record { room = g .0; size = g .1; said = omega arith },
-      λ T. ap (λ (l : List ℕ). says 4 (s .0) (n .0) p w l) (take-again size (drop (m * 32) T)) ∙ sym (ap (handingIn T) q),
+      record { room = g .0; size = g .1 },
+      λ T. ap (λ (x : Report). accepted (reportIn x (take size (drop (m * 32) T)))) e ∙ sym (ap (handingIn T) q),
     )
+
+-- THE LINE of what was told
+module _ (T : List ℕ) (r : Told) (index : ℕ) (out out′ : List ℕ) (at next : ℕ) where
+  abbrev Line : events.Answer → Type 0
+  Line a = Wrote longestLine (lineOf index a) out out′ at next
+
+  -- that of a refusal is no longer than any line
+  pub told-refusal : r .«is_refused» ≡ true → Wrote longestRefusal (lineOf index (refused (r .refusal))) out out′ at next → Line (toldIn T r)
+  told-refusal q w =
+      rw q
+      (let few = w .few in record { octets = w .octets; behind = w .behind; few = omega arith; kept = w .kept })
+
+  -- and the text of a report is that part of the texts
+  pub told-line : r .«is_refused» ≡ false
+      → Line (accepted (reportIn (r .report) (take (r .room * 32 + r .size - r .room * 32) (drop (r .room * 32) T)))) → Line (toldIn T r)
+  told-line q w =
+      let size : r .room * 32 + r .size - r .room * 32 ≡ r .size = omega arith in
+      rw q (subst (λ (k : ℕ). Line (accepted (reportIn (r .report) (take k (drop (r .room * 32) T))))) size w)
 
 -- "not started"
 pub before-any : (L : Lent) → floorIn L .started ≡ false → (l : List ℕ) (e : Event) → sizeOf e ≤ 48 → OneOf (1 ∷ 2 ∷ 3 ∷ 4 ∷ 5 ∷ []) (tagOf event-type e) → Met L L (eventIn l e) (refused 5)

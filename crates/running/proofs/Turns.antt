@@ -40,13 +40,13 @@ texts-long L R = lengths-of L (R .lengths) .texts
 
 -- the event that happened and the line that was printed
 pub took : (index : ℕ) (L L′ : Lent) (out out′ : List ℕ) (p r : Progress) (e : events.Event) (size : ℕ) (a : events.Answer)
-    → Ready L → Met L L′ e a → Wrote longestLine (lineOf (index + p .frames) a) out out′ (p .written) (r .written)
+    → Ready L → Met L L′ e a → Wrote longestLine (lineOf index a) out out′ (p .written) (r .written)
     → r .read ≡ p .read + size → r .frames ≡ p .frames + 1 → r .state ≡ 0 → Took index L L′ out out′ p r e size
 took index L L′ out out′ p r e size a R met line read frames state =
     record {
       ready = goes-on L L′ e a R met;
       floor = met .floor;
-      line = subst (λ (x : events.Answer). Wrote longestLine (lineOf (index + p .frames) x) out out′ (p .written) (r .written)) (met .answers) line;
+      line = subst (λ (x : events.Answer). Wrote longestLine (lineOf index x) out out′ (p .written) (r .written)) (met .answers) line;
       read = read;
       frames = frames;
       state = state;
@@ -90,19 +90,20 @@ module _ (R : Ran) (L L′ : Lent) (out₀ out out′ : List ℕ) (p r : Progres
         ended = e;
       }
 
-module _ (input : List ℕ) (index : ℕ) (F : Floor) (L : Lent) (out₀ out : List ℕ) (p : Progress) (going : p .state ≡ 0) where
+module _ (input : List ℕ) (first index : ℕ) (F : Floor) (L : Lent) (out₀ out : List ℕ) (p : Progress) (going : p .state ≡ 0) (at : index ≡ first + p .frames) where
   abbrev R : Ran
-  R = runFrom (p .frames) F index input
+  R = runFrom (p .frames) F first input
 
   -- the run with one frame more
-  pub next-frame : (k : ℕ) (reading : Reading) → InRun R L out₀ out p → k ≡ p .frames + 1 → readAt limits input (p .read) ≡ reading → runFrom k F index input ≡ more R (index + p .frames) reading
+  pub next-frame : (k : ℕ) (reading : Reading) → InRun R L out₀ out p → k ≡ p .frames + 1 → readAt limits input (p .read) ≡ reading → runFrom k F first input ≡ more R index reading
   next-frame k reading h e q =
       let one : k ≡ suc (p .frames) = omega arith in
       let goes : R .ended ≡ false = h .ended ∙ ne-eqb (p .state) 2 (λ z. omega arith) in
-      ap (λ (n : ℕ). runFrom n F index input) one ∙ one-more (p .frames) F index input
-      ∙ ap (λ (b : Bool). cond b R (more R (index + p .frames) (readAt limits input (R .octets)))) goes
-      ∙ ap (λ (n : ℕ). more R (index + p .frames) (readAt limits input n)) (sym (h .read))
-      ∙ ap (λ (x : Reading). more R (index + p .frames) x) q
+      ap (λ (n : ℕ). runFrom n F first input) one ∙ one-more (p .frames) F first input
+      ∙ ap (λ (n : ℕ). onward R n (readAt limits input (R .octets))) (sym at)
+      ∙ ap (λ (b : Bool). cond b R (more R index (readAt limits input (R .octets)))) goes
+      ∙ ap (λ (n : ℕ). more R index (readAt limits input n)) (sym (h .read))
+      ∙ ap (λ (x : Reading). more R index x) q
 
 -- THE THREE WAYS of a frame
 module _ (input : List ℕ) (index : ℕ) (last : Bool) (L : Lent) (out : List ℕ) (p : Progress) (ready : Ready L) (going : p .state ≡ 0) (inside : p .read ≤ length input)
@@ -116,13 +117,14 @@ module _ (input : List ℕ) (index : ℕ) (last : Bool) (L : Lent) (out : List �
       stands =
           record {
             ready = ready;
-            runs = λ F out₀ h. record { floor = h .floor; counted = h .counted; read = h .read; wrote = h .wrote; fits = h .fits; octets = h .octets; ended = h .ended ∙ ne-eqb (p .state) 2 (λ z. omega arith) };
+            runs = λ F first out₀ at h. record { floor = h .floor; counted = h .counted; read = h .read; wrote = h .wrote; fits = h .fits; octets = h .octets; ended = h .ended ∙ ne-eqb (p .state) 2 (λ z. omega arith) };
             inside = inside;
             within = omega arith;
             kept = refl;
             few = λ z. absurd (omega arith);
             counted = omega arith;
             onward = λ z. absurd (omega arith);
+            next = λ z. absurd (omega arith);
             stays = omega arith;
             why = omega arith;
             waits = λ z. none;
@@ -131,14 +133,14 @@ module _ (input : List ℕ) (index : ℕ) (last : Bool) (L : Lent) (out : List �
 
   -- one is refused, and ends the run
   pub turned-refused : (out′ : List ℕ) (r : Progress) (number : ℕ) → readAt limits input (p .read) ≡ refusedFrame number
-      → Wrote longestRefusal (lineOf (index + p .frames) (refused number)) out out′ (p .written) (r .written) → (r .read ≡ p .read) × (r .frames ≡ p .frames + 1) × (r .state ≡ 2)
+      → Wrote longestRefusal (lineOf index (refused number)) out out′ (p .written) (r .written) → (r .read ≡ p .read) × (r .frames ≡ p .frames + 1) × (r .state ≡ 2)
       → (number ≡ 1 → last ≡ true) → Turned input index last L L out out′ p r
   turned-refused out′ r number q wrote is cut-last =
       record {
         ready = ready;
-        runs = λ F out₀ h.
-            subst (λ (X : Ran). InRun X L out₀ out′ r) (sym (next-frame input index F L out₀ out p going (r .frames) (refusedFrame number) h (is .1) q))
-            (further (runFrom (p .frames) F index input) L L out₀ out out′ p r longestRefusal _ h wrote (omega arith) (runFrom (p .frames) F index input .floor) (runFrom (p .frames) F index input .octets) true
+        runs = λ F first out₀ at h.
+            subst (λ (X : Ran). InRun X L out₀ out′ r) (sym (next-frame input first index F L out₀ out p going at (r .frames) (refusedFrame number) h (is .1) q))
+            (further (runFrom (p .frames) F first input) L L out₀ out out′ p r longestRefusal _ h wrote (omega arith) (runFrom (p .frames) F first input .floor) (runFrom (p .frames) F first input .octets) true
             (is .1) (h .floor) (is .0 ∙ h .read) (sym (eq-eqb (r .state) 2 (is .2))));
         inside = let a = is .0 in omega arith;
         within = let a = wrote .few in omega arith;
@@ -146,6 +148,7 @@ module _ (input : List ℕ) (index : ℕ) (last : Bool) (L : Lent) (out : List �
         few = λ z. absurd (let a = is .2 in omega arith);
         counted = let a = is .0 in let b = is .1 in omega arith;
         onward = λ z. absurd (let a = is .2 in omega arith);
+        next = λ z. absurd (let a = is .2 in omega arith);
         stays = let a = is .0 in omega arith;
         why = let a = is .2 in omega arith;
         waits = λ z. absurd (let a = is .2 in omega arith);
@@ -158,11 +161,11 @@ module _ (input : List ℕ) (index : ℕ) (last : Bool) (L : Lent) (out : List �
   turned-taken L′ out′ r e size q least there t =
       record {
         ready = t .ready;
-        runs = λ F out₀ h.
-            let X = runFrom (p .frames) F index input in
+        runs = λ F first out₀ at h.
+            let X = runFrom (p .frames) F first input in
             let same : answer limits (floorIn L) e ≡ answer limits (X .floor) e = ap (λ (G : Floor). answer limits G e) (h .floor) in
-            let line = subst (λ (a : events.Answer). Wrote longestLine (lineOf (index + p .frames) a) out out′ (p .written) (r .written)) same (t .line) in
-            subst (λ (Y : Ran). InRun Y L′ out₀ out′ r) (sym (next-frame input index F L out₀ out p going (r .frames) (taken e size) h (t .frames) q))
+            let line = subst (λ (a : events.Answer). Wrote longestLine (lineOf index a) out out′ (p .written) (r .written)) same (t .line) in
+            subst (λ (Y : Ran). InRun Y L′ out₀ out′ r) (sym (next-frame input first index F L out₀ out p going at (r .frames) (taken e size) h (t .frames) q))
             (further X L L′ out₀ out out′ p r longestLine _ h line room (step limits (X .floor) e) (X .octets + size) false
             (t .frames) (t .floor ∙ ap (λ (G : Floor). step limits G e) (h .floor)) (let a = h .read in let b = t .read in omega arith) (sym (ne-eqb (r .state) 2 (λ z. let a = t .state in omega arith))));
         inside = let a = t .read in omega arith;
@@ -171,6 +174,7 @@ module _ (input : List ℕ) (index : ℕ) (last : Bool) (L : Lent) (out : List �
         few = λ z. let a = t .read in let b = t .frames in omega arith;
         counted = let a = t .read in let b = t .frames in omega arith;
         onward = λ z. let a = t .read in omega arith;
+        next = λ z. t .frames;
         stays = let a = t .read in omega arith;
         why = let a = t .state in omega arith;
         waits = λ z. absurd (let a = t .state in omega arith);

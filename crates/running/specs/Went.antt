@@ -52,25 +52,27 @@ pub record Went (input : List ℕ) (index : ℕ) (last : Bool) (L L′ : Lent) (
   pub ends : p .state ≡ 2 → EndsRun last (readAt limits input (p .read))
   pub full : p .state ≡ 0 → length out < p .written + longestLine
 
--- ONE EVENT of a frame was taken: the floor and the line are the written ones
+-- ONE EVENT of a frame was taken, with its index: the floor and the line are the written ones
 pub record Took (index : ℕ) (L L′ : Lent) (out out′ : List ℕ) (p r : Progress) (e : Event) (size : ℕ) : Type 0 where
   pub ready : Ready L′
   pub floor : floorIn L′ ≡ step limits (floorIn L) e
-  pub line : Wrote longestLine (lineOf (index + p .frames) (answer limits (floorIn L) e)) out out′ (p .written) (r .written)
+  pub line : Wrote longestLine (lineOf index (answer limits (floorIn L) e)) out out′ (p .written) (r .written)
   pub read : r .read ≡ p .read + size
   pub frames : r .frames ≡ p .frames + 1
   pub state : r .state ≡ 0
 
--- ONE FRAME, or none where none is whole; in every run that p is the state of
+-- ONE FRAME, with its index, or none where none is whole; in every run that p is the state of, whatever its first index
 pub record Turned (input : List ℕ) (index : ℕ) (last : Bool) (L L′ : Lent) (out out′ : List ℕ) (p r : Progress) : Type 0 where
   pub ready : Ready L′
-  pub runs : (F : Floor) (out₀ : List ℕ) → InRun (runFrom (p .frames) F index input) L out₀ out p → InRun (runFrom (r .frames) F index input) L′ out₀ out′ r
+  pub runs : (F : Floor) (first : ℕ) (out₀ : List ℕ) → index ≡ first + p .frames
+      → InRun (runFrom (p .frames) F first input) L out₀ out p → InRun (runFrom (r .frames) F first input) L′ out₀ out′ r
   pub inside : r .read ≤ length input
   pub within : r .written ≤ length out
   pub kept : length out′ ≡ length out
   pub few : r .state ≡ 0 → r .frames ≤ r .read
   pub counted : r .frames ≤ r .read + 1
   pub onward : r .state ≡ 0 → p .read < r .read
+  pub next : r .state ≡ 0 → r .frames ≡ p .frames + 1
   pub stays : p .read ≤ r .read
   pub why : r .state ≤ 2
   pub waits : r .state ≡ 1 → NoneWhole last (readAt limits input (r .read))

@@ -6,6 +6,8 @@ use frames::Reading;
 use ids::CartNumber;
 use ids::Station;
 use receiving::Handing;
+use report::Index;
+use report::Report;
 ghost use mathlib.Core.Path.{_≡_};
 ghost use mathlib.Core.Bool.{true, false, not, _&&_};
 ghost use mathlib.Core.List.{List, [], _++_};
@@ -22,7 +24,7 @@ ghost use Rattle.answers.specs.Answers.{answerIn};
 ghost use Rattle.answers.specs.Met.{Met};
 ghost use Rattle.receiving.specs.Handing.{handingIn, Fits};
 ghost use Rattle.frames.specs.Decoded.{eventIn, sizeOf};
-ghost use Rattle.report.specs.Lines.{Wrote, longestLine, longestRefusal};
+ghost use Rattle.report.specs.Lines.{Shows, Wrote, longestLine, longestRefusal};
 ghost use Rattle.running.specs.Ready.{Ready};
 ghost use Rattle.running.specs.Told.{toldIn, Within};
 ghost use Rattle.running.specs.Went.{Took, Turned, Went};
@@ -35,9 +37,12 @@ const TEXT: usize = 32;
 // The mark that says started.
 const STARTED: u64 = 1;
 
-// What an event came to; a radio step's text lies in its room's part of the texts, and has so many octets.
+// What an event came to: a refusal's number, or what is reported. A radio step's text lies in its room's part of the texts, and has so many
+// octets. It is numbers and not an answer, so that its line only asks whether it was refused.
 struct Told {
-    answer: Answer,
+    is_refused: bool,
+    refusal: u64,
+    report: Report,
     room: usize,
     size: usize,
 }
@@ -46,10 +51,22 @@ struct Told {
 fn plainly(answer: Answer) -> Told
     ensures { λ r. ⌜ Within r × ((T : List ℕ) → toldIn T r ≡ answerIn answer []) ⌝ }
 {
-    Told {
-        answer,
-        room: 0,
-        size: 0,
+    let report = printing::report_of(answer);
+    match answer {
+        Answer::Refused(refusal) => Told {
+            is_refused: true,
+            refusal,
+            report,
+            room: 0,
+            size: 0,
+        },
+        _ => Told {
+            is_refused: false,
+            refusal: 0,
+            report,
+            room: 0,
+            size: 0,
+        },
     }
 }
 
@@ -61,7 +78,9 @@ fn with_text(handing: Handing) -> Told
     match handing {
         Handing::Refused(number) => plainly(Answer::Refused(number)),
         Handing::Over(m, size, initiator, number, p, w) => Told {
-            answer: Answer::Received(initiator, number, p, w, size),
+            is_refused: false,
+            refusal: 0,
+            report: printing::report_of(Answer::Received(initiator, number, p, w, size)),
             room: m,
             size,
         },
@@ -178,15 +197,18 @@ fn happen(
     on_floor(stations, carts, messages, lines, texts, input, at, e)
 }
 
-// The line of what an event came to.
-fn print(out: &mut [u8], texts: &[u8], at: usize, index: u64, told: Told) -> usize
+// The line of what an event came to, with the index that the digits show.
+fn print(out: &mut [u8], texts: &[u8], at: usize, digits: &[u8], index: Index, told: Told) -> usize
     requires { ⌜ (at + longestLine ≤ length (now out)) × (length (now texts) ≡ 1024) × Within told ⌝ }
-    ensures { λ n. ⌜ Wrote longestLine (lineOf index (toldIn (now (texts .entry)) told)) (now (out .entry)) (now (out .exit)) at n ⌝ }
+    requires { ⌜ Shows (now digits) index ⌝ }
+    ensures { λ n. ⌜ Wrote longestLine (lineOf (index .number) (toldIn (now (texts .entry)) told)) (now (out .entry)) (now (out .exit)) at n ⌝ }
 {
-    let answer = told.answer;
+    if told.is_refused {
+        return report::put_refusal(out, at, digits, index, told.refusal);
+    }
     let from = told.room * TEXT;
     let end = from + told.size;
-    printing::put_answer(out, at, index, answer, &texts[from..end])
+    report::put_line(out, at, digits, index, told.report, &texts[from..end])
 }
 
 // How far a piece of input was run: the octets read from its front, the octets written to the front of the output, the frames, and why it
@@ -241,17 +263,18 @@ fn take_event(
     messages: &mut [u64],
     lines: &mut [u64],
     texts: &mut [u8],
-    index: u64,
+    digits: &[u8],
+    index: Index,
     p: Progress,
     e: Event,
 ) -> Progress
     requires { ⌜ Ready (lent (now stations) (now carts) (now messages) (now lines) (now texts)) ⌝ }
     requires { ⌜ (p .read + sizeOf e ≤ length (now input)) × (sizeOf e ≤ 48) × (p .written + longestLine ≤ length (now output)) ⌝ }
-    requires { ⌜ (p .frames ≤ p .read) × (index + length (now input) + 1 < 18446744073709551616) ⌝ }
-    ensures { λ r. ⌜ Took index (lent (now (stations .entry)) (now (carts .entry)) (now (messages .entry)) (now (lines .entry)) (now (texts .entry))) (lent (now (stations .exit)) (now (carts .exit)) (now (messages .exit)) (now (lines .exit)) (now (texts .exit))) (now (output .entry)) (now (output .exit)) p r (eventIn (drop (p .read) (now (input .entry))) e) (sizeOf e) ⌝ }
+    requires { ⌜ (p .frames ≤ p .read) × (length (now input) + 1 < 18446744073709551616) × Shows (now digits) index ⌝ }
+    ensures { λ r. ⌜ Took (index .number) (lent (now (stations .entry)) (now (carts .entry)) (now (messages .entry)) (now (lines .entry)) (now (texts .entry))) (lent (now (stations .exit)) (now (carts .exit)) (now (messages .exit)) (now (lines .exit)) (now (texts .exit))) (now (output .entry)) (now (output .exit)) p r (eventIn (drop (p .read) (now (input .entry))) e) (sizeOf e) ⌝ }
 {
     let told = happen(stations, carts, messages, lines, texts, input, p.read, e);
-    let written = print(output, texts, p.written, index + p.frames, told);
+    let written = print(output, texts, p.written, digits, index, told);
     Progress {
         read: p.read + frames::size_of(e),
         written,
@@ -261,12 +284,12 @@ fn take_event(
 }
 
 // The line of a frame that is refused, which ends the run.
-fn refuse(output: &mut [u8], index: u64, p: Progress, number: u64) -> Progress
-    requires { ⌜ (p .written + longestLine ≤ length (now output)) × (index + p .frames + 1 < 18446744073709551616) ⌝ }
-    ensures { λ r. ⌜ Wrote longestRefusal (lineOf (index + p .frames) (refused number)) (now (output .entry)) (now (output .exit)) (p .written) (r .written) ⌝ }
+fn refuse(output: &mut [u8], digits: &[u8], index: Index, p: Progress, number: u64) -> Progress
+    requires { ⌜ (p .written + longestLine ≤ length (now output)) × (p .frames + 1 < 18446744073709551616) × Shows (now digits) index ⌝ }
+    ensures { λ r. ⌜ Wrote longestRefusal (lineOf (index .number) (refused number)) (now (output .entry)) (now (output .exit)) (p .written) (r .written) ⌝ }
     ensures { λ r. ⌜ (r .read ≡ p .read) × (r .frames ≡ p .frames + 1) × (r .state ≡ 2) ⌝ }
 {
-    let written = report::put_refusal(output, p.written, index + p.frames, number);
+    let written = report::put_refusal(output, p.written, digits, index, number);
     Progress {
         read: p.read,
         written,
@@ -284,14 +307,15 @@ fn take_frame(
     messages: &mut [u64],
     lines: &mut [u64],
     texts: &mut [u8],
-    index: u64,
+    digits: &[u8],
+    index: Index,
     p: Progress,
     last: bool,
 ) -> Progress
     requires { ⌜ Ready (lent (now stations) (now carts) (now messages) (now lines) (now texts)) ⌝ }
     requires { ⌜ (p .state ≡ 0) × (p .read ≤ length (now input)) × (p .written + longestLine ≤ length (now output)) ⌝ }
-    requires { ⌜ (p .frames ≤ p .read) × (index + length (now input) + 1 < 18446744073709551616) ⌝ }
-    ensures { λ r. ⌜ Turned (now (input .entry)) index last (lent (now (stations .entry)) (now (carts .entry)) (now (messages .entry)) (now (lines .entry)) (now (texts .entry))) (lent (now (stations .exit)) (now (carts .exit)) (now (messages .exit)) (now (lines .exit)) (now (texts .exit))) (now (output .entry)) (now (output .exit)) p r ⌝ }
+    requires { ⌜ (p .frames ≤ p .read) × (length (now input) + 1 < 18446744073709551616) × Shows (now digits) index ⌝ }
+    ensures { λ r. ⌜ Turned (now (input .entry)) (index .number) last (lent (now (stations .entry)) (now (carts .entry)) (now (messages .entry)) (now (lines .entry)) (now (texts .entry))) (lent (now (stations .exit)) (now (carts .exit)) (now (messages .exit)) (now (lines .exit)) (now (texts .exit))) (now (output .entry)) (now (output .exit)) p r ⌝ }
 {
     let reading = frames::frame_at(input, p.read);
     match reading {
@@ -300,7 +324,7 @@ fn take_frame(
             if may_come(number, last) {
                 waiting(p)
             } else {
-                refuse(output, index, p, number)
+                refuse(output, digits, index, p, number)
             }
         }
         Reading::Taken(e) => take_event(
@@ -311,6 +335,7 @@ fn take_frame(
             messages,
             lines,
             texts,
+            digits,
             index,
             p,
             e,
@@ -331,7 +356,7 @@ fn goes_on(output: &[u8], p: Progress) -> bool
 
 // THE RUN OVER A PIECE: whole frames are taken from the front of the input while the output has room for their lines, from the frame with this
 // index on. What it writes is, octet for octet, the printed lines of the written run over those frames, and the floor that it leaves is that
-// run's.
+// run's. The index is kept printed and counted up with each turn; a turn that takes no frame is the last, and nothing asks for the index behind it.
 pub fn take_frames(
     input: &[u8],
     output: &mut [u8],
@@ -347,6 +372,8 @@ pub fn take_frames(
     requires { ⌜ index + length (now input) + 1 < 18446744073709551616 ⌝ }
     ensures { λ p. ⌜ Went (now (input .entry)) index last (lent (now (stations .entry)) (now (carts .entry)) (now (messages .entry)) (now (lines .entry)) (now (texts .entry))) (lent (now (stations .exit)) (now (carts .exit)) (now (messages .exit)) (now (lines .exit)) (now (texts .exit))) (now (output .entry)) (now (output .exit)) p ⌝ }
 {
+    let mut digits = [b'0'; 20];
+    let mut shown = report::show(&mut digits, index);
     let mut p = Progress {
         read: 0,
         written: 0,
@@ -362,10 +389,12 @@ pub fn take_frames(
             messages,
             lines,
             texts,
-            index,
+            &digits,
+            shown,
             p,
             last,
         );
+        shown = report::count_up(&mut digits, shown);
     }
     p
 }

@@ -9,9 +9,8 @@ use lib.ListN.{length}
 use borrow.Author.Tests.{lt-ltb, le-ltb, eq-eqb, ne-eqb}
 use Rattle.protocol.specs.Folds.{update2}
 use Rattle.protocol.proofs.Tests.{by-test, by-lt, by-eq, and-false}
-use Rattle.rows.proofs.RowLaws.{cell-past}
-use Rattle.rows.proofs.ColumnLaws.{column-zero}
-use Rattle.stations.specs.View.{Stations, stationsIn, stationWord, rooms, copyAt, acksAt, queueAt}
+use Rattle.stations.specs.View.{Stations, stationsIn}
+use Rattle.stations.proofs.TableLaws.{copy-past, acks-past, queue-past}
 use Rattle.sending.specs.Copies.{withoutCopy, withoutCopies}
 
 -- ONE TABLE of a word for each room and station
@@ -70,28 +69,12 @@ module _ (S : Stations) (m : ℕ) where
   }
 
 -- beyond the sixteen rows there is nothing
-module _ (l : List ℕ) (whole : length l ≡ 1938) (m t : ℕ) (past : 16 ≤ t) where
-  no-word : (k : ℕ) → stationWord l t k ≡ 0
-  no-word k = cell-past 114 l (1 + t) k (omega arith)
-
-  copy-past : stationsIn l .copy m t ≡ 0
-  unfolding stationsIn
-  copy-past = column-zero rooms copyAt (stationWord l) t m no-word
-
-  acks-past : stationsIn l .acks m t ≡ 0
-  unfolding stationsIn
-  acks-past = column-zero rooms acksAt (stationWord l) t m no-word
-
-  queue-past : stationsIn l .queue m t ≡ 0
-  unfolding stationsIn
-  queue-past = column-zero rooms queueAt (stationWord l) t m no-word
-
-pub cleared-all : (l : List ℕ) (m n : ℕ) → length l ≡ 1938 → n ≤ 16 → 16 ≤ n → clearedStations n (stationsIn l) m ≡ withoutCopies (stationsIn l) m
+pub cleared-all : (l : List ℕ) (m n : ℕ) → length l ≡ 1972 → n ≤ 16 → 16 ≤ n → clearedStations n (stationsIn l) m ≡ withoutCopies (stationsIn l) m
 cleared-all l m n whole most all = λ i. record {
   sent = stationsIn l .sent;
   expected = stationsIn l .expected;
   local = stationsIn l .local;
-  copy = λ k t. to-all m (stationsIn l .copy) k t n (λ g. copy-past l whole k t (omega arith)) i;
-  acks = λ k t. to-all m (stationsIn l .acks) k t n (λ g. acks-past l whole k t (omega arith)) i;
-  queue = λ k t. to-all m (stationsIn l .queue) k t n (λ g. queue-past l whole k t (omega arith)) i;
+  copy = λ k t. to-all m (stationsIn l .copy) k t n (λ g. copy-past l t (omega arith) k) i;
+  acks = λ k t. to-all m (stationsIn l .acks) k t n (λ g. acks-past l t (omega arith) k) i;
+  queue = λ k t. to-all m (stationsIn l .queue) k t n (λ g. queue-past l t (omega arith) k) i;
 }

@@ -49,7 +49,7 @@ fn clear_copy(stations: &mut [u64], m: usize, station: Station)
 
 // No station has a copy of the message in room m yet, an ack list or an entry for it.
 pub fn clear_copies(stations: &mut [u64], m: usize)
-    requires { ⌜ (length (now stations) ≡ 1938) × (m < rooms) ⌝ }
+    requires { ⌜ (length (now stations) ≡ 1972) × (m < rooms) ⌝ }
     ensures { λ _. ⌜ stationsIn (now (stations .exit)) ≡ withoutCopies (stationsIn (now (stations .entry))) m ⌝ }
     ensures { λ _. ⌜ headIn (now (stations .exit)) ≡ headIn (now (stations .entry)) ⌝ }
     ensures { λ _. ⌜ length (now (stations .exit)) ≡ length (now (stations .entry)) ⌝ }
@@ -70,7 +70,7 @@ pub fn start_floor(
     n: u64,
     k: u64,
 )
-    requires { ⌜ (length (now stations) ≡ 1938) × (length (now lines) ≡ 10226) ⌝ }
+    requires { ⌜ (length (now stations) ≡ 1972) × (length (now lines) ≡ 10226) ⌝ }
     ensures { λ _. ⌜ Begun (now (stations .entry)) (now (stations .exit)) (now (carts .entry)) (now (carts .exit)) (now (messages .entry)) (now (messages .exit)) (now (lines .entry)) (now (lines .exit)) n k ⌝ }
 {
     stations::clear_stations(stations);
@@ -121,7 +121,7 @@ pub fn on_send(
     set: u64,
     text: &[u8],
 )
-    requires { ⌜ (length (now stations) ≡ 1938) × (length (now messages) ≡ 192) × (length (now texts) ≡ 1024) × (length (now text) ≤ 32) ⌝ }
+    requires { ⌜ (length (now stations) ≡ 1972) × (length (now messages) ≡ 192) × (length (now texts) ≡ 1024) × (length (now text) ≤ 32) ⌝ }
     requires { ⌜ (m < rooms) × (s .0 < 16) × (n ≤ 16) × (number .0 < 65536) ⌝ }
     requires { ⌜ (form (now lines) ≡ true) × (used (now lines) + n ≤ capacity (now lines)) ⌝ }
     ensures { λ _. ⌜ Sent (now (stations .entry)) (now (stations .exit)) (now (messages .entry)) (now (messages .exit)) (now (lines .entry)) (now (lines .exit)) (now (texts .entry)) (now (texts .exit)) m (s .0) n (number .0) set (now (text .entry)) ⌝ }

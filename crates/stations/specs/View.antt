@@ -1,15 +1,19 @@
 -- THE STATIONS THAT A LENT TABLE HOLDS, and the stations with one entry changed.
+use mathlib.Core.Bool.{cond}
 use mathlib.Core.List.{List}
 use Prim.Native.Nat.{ℕ, _+_, _*_}
+use lib.Dec.{eqb}
+use Rattle.protocol.specs.CartSets.{has, with, without, setOf}
 use Rattle.protocol.specs.Folds.{update, update2}
 use Rattle.rows.specs.Rows.{cell, column, RowIn}
 
 -- THE WORDS: row 0 is the floor's own, with the mark, how many stations, how many carts. Row 1 + t is station t's: word 0 says how many
--- messages it has sent, words 1 to 16 the numbers that it expects, word 17 its local carts; then each room has three words.
+-- messages it has sent, words 1 to 16 the numbers that it expects, word 17 its local carts; then each room has three words; words 114 and 115
+-- say which rooms' copies and which rooms' queue entries count: where a room is not among them, there is none, whatever its word says.
 
 -- the words of a row
 abbrev pub width : ℕ
-width = 114
+width = 116
 
 -- how many initiators, and how many rooms for held messages, a station's row has words for
 abbrev pub initiators : ℕ
@@ -20,7 +24,7 @@ rooms = 32
 
 -- the words of the whole table: the floor's own row, and sixteen stations
 abbrev pub tableWords : ℕ
-tableWords = 1938
+tableWords = 1972
 
 -- the table has the floor's own row
 abbrev pub HasHead : List ℕ → Type 0
@@ -87,6 +91,21 @@ acksAt m = 19 + 3 * m
 abbrev pub queueAt : ℕ → ℕ
 queueAt m = 20 + 3 * m
 
+-- where it stands which rooms' copies count, and which rooms' entries
+abbrev pub copiesAt : ℕ
+copiesAt = 114
+
+abbrev pub entriesAt : ℕ
+entriesAt = 115
+
+-- the word of room m counts where the room is among those
+abbrev pub counted : ℕ → ℕ → ℕ → ℕ
+counted among m word = cond (has among m) word 0
+
+-- the rooms that count once room m has that word: an empty one need not
+abbrev pub countedWith : ℕ → ℕ → ℕ → ℕ
+countedWith among m word = cond (eqb word 0) (without among m) (with among m)
+
 -- by the words of each row
 abbrev pub stationsOf : (ℕ → ℕ → ℕ) → Stations
 stationsOf W =
@@ -94,14 +113,21 @@ stationsOf W =
       sent = λ t. W t 0;
       expected = λ t s. column initiators expectedAt W t s;
       local = λ t. W t 17;
-      copy = λ m t. column rooms copyAt W t m;
+      copy = λ m t. counted (W t copiesAt) m (column rooms copyAt W t m);
       acks = λ m t. column rooms acksAt W t m;
-      queue = λ m t. column rooms queueAt W t m;
+      queue = λ m t. counted (W t entriesAt) m (column rooms queueAt W t m);
     }
 
 -- in a table: 0 beyond its rows, beyond sixteen initiators and beyond thirty-two rooms
 unfoldable pub stationsIn : List ℕ → Stations
 stationsIn words = stationsOf (stationWord words)
+
+-- the rooms whose copies count at station t, and those whose queue entries do: no other room has one there
+abbrev pub copiesIn : List ℕ → ℕ → ℕ
+copiesIn words t = setOf rooms (has (stationWord words t copiesAt))
+
+abbrev pub entriesIn : List ℕ → ℕ → ℕ
+entriesIn words t = setOf rooms (has (stationWord words t entriesAt))
 
 -- nothing at any station
 abbrev pub noStations : Stations

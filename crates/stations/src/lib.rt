@@ -3,11 +3,12 @@ use ids::Station;
 ghost use mathlib.Core.Path.{_≡_};
 ghost use Prim.Native.Nat.{ℕ, _<_};
 ghost use lib.ListN.{length, getD};
+ghost use Rattle.protocol.specs.CartSets.{has, setOf};
 ghost use Rattle.protocol.specs.Folds.{update2};
-ghost use Rattle.stations.specs.View.{width, initiators, rooms, HasHead, HasStation, stationWord, head, headIn, stationsIn, noStations, withSent, withExpected, withLocal, withCopy, withAcks, withQueue};
+ghost use Rattle.stations.specs.View.{width, initiators, rooms, HasHead, HasStation, countedWith, copiesIn, entriesIn, stationWord, head, headIn, stationsIn, noStations, withSent, withExpected, withLocal, withCopy, withAcks, withQueue};
 
 // A row of the table has this many words. Row 0 is the floor's own, row 1 + t is station t's.
-const WIDTH: usize = 114;
+const WIDTH: usize = 116;
 
 // The whole table, for sixteen stations.
 pub const WORDS: usize = 17 * WIDTH;
@@ -19,8 +20,8 @@ const STATIONS: usize = 1;
 
 const CARTS: usize = 2;
 
-// A station's row: how many messages it has sent; what it expects of each of sixteen initiators; its local carts; and three words for each of
-// thirty-two rooms: the copy, the ack list, the queue's entry.
+// A station's row: how many messages it has sent; what it expects of each of sixteen initiators; its local carts; three words for each of
+// thirty-two rooms: the copy, the ack list, the queue's entry; and which rooms' copies and entries count, so that a search looks at no other.
 const SENT: usize = 0;
 
 const EXPECTED: usize = 1;
@@ -34,6 +35,13 @@ const ACKS: usize = 19;
 const QUEUE: usize = 20;
 
 const ROOM: usize = 3;
+
+const COPIES: usize = 114;
+
+const ENTRIES: usize = 115;
+
+// "At most 32 held messages": as many rooms.
+const ROOMS: u64 = 32;
 
 // Word k of the station's row.
 fn word_of(stations: &[u64], station: Station, k: usize) -> u64
@@ -143,11 +151,49 @@ pub fn put_local(stations: &mut [u64], station: Station, carts: u64)
     put_word(stations, station, LOCAL, carts);
 }
 
+// The rooms among those of a word: it may have more than thirty-two bits.
+fn rooms_among(word: u64) -> u64
+    ensures { λ r. ⌜ r ≡ setOf rooms (has word) ⌝ }
+{
+    cartset::minus(word, cartset::minus(word, cartset::all_below(ROOMS)))
+}
+
+// The rooms that count once room m has that word.
+fn counted_with(among: u64, m: usize, word: u64) -> u64
+    requires { ⌜ m < rooms ⌝ }
+    ensures { λ r. ⌜ r ≡ countedWith among m word ⌝ }
+{
+    if word == 0 {
+        cartset::without_cart(among, m as u64)
+    } else {
+        cartset::with_cart(among, m as u64)
+    }
+}
+
+// The rooms whose copies count at the station: no other room has one there.
+pub fn copies_of(stations: &[u64], station: Station) -> u64
+    requires { ⌜ HasStation (now stations) (station .0) ⌝ }
+    ensures { λ r. ⌜ r ≡ copiesIn (now (stations .entry)) (station .0) ⌝ }
+{
+    rooms_among(word_of(stations, station, COPIES))
+}
+
+// The rooms whose entries count in the station's queue: no other room has one there.
+pub fn entries_of(stations: &[u64], station: Station) -> u64
+    requires { ⌜ HasStation (now stations) (station .0) ⌝ }
+    ensures { λ r. ⌜ r ≡ entriesIn (now (stations .entry)) (station .0) ⌝ }
+{
+    rooms_among(word_of(stations, station, ENTRIES))
+}
+
 // The station's copy of the set of the message in room m.
 pub fn copy_of(stations: &[u64], m: usize, station: Station) -> u64
     requires { ⌜ HasStation (now stations) (station .0) × (m < rooms) ⌝ }
     ensures { λ r. ⌜ r ≡ stationsIn (now (stations .entry)) .copy m (station .0) ⌝ }
 {
+    if !cartset::has(word_of(stations, station, COPIES), m as u64) {
+        return 0;
+    }
     word_of(stations, station, COPY + ROOM * m)
 }
 
@@ -158,6 +204,8 @@ pub fn put_copy(stations: &mut [u64], m: usize, station: Station, carts: u64)
     ensures { λ _. ⌜ headIn (now (stations .exit)) ≡ headIn (now (stations .entry)) ⌝ }
     ensures { λ _. ⌜ length (now (stations .exit)) ≡ length (now (stations .entry)) ⌝ }
 {
+    let among = counted_with(word_of(stations, station, COPIES), m, carts);
+    put_word(stations, station, COPIES, among);
     put_word(stations, station, COPY + ROOM * m, carts);
 }
 
@@ -184,6 +232,9 @@ pub fn queue_of(stations: &[u64], m: usize, station: Station) -> u64
     requires { ⌜ HasStation (now stations) (station .0) × (m < rooms) ⌝ }
     ensures { λ r. ⌜ r ≡ stationsIn (now (stations .entry)) .queue m (station .0) ⌝ }
 {
+    if !cartset::has(word_of(stations, station, ENTRIES), m as u64) {
+        return 0;
+    }
     word_of(stations, station, QUEUE + ROOM * m)
 }
 
@@ -194,6 +245,8 @@ pub fn put_queue(stations: &mut [u64], m: usize, station: Station, carts: u64)
     ensures { λ _. ⌜ headIn (now (stations .exit)) ≡ headIn (now (stations .entry)) ⌝ }
     ensures { λ _. ⌜ length (now (stations .exit)) ≡ length (now (stations .entry)) ⌝ }
 {
+    let among = counted_with(word_of(stations, station, ENTRIES), m, carts);
+    put_word(stations, station, ENTRIES, among);
     put_word(stations, station, QUEUE + ROOM * m, carts);
 }
 

@@ -19,7 +19,7 @@ use Rattle.view.proofs.LinesView.{line-beyond}
 
 -- the lengths, one by one
 pub record Lengths (L : Lent) : Type 0 where
-  pub stations : length (L .stations) ≡ 1938
+  pub stations : length (L .stations) ≡ 1972
   pub carts : length (L .carts) ≡ 1216
   pub messages : length (L .messages) ≡ 192
   pub lines : length (L .lines) ≡ 10226
@@ -28,7 +28,7 @@ pub record Lengths (L : Lent) : Type 0 where
 pub lengths-of : (L : Lent) → lengthsIn L ≡ true → Lengths L
 unfolding lengthsIn
 lengths-of L e =
-    let a = eqb (length (L .stations)) 1938 in
+    let a = eqb (length (L .stations)) 1972 in
     let b = eqb (length (L .carts)) 1216 in
     let c = eqb (length (L .messages)) 192 in
     let d = eqb (length (L .lines)) 10226 in
@@ -37,7 +37,7 @@ lengths-of L e =
     let q = and-right b (c && (d && f)) r in
     let p = and-right c (d && f) q in
     record {
-      stations = eqb-true (length (L .stations)) 1938 (and-left a (b && (c && (d && f))) e);
+      stations = eqb-true (length (L .stations)) 1972 (and-left a (b && (c && (d && f))) e);
       carts = eqb-true (length (L .carts)) 1216 (and-left b (c && (d && f)) r);
       messages = eqb-true (length (L .messages)) 192 (and-left c (d && f) q);
       lines = eqb-true (length (L .lines)) 10226 (and-left d f p);
@@ -46,7 +46,7 @@ lengths-of L e =
 
 pub lengths-right : (L : Lent) → Lengths L → lengthsIn L ≡ true
 unfolding lengthsIn
-lengths-right L h = rw (eq-eqb (length (L .stations)) 1938 (h .stations), eq-eqb (length (L .carts)) 1216 (h .carts), eq-eqb (length (L .messages)) 192 (h .messages), eq-eqb (length (L .lines)) 10226 (h .lines), eq-eqb (length (L .texts)) 1024 (h .texts)) refl
+lengths-right L h = rw (eq-eqb (length (L .stations)) 1972 (h .stations), eq-eqb (length (L .carts)) 1216 (h .carts), eq-eqb (length (L .messages)) 192 (h .messages), eq-eqb (length (L .lines)) 10226 (h .lines), eq-eqb (length (L .texts)) 1024 (h .texts)) refl
 
 -- NOTHING BEYOND
 place-past : (l : List ℕ) (c : ℕ) → length l ≤ c * 19 → cartsIn l .place c ≡ outside

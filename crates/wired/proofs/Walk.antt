@@ -2,17 +2,22 @@
 use mathlib.Core.Path.{_≡_, refl, sym, ap, _∙_, fun-ext}
 use mathlib.Core.Bool.{Bool, true, false, cond, _&&_, _||_, not, and-true, and-false, or-false}
 use mathlib.Core.Option.{some}
-use Prim.Native.Nat.{ℕ, _<_, _^_}
+use mathlib.Core.List.{List}
+use Prim.Native.Nat.{ℕ, _+_, _≤_, _<_, _^_}
+use native.Mathlib.Omega.{arith}
 use lib.Dec.{eqb}
+use lib.ListN.{length}
 use borrow.Author.Tests.{eqb-true, ne-eqb}
-use Rattle.protocol.specs.CartSets.{has, with, without, setOf}
+use Rattle.protocol.specs.CartSets.{has, minus, with, without, setOf}
 use Rattle.protocol.specs.Floor.{Carts}
-use Rattle.protocol.proofs.Tests.{by-test, by-eq, and-left, eqb-self}
-use Rattle.protocol.proofs.SetLaws.{has-zero, has-with, has-without, has-setOf, setOf-lt, with-lt, without-lt, zero-below, same-members}
-use Rattle.carts.specs.View.{withNext}
-use Rattle.cartset.specs.Masks.{least}
+use Rattle.protocol.specs.Form.{bit}
+use Rattle.protocol.proofs.Tests.{by-test, by-eq, on-cond, and-left, eqb-self}
+use Rattle.protocol.proofs.Counting.{count-le, count-ext, count-off, count-none}
+use Rattle.protocol.proofs.SetLaws.{has-zero, has-minus, has-with, has-without, has-setOf, setOf-lt, with-lt, without-lt, zero-below, same-members}
+use Rattle.carts.specs.View.{cartsIn, canonicalIn, withNext}
+use Rattle.cartset.specs.Masks.{least, size}
 use Rattle.cartset.proofs.MaskLaws.{least-lowest, without-less}
-use Rattle.wired.specs.Handled.{raised}
+use Rattle.wired.specs.Handled.{raised, Raised}
 
 -- those still to come are of the set
 pub record Left (whole left : ℕ) : Type 0 where
@@ -32,13 +37,19 @@ left-turn whole left left′ c a h =
 -- the cart at hand, the least of those
 pub record AtHand (whole left c : ℕ) : Type 0 where
   pub below : c < 64
+  pub still : has left c ≡ true
   pub member : has whole c ≡ true
   pub less : without left c < left
 
 pub at-hand : (whole left c : ℕ) → Left whole left → 0 < left → least 64 left ≡ some c → AtHand whole left c
 at-hand whole left c h pos e =
     let low = least-lowest 64 left c (h .small) pos e in
-    record { below = low .inside; member = h .inside c (low .member); less = without-less 64 left c (h .small) (low .member) }
+    record { below = low .inside; still = low .member; member = h .inside c (low .member); less = without-less 64 left c (h .small) (low .member) }
+
+-- a set, and the cart if it joins
+has-joined : (set c : ℕ) (joins : Bool) (d : ℕ) → has (cond joins (with set c) set) d ≡ (has set d || (joins && eqb c d))
+has-joined set c true d = has-with set c d
+has-joined set c false d = sym (or-false (has set d))
 
 -- GATHERED: the carts walked that pass
 pub record Gathered (whole : ℕ) (f : ℕ → Bool) (left set : ℕ) : Type 0 where
@@ -76,13 +87,9 @@ module _ (whole : ℕ) (f : ℕ → Bool) where
       fits true = with-lt 64 set c (G .small) lc
       fits false = G .small
 
-      joined : (b : Bool) (d : ℕ) → has (cond b (with set c) set) d ≡ (has set d || (b && eqb c d))
-      joined true d = has-with set c d
-      joined false d = sym (or-false (has set d))
-
       members : (d : ℕ) → d < 64 → has (cond (f c) (with set c) set) d ≡ ((has whole d && not (has (without left c) d)) && f d)
       members d ld =
-          joined (f c) d
+          has-joined set c (f c) d
           ∙ ap (λ (b : Bool). b || (f c && eqb c d)) (G .members d ld)
           ∙ one-more (has whole d) (has left d) (f d) (f c) (eqb c d) (λ e. let q = eqb-true c d e in (rw (← q) hw, ap f q))
           ∙ ap (λ (b : Bool). (has whole d && not b) && f d) (sym (has-without left c d))
@@ -92,42 +99,129 @@ module _ (whole : ℕ) (f : ℕ → Bool) where
       → AtHand whole left c → Gathered whole f left set → Gathered whole f left′ set′
   gather-turn left left′ set set′ c joins a b d h G = rw (d, b, a) (gather-one left set c (h .below) (h .member) G)
 
+  -- the cart at hand is not gathered yet
+  pub gather-fresh : (left set c : ℕ) → AtHand whole left c → Gathered whole f left set → has set c ≡ false
+  gather-fresh left set c h G = G .members c (h .below) ∙ rw (h .still, and-false (has whole c)) refl
+
   pub gather-all : (left set : ℕ) → left ≡ 0 → Gathered whole f left set → set ≡ setOf 64 (λ c. has whole c && f c)
   gather-all left set z G =
       same-members 64 set (setOf 64 (λ c. has whole c && f c)) (G .small) (setOf-lt 64 (λ c. has whole c && f c))
       (λ c l. G .members c l ∙ rw (z, has-zero c) (all-then (has whole c) (f c)) ∙ sym (has-setOf 64 (λ c. has whole c && f c) c l))
 
--- RAISED: the carts walked have next number n for initiator s
-abbrev pub raisedTo : Carts → ℕ → ℕ → ℕ → ℕ → Carts
-raisedTo C over left s n = record { place = C .place; next = λ c u. cond (eqb u s && (has over c && not (has left c))) n (C .next c u) }
+-- PASSED OVER: those of the carts gathered that are not named; each has a number one higher. Cart c is in `over′` besides if it passes.
+raised-none : (C : Carts) (over s n : ℕ) → ((c : ℕ) → has over c ≡ false) → C ≡ raised C over s n
+raised-none C over s n none = λ i. record { place = C .place; next = fun-ext (λ c. fun-ext (λ u. same c u)) i }
+  where
+    same : (c u : ℕ) → C .next c u ≡ cond (eqb u s && has over c) n (C .next c u)
+    same c u = rw (none c, and-false (eqb u s)) refl
 
-at-raised : (n x : ℕ) (e l : Bool) → cond (true && e) n (cond (e && (true && not l)) n x) ≡ cond (e && (true && not (l && not true))) n x
-at-raised n x true true = refl
-at-raised n x true false = refl
-at-raised n x false l = refl
+at-raised : (x n y z : ℕ) (e p : Bool) → (e ≡ true → y ≡ z) → x ≡ cond p n z → cond e x y ≡ cond (e && p) n y
+at-raised x n y z true p a b = rw (a refl) b
+at-raised x n y z false p a b = refl
 
-module _ (C : Carts) (over s n : ℕ) where
-  pub raise-none : C ≡ raisedTo C over over s n
-  raise-none = λ i. record { place = C .place; next = fun-ext (λ c. fun-ext (λ u. same c u)) i }
+module _ (over over′ c : ℕ) (passes : Bool) (more : (d : ℕ) → has over′ d ≡ (has over d || (passes && eqb c d))) (fresh : has over c ≡ false) where
+  here : has over′ c ≡ passes
+  here = more c ∙ rw (fresh, eqb-self c) (and-true passes)
+
+  elsewhere : (d : ℕ) → (d ≡ c → ⊥) → has over′ d ≡ has over d
+  elsewhere d q = more d ∙ rw (ne-eqb c d (λ z. q (sym z)), and-false passes) (or-false (has over d))
+
+  -- how many there are
+  size-one : c < 64 → size 64 over′ ≡ size 64 over + cond passes 1 0
+  unfolding size
+  size-one lc =
+      let a = count-off 64 (has over′) c lc in
+      let b = ap bit here in
+      let d = count-ext 64 (λ u. cond (eqb u c) false (has over′ u)) (has over) others in
+      omega arith
     where
-      same : (c u : ℕ) → C .next c u ≡ cond (eqb u s && (has over c && not (has over c))) n (C .next c u)
-      same c u = by-test (has over c) (λ e. rw (e, and-false (eqb u s))) (λ e. rw (e, and-false (eqb u s)))
+      others : (u : ℕ) → cond (eqb u c) false (has over′ u) ≡ has over u
+      others u = by-eq u c (λ q. rw (q, eqb-self c) (sym fresh)) (λ q. rw (ne-eqb u c q) (elsewhere u q))
 
-  raise-one : (left c : ℕ) → has over c ≡ true → withNext (raisedTo C over left s n) c s n ≡ raisedTo C over (without left c) s n
-  raise-one left c ho = λ i. record { place = C .place; next = fun-ext (λ d. fun-ext (λ u. same d u)) i }
+  -- the number put back
+  raise-one : (C : Carts) (s n x : ℕ) → x ≡ cond passes n (C .next c s) → withNext (raised C over s n) c s x ≡ raised C over′ s n
+  raise-one C s n x e = λ i. record { place = C .place; next = fun-ext (λ d. fun-ext (λ u. same d u)) i }
     where
-      same : (d u : ℕ) → cond (eqb d c && eqb u s) n (cond (eqb u s && (has over d && not (has left d))) n (C .next d u)) ≡ cond (eqb u s && (has over d && not (has (without left c) d))) n (C .next d u)
+      same : (d u : ℕ) → cond (eqb d c && eqb u s) x (cond (eqb u s && has over d) n (C .next d u)) ≡ cond (eqb u s && has over′ d) n (C .next d u)
       same d u =
           by-eq d c
-          (λ q. rw (q, has-without left c c, eqb-self c, ho) (at-raised n (C .next c u) (eqb u s) (has left c)))
-          (λ q. rw (ne-eqb d c q, has-without left c d, ne-eqb c d (λ z. q (sym z)), and-true (has left d)) refl)
+          (λ q. rw (q, eqb-self c, here, fresh, and-false (eqb u s))
+          (at-raised x n (C .next c u) (C .next c s) (eqb u s) passes (λ z. ap (C .next c) (eqb-true u s z)) e))
+          (λ q. rw (ne-eqb d c q, elsewhere d q) refl)
 
-  -- the turn of a loop
-  pub raise-turn : (left left′ c : ℕ) (K K′ : Carts) → left′ ≡ without left c → has over c ≡ true → K ≡ raisedTo C over left s n → K′ ≡ withNext K c s n → K′ ≡ raisedTo C over left′ s n
-  raise-turn left left′ c K K′ a ho b d = d ∙ ap (λ (X : Carts). withNext X c s n) b ∙ raise-one left c ho ∙ ap (λ (x : ℕ). raisedTo C over x s n) (sym a)
+-- a is gathered, j joins, v is named, as is w of the cart at hand; e is whether it is this one
+not-named : (a j w v e : Bool) → (e ≡ true → w ≡ v) → ((a || (j && e)) && not v) ≡ ((a && not v) || ((j && not w) && e))
+not-named a j w v true p = rw (p refl, and-true j, and-true (j && not v)) (split a j v)
+  where
+    split : (a j v : Bool) → ((a || j) && not v) ≡ ((a && not v) || (j && not v))
+    split true j true = sym (and-false j)
+    split true j false = refl
+    split false j v = refl
+not-named a j w v false p = rw (and-false j, and-false (j && not w), or-false a, or-false (a && not v)) refl
 
-  pub raise-all : (left : ℕ) → left ≡ 0 → raisedTo C over left s n ≡ raised C over s n
-  raise-all left z = λ i. record { place = C .place; next = fun-ext (λ c. fun-ext (λ u. same c u)) i }
-    where
-      same : (c u : ℕ) → cond (eqb u s && (has over c && not (has left c))) n (C .next c u) ≡ cond (eqb u s && has over c) n (C .next c u)
-      same c u = rw (z, has-zero c) (ap (λ (b : Bool). cond (eqb u s && b) n (C .next c u)) (and-true (has over c)))
+-- the number that is put back: one more for a cart that is due and not named
+put-back : (z n : ℕ) (named : Bool) → z + cond (eqb z n && not named) 1 0 ≡ cond (eqb z n && not named) (n + 1) z
+put-back z n named =
+    by-test (eqb z n && not named)
+    (λ e. rw e (ap (λ (x : ℕ). x + 1) (eqb-true z n (and-left (eqb z n) (not named) e))))
+    (λ e. rw e (omega arith))
+
+-- which fits a word
+pub rise-fits : (z n rises : ℕ) (named : Bool) → rises ≡ cond (eqb z n && not named) 1 0 → z < 2 ^ 64 → n < 65536 → z + rises < 2 ^ 64
+rise-fits z n rises named e lz ln = rw (e, put-back z n named) (on-cond (λ (x : ℕ). x < 2 ^ 64) (eqb z n && not named) (λ q. omega arith) (λ q. lz))
+
+module _ (C₀ : List ℕ) (named s n : ℕ) where
+  -- none yet
+  none-over : (c : ℕ) → has (minus 0 named) c ≡ false
+  none-over c = has-minus 0 named c ∙ rw (has-zero c) refl
+
+  pub raise-none : Raised C₀ C₀ (minus 0 named) s (n + 1)
+  raise-none = record { carts = raised-none (cartsIn C₀) (minus 0 named) s (n + 1) none-over; canonical = refl; length = refl }
+
+  pub size-none : 0 ≡ size 64 (minus 0 named)
+  unfolding size
+  size-none = sym (count-none 64 (has (minus 0 named)) (λ c l. none-over c))
+
+  module _ (C : List ℕ) (due c : ℕ) (fresh : has due c ≡ false) (R : Raised C₀ C (minus due named) s (n + 1)) where
+    fresh-over : has (minus due named) c ≡ false
+    fresh-over = has-minus due named c ∙ rw fresh refl
+
+    -- the cart at hand has the number that it had at first
+    pub next-kept : cartsIn C .next c s ≡ cartsIn C₀ .next c s
+    next-kept = ap (λ (K : Carts). K .next c s) (R .carts) ∙ rw (fresh-over, and-false (eqb s s)) refl
+
+    -- the turn of a loop: the number read, whether the cart is named, and by how much its number rises
+    module _ (C′ : List ℕ) (due′ next rises : ℕ) (is-named : Bool) (read : next ≡ cartsIn C .next c s) (asked : is-named ≡ has named c)
+        (rise : rises ≡ cond (eqb next n && not is-named) 1 0) (joined : due′ ≡ cond (eqb next n) (with due c) due) where
+      more-over : (d : ℕ) → has (minus due′ named) d ≡ (has (minus due named) d || ((eqb next n && not is-named) && eqb c d))
+      more-over d =
+          has-minus due′ named d
+          ∙ ap (λ (b : Bool). b && not (has named d)) (ap (λ (x : ℕ). has x d) joined ∙ has-joined due c (eqb next n) d)
+          ∙ not-named (has due d) (eqb next n) is-named (has named d) (eqb c d) (λ e. asked ∙ ap (has named) (eqb-true c d e))
+          ∙ ap (λ (b : Bool). b || ((eqb next n && not is-named) && eqb c d)) (sym (has-minus due named d))
+
+      pub raise-turn : (cartsIn C′ ≡ withNext (cartsIn C) c s (next + rises)) × ((canonicalIn C′ ≡ canonicalIn C) × (length C′ ≡ length C))
+          → Raised C₀ C′ (minus due′ named) s (n + 1)
+      raise-turn put =
+          record {
+            carts = put .0 ∙ ap (λ (K : Carts). withNext K c s (next + rises)) (R .carts)
+                ∙ raise-one (minus due named) (minus due′ named) c (eqb next n && not is-named) more-over fresh-over
+                (cartsIn C₀) s (n + 1) (next + rises) is-put;
+            canonical = put .1 .0 ∙ R .canonical;
+            length = put .1 .1 ∙ R .length;
+          }
+        where
+          is-put : next + rises ≡ cond (eqb next n && not is-named) (n + 1) (cartsIn C₀ .next c s)
+          is-put =
+              ap (λ (x : ℕ). next + x) rise ∙ put-back next n is-named
+              ∙ ap (λ (x : ℕ). cond (eqb next n && not is-named) (n + 1) x) (read ∙ next-kept)
+
+      pub size-turn : (passed : ℕ) → c < 64 → passed ≡ size 64 (minus due named) → passed + rises ≡ size 64 (minus due′ named)
+      size-turn passed lc e =
+          let a = size-one (minus due named) (minus due′ named) c (eqb next n && not is-named) more-over fresh-over lc in
+          omega arith
+
+-- so few that the count fits
+pub size-few : (x : ℕ) → size 64 x ≤ 64
+unfolding size
+size-few x = count-le 64 (has x)

@@ -4,64 +4,58 @@ use ids::MessageNumber;
 use ids::Station;
 use lines::Record;
 ghost use mathlib.Core.Path.{_≡_};
-ghost use mathlib.Core.Bool.{true, cond};
+ghost use mathlib.Core.Bool.{true, cond, not, _&&_};
 ghost use Prim.Native.Nat.{_+_, _<_, _≤_};
 ghost use lib.ListN.{length};
-ghost use Rattle.protocol.specs.CartSets.{union, with};
+ghost use Rattle.protocol.specs.CartSets.{union, minus};
 ghost use Rattle.stations.specs.View.{initiators, rooms, HasStation, stationsIn};
 ghost use Rattle.carts.specs.View.{cartsIn};
 ghost use Rattle.messages.specs.View.{HasRoom, roomsIn};
+ghost use Rattle.cartset.specs.Masks.{size};
 ghost use Rattle.lines.specs.Form.{form};
 ghost use Rattle.lines.specs.Lines.{used};
 ghost use Rattle.lines.specs.Words.{capacity};
 ghost use Rattle.view.specs.Records.{indexOf, numberOf};
 ghost use Rattle.wired.specs.Handled.{dueAmong, pastAmong, Raised, Stored, Buffered, Deleted, Acknowledged};
 
-// The carts of a set as a message comes: those whose next number is its number, and those whose next number is greater.
-struct Met(u64, u64);
-
-// The set, and the cart if it joins.
-fn with_if(set: u64, cart: u64, joins: bool) -> u64
-    requires { ⌜ cart < 64 ⌝ }
-    ensures { λ r. ⌜ r ≡ cond joins (with set cart) set ⌝ }
-{
-    if joins {
-        cartset::with_cart(set, cart)
-    } else {
-        set
-    }
+// The local carts as a message comes: those whose next number is its number, those whose next number is greater, and how many numbers rise.
+struct Met {
+    due: u64,
+    past: u64,
+    passed: u64,
 }
 
-// "For each local cart: next number equal ..; greater ..".
-fn meet(carts: &[u64], local: u64, initiator: Station, number: u64) -> Met
-    requires { ⌜ (length (now carts) ≡ 1216) × (initiator .0 < initiators) ⌝ }
-    ensures { λ r. ⌜ r .0 ≡ dueAmong (cartsIn (now (carts .entry))) local (initiator .0) number ⌝ }
-    ensures { λ r. ⌜ r .1 ≡ pastAmong (cartsIn (now (carts .entry))) local (initiator .0) number ⌝ }
+// "equal and not named, its next number rises": by one, or by none.
+fn rise(due: bool, named: bool) -> u64
+    ensures { λ r. ⌜ r ≡ cond (due && not named) 1 0 ⌝ }
+{
+    if due { if named { 0 } else { 1 } } else { 0 }
+}
+
+// "For each local cart: next number equal ..; greater ..". Each is read once, and its number, risen or not, is put back in the same turn,
+// so that there is no branch on what the numbers are, which no processor could guess.
+fn meet(carts: &mut [u64], local: u64, named: u64, initiator: Station, number: u64) -> Met
+    requires { ⌜ (length (now carts) ≡ 1216) × (initiator .0 < initiators) × (number < 65536) ⌝ }
+    ensures { λ r. ⌜ r .due ≡ dueAmong (cartsIn (now (carts .entry))) local (initiator .0) number ⌝ }
+    ensures { λ r. ⌜ r .past ≡ pastAmong (cartsIn (now (carts .entry))) local (initiator .0) number ⌝ }
+    ensures { λ r. ⌜ Raised (now (carts .entry)) (now (carts .exit)) (minus (r .due) named) (initiator .0) (number + 1) ⌝ }
+    ensures { λ r. ⌜ r .passed ≡ size 64 (minus (r .due) named) ⌝ }
 {
     let mut due: u64 = 0;
     let mut past: u64 = 0;
+    let mut passed: u64 = 0;
     let mut left = local;
     while 0 < left {
         let cart = cartset::first(left);
-        left = cartset::without_cart(left, cart);
+        left = cartset::without_first(left);
         let next = carts::next_of(carts, CartNumber(cart), initiator);
-        due = with_if(due, cart, next == number);
-        past = with_if(past, cart, number < next);
+        let rises = rise(next == number, cartset::has(named, cart));
+        due = cartset::with_if(due, cart, next == number);
+        past = cartset::with_if(past, cart, number < next);
+        carts::put_next(carts, CartNumber(cart), initiator, next + rises);
+        passed += rises;
     }
-    Met(due, past)
-}
-
-// "its next number rises": that of each cart of the set.
-fn raise(carts: &mut [u64], over: u64, initiator: Station, number: u64)
-    requires { ⌜ (length (now carts) ≡ 1216) × (initiator .0 < initiators) ⌝ }
-    ensures { λ _. ⌜ Raised (now (carts .entry)) (now (carts .exit)) over (initiator .0) number ⌝ }
-{
-    let mut left = over;
-    while 0 < left {
-        let cart = cartset::first(left);
-        left = cartset::without_cart(left, cart);
-        carts::put_next(carts, CartNumber(cart), initiator, number);
-    }
+    Met { due, past, passed }
 }
 
 // The copy and the queue's entry of the message in room m; "the expected number rises by one".
@@ -92,18 +86,23 @@ pub fn on_multicast(
     let m = view::index_of(said) as usize;
     let number = view::number_of(said);
     let named = messages::named_of(messages, m);
-    let met = meet(carts, stations::local_of(stations, to), initiator, number);
-    let over = cartset::minus(met.0, named);
-    raise(carts, over, initiator, number + 1);
+    let met = meet(
+        carts,
+        stations::local_of(stations, to),
+        named,
+        initiator,
+        number,
+    );
+    let over = cartset::minus(met.due, named);
     store(
         stations,
         m,
         initiator,
         to,
-        cartset::minus(named, met.1),
-        cartset::minus(met.0, over),
+        cartset::minus(named, met.past),
+        cartset::minus(met.due, over),
     );
-    cartset::count(over)
+    met.passed
 }
 
 // "Delete: the message leaves this station's buffer."

@@ -56,7 +56,7 @@ module _ (S S₁ C C₁ M W T : List ℕ) (m s t c : ℕ) (sizes : Lengths (lent
   pub laid₁ : Laid L₁
   laid₁ =
       laid-carts S C M W T laid S₁ C₁
-      (λ d ld. ap (λ (f : ℕ → Bool). f d) (received .canonical) ∙ on-update (λ (b : Bool). b ≡ true) (canonicalIn C) c true d (λ q. refl) (λ q. laid .canonical d ld))
+      (λ d ld. ap (λ (f : ℕ → Bool). f d) (received .canonical) ∙ laid .canonical d ld)
       (λ u l. ap (λ (X : Stations). X .local u) (received .stations) ∙ laid .local u l ∙ ap (λ (K : Carts). setOf 64 (λ d. localTo (K .place d) u)) (sym (received .carts)))
 
   -- only that cart's numbers are others

@@ -27,7 +27,7 @@ pub record Received (S S′ C C′ : List ℕ) (m s t c : ℕ) : Type 0 where
   pub head : headIn S′ ≡ headIn S
   pub words : length S′ ≡ length S
   pub carts : cartsIn C′ ≡ withNext (cartsIn C) c s (cartsIn C .next c s + 1)
-  pub canonical : canonicalIn C′ ≡ update (canonicalIn C) c true
+  pub canonical : canonicalIn C′ ≡ canonicalIn C
   pub rows : length C′ ≡ length C
 
 -- no local cart at t is in the copy of room m without the ack list

@@ -5,14 +5,27 @@ use ids::Station;
 ghost use mathlib.Core.Path.{_≡_};
 ghost use mathlib.Core.Bool.{true};
 ghost use Prim.Native.Nat.{_+_, _<_};
+ghost use lib.ListN.{length};
 ghost use Rattle.stations.specs.View.{initiators, rooms, HasStation, stationsIn};
-ghost use Rattle.carts.specs.View.{cartsIn};
+ghost use Rattle.carts.specs.View.{cartsIn, canonicalIn, withNext};
 ghost use Rattle.carts.specs.Words.{HasRow};
 ghost use Rattle.queue.specs.Rooms.{HasRooms};
 ghost use Rattle.lines.specs.Form.{form};
 ghost use Rattle.lines.specs.Lines.{used};
 ghost use Rattle.lines.specs.Words.{capacity};
 ghost use Rattle.wireless.specs.Handed.{tookFrom, Received, holdNone, AcksSent, CaughtUp, HandedOver};
+
+// "its next number rises": the cart's record is handed in and handed back. That number alone is new in it, so that alone is stored.
+fn rise(carts: &mut [u64], initiator: Station, number: CartNumber)
+    requires { ⌜ HasRow (now carts) (number .0) × (initiator .0 < initiators) × (cartsIn (now carts) .next (number .0) (initiator .0) < 65536) ⌝ }
+    ensures { λ _. ⌜ cartsIn (now (carts .exit)) ≡ withNext (cartsIn (now (carts .entry))) (number .0) (initiator .0) (cartsIn (now (carts .entry)) .next (number .0) (initiator .0) + 1) ⌝ }
+    ensures { λ _. ⌜ canonicalIn (now (carts .exit)) ≡ canonicalIn (now (carts .entry)) ⌝ }
+    ensures { λ _. ⌜ length (now (carts .exit)) ≡ length (now (carts .entry)) ⌝ }
+{
+    let cart = carts::cart_at(carts, number).receive(initiator);
+    let next = cart.next[initiator.0 as usize];
+    carts::put_next(carts, number, initiator, next);
+}
 
 // "The cart leaves the entry (an emptied one goes) and joins the station's ack list for the message; its next number rises."
 fn receive(
@@ -31,8 +44,7 @@ fn receive(
     stations::put_queue(stations, m, station, cartset::without_cart(queue, number.0));
     let acks = stations::acks_of(stations, m, station);
     stations::put_acks(stations, m, station, cartset::with_cart(acks, number.0));
-    let cart = carts::cart_at(carts, number);
-    carts::put_cart(carts, number, cart.receive(initiator));
+    rise(carts, initiator, number);
 }
 
 // "Then, if every local cart in the copy is in the ack list, the list goes to the initiator, its carts are struck from the copy, and the list

@@ -37,7 +37,7 @@ module _ (S C M W T : List ℕ) (i j : ℕ) (p : passesForm limits (floorIn (len
   X = standing L p
 
   -- what the checks ask
-  pub checks-asks : (length S ≡ 1938) × (headIn S .stations ≤ 16) × (form W ≡ true)
+  pub checks-asks : (length S ≡ 1972) × (headIn S .stations ≤ 16) × (form W ≡ true)
   checks-asks = (X .lengths .stations, X .sized .counts .stations, X .laid .chains)
 
   module _ (free : 0 ≡ refusalIf limits (floorIn L) false (wire i j)) where

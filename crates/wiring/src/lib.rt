@@ -23,7 +23,7 @@ ghost use Rattle.wiring.specs.Off.{TakenOff, IsOff};
 
 // The refusal of a wire event, 8 or 15, or 0.
 fn wire_refusal(stations: &[u64], lines: &[u64], from: Station, to: Station) -> u64
-    requires { ⌜ (length (now stations) ≡ 1938) × (headIn (now stations) .stations ≤ 16) × (form (now lines) ≡ true) ⌝ }
+    requires { ⌜ (length (now stations) ≡ 1972) × (headIn (now stations) .stations ≤ 16) × (form (now lines) ≡ true) ⌝ }
     ensures { λ r. ⌜ ((C M T : List ℕ) → r ≡ refusalIf limits (floorIn (lent (now (stations .entry)) C M (now (lines .entry)) T)) false (wire (from .0) (to .0))) ⌝ }
 {
     let n = stations::station_count(stations);

@@ -1,57 +1,108 @@
 -- `catchup::nearest_of` meets its contract.
-use mathlib.Core.Path.{_≡_}
-use Prim.Native.Nat.{_≤_, _-_}
+use mathlib.Core.Path.{_≡_, refl, sym, ap, _∙_}
+use Prim.Native.Nat.{ℕ, _+_}
 use native.Mathlib.Omega.{arith}
 use borrow.Author.Needs.{needs}
+use Rattle.cartset.proofs.Walk.{Ahead, ahead-start, ahead-turn, ahead-end}
+use Rattle.stations.specs.View.{stationsIn}
 use Rattle.queue.specs.Rooms.{tablesFloor, roomCode}
+use Rattle.catchup.specs.Naming.{namingIn}
 use Rattle.catchup.specs.Nearest.{nearestAmong}
-use Rattle.catchup.proofs.RoomLaws.{nearest-none, nearest-fits, nearest-again, nearest-all}
+use Rattle.catchup.proofs.NamingLaws.{naming-word, naming-covers}
+use Rattle.catchup.proofs.RoomLaws.{nearest-none, nearest-fits, nearest-again}
+use Rattle.catchup.proofs.Skips.{nearest-skips}
 use Rattle.catchup.proofs.nearest_of.Statement.{statement}
 use Rattle.catchup.proofs.nearest_of.Tie as tie
 
+-- the walk has come to room k, and the nearest among the rooms before it is known
 abbrev Inv-loop : tie.InvT-loop
-Inv-loop stations messages station cart initiator next nearest₀ m₀ nearest m = (m ≤ 32) × (nearest ≡ roomCode (nearestAmong (tablesFloor stations messages) (station .0) (cart .0) (initiator .0) next m))
+Inv-loop stations messages station cart initiator next nearest₀ left₀ nearest left =
+    (k : ℕ) × Ahead 32 (namingIn (stationsIn stations) (station .0) (cart .0)) left k
+    × (nearest ≡ roomCode (nearestAmong (tablesFloor stations messages) (station .0) (cart .0) (initiator .0) next k))
 
 abbrev μ-loop : tie.MeasureT-loop
-μ-loop stations messages station cart initiator next nearest₀ m₀ nearest m = 32 - m
+μ-loop stations messages station cart initiator next nearest₀ left₀ nearest left = left
+
+rooms-naming-requires : tie.Need-rooms-naming-requires Inv-loop μ-loop
+rooms-naming-requires c κs = search needs
 
 loop-holds : tie.Need-loop-holds Inv-loop μ-loop
 loop-holds c =
-    let a = c .before .before .args in
-    let F = tablesFloor (a .stations .now) (a .messages .now) in
-    (omega arith, nearest-none F (a .station .0) (a .cart .0) (a .initiator .0) (a .next))
+    let a = c .before .before .before .args in
+    let S = a .stations .now in
+    let t = a .station .0 in (
+      0,
+      rw (c .rooms-naming .ensures) (ahead-start 32 (namingIn (stationsIn S) t (a .cart .0)) (naming-word (stationsIn S) t (a .cart .0)) (naming-covers S t (a .cart .0) _ refl .inside)),
+      nearest-none (tablesFloor S (a .messages .now)) t (a .cart .0) (a .initiator .0) (a .next),
+    )
+
+first-requires : tie.Need-first-requires Inv-loop μ-loop
+first-requires c κs = search needs
+
+without-first-requires : tie.Need-without-first-requires Inv-loop μ-loop
+without-first-requires c κs = search needs
 
 nearer-requires : tie.Need-nearer-requires Inv-loop μ-loop
 nearer-requires c κs =
-    let a = c .before .before .before .before .args in
-    let F = tablesFloor (a .stations .now) (a .messages .now) in
-    let l = c .before .loop in
-    let low = nearest-fits F (a .station .0) (a .cart .0) (a .initiator .0) (a .next) (l .m) (l .nearest) (omega arith) (l .inv .1) in
+    let a = c .before .before .before .before .before .before .before .args in
+    let l = c .before .before .before .loop in
+    let f = c .before .first in
+    let w = c .without-first in
+    let turn = ahead-turn 32 (namingIn (stationsIn (a .stations .now)) (a .station .0) (a .cart .0)) (l .left) (l .inv .0) (f .result) (l .inv .1) (omega arith) (f .ensures) (w .result) (w .ensures (f .result) (f .ensures)) in
+    let inside = turn .inside in
+    let low = nearest-fits (tablesFloor (a .stations .now) (a .messages .now)) (a .station .0) (a .cart .0) (a .initiator .0) (a .next) (l .inv .0) (l .nearest) (l .inv .1 .within) (l .inv .2) in
     search needs
 
-add-m : tie.Need-add-m Inv-loop μ-loop
-add-m c = omega arith
-
 loop-less : tie.Need-loop-less Inv-loop μ-loop
-loop-less c = omega arith
+loop-less c =
+    let a = c .before .before .before .before .before .before .before .before .args in
+    let l = c .before .before .before .before .loop in
+    let f = c .before .before .first in
+    let w = c .before .without-first in
+    ahead-turn 32 (namingIn (stationsIn (a .stations .now)) (a .station .0) (a .cart .0)) (l .left) (l .inv .0) (f .result) (l .inv .1) (omega arith) (f .ensures) (w .result) (w .ensures (f .result) (f .ensures)) .less
 
 loop-again : tie.Need-loop-again Inv-loop μ-loop
 loop-again c =
-    let a = c .before .before .before .before .before .args in
-    let F = tablesFloor (a .stations .now) (a .messages .now) in
-    let l = c .before .before .loop in (
-      omega arith,
-      nearest-again F (a .station .0) (a .cart .0) (a .initiator .0) (a .next) (l .m) (l .nearest) (c .nearer .result) (omega arith) (l .inv .1) (c .nearer .ensures),
+    let a = c .before .before .before .before .before .before .before .before .args in
+    let S = a .stations .now in
+    let F = tablesFloor S (a .messages .now) in
+    let t = a .station .0 in
+    let l = c .before .before .before .before .loop in
+    let f = c .before .before .first in
+    let w = c .before .without-first in
+    let m = f .result in
+    let turn = ahead-turn 32 (namingIn (stationsIn S) t (a .cart .0)) (l .left) (l .inv .0) m (l .inv .1) (omega arith) (f .ensures) (w .result) (w .ensures m (f .ensures)) in
+    let inside = turn .inside in
+    let skipped = nearest-skips F t (a .cart .0) (l .inv .0) m (turn .next) (λ r h n. naming-covers S t (a .cart .0) _ refl .others r (turn .skips r h n)) (a .initiator .0) (a .next) in (
+      m + 1,
+      turn .ahead,
+      nearest-again F t (a .cart .0) (a .initiator .0) (a .next) m (l .nearest) (c .nearer .result) (omega arith) (l .inv .2 ∙ ap roomCode (sym skipped)) (c .nearer .ensures),
     )
 
 returns : tie.Need-returns Inv-loop μ-loop
 returns c =
-    let a = c .before .before .before .before .args in
-    let F = tablesFloor (a .stations .now) (a .messages .now) in
+    let a = c .before .before .before .before .before .args in
+    let S = a .stations .now in
+    let F = tablesFloor S (a .messages .now) in
+    let t = a .station .0 in
     let l = c .before .loop in
-    nearest-all F (a .station .0) (a .cart .0) (a .initiator .0) (a .next) (l .m) (l .nearest) (omega arith) (l .inv .1)
+    let k = l .inv .0 in
+    let none : l .left ≡ 0 = omega arith in
+    let A : Ahead 32 (namingIn (stationsIn S) t (a .cart .0)) 0 k = rw none at (l .inv .1) in
+    let skipped = nearest-skips F t (a .cart .0) k 32 (A .within) (λ r h n. naming-covers S t (a .cart .0) _ refl .others r (ahead-end 32 (namingIn (stationsIn S) t (a .cart .0)) k A r h)) (a .initiator .0) (a .next) in
+    l .inv .2 ∙ ap roomCode (sym skipped)
 
 pub nearest-of-spec : {M : Type 1} → statement M
 nearest-of-spec =
     tie.close
-    (tie.spec Inv-loop μ-loop loop-holds nearer-requires add-m loop-less loop-again returns)
+    (tie.spec
+    Inv-loop
+    μ-loop
+    rooms-naming-requires
+    loop-holds
+    first-requires
+    without-first-requires
+    nearer-requires
+    loop-less
+    loop-again
+    returns)

@@ -1,33 +1,54 @@
 -- `handoff::strike` meets its contract.
-use mathlib.Core.Path.{_≡_, refl, ap, _∙_}
-use mathlib.Core.Logic.{inl, inr}
-use Prim.Native.Nat.{_≤_, _-_}
+use mathlib.Core.Path.{_≡_, refl, _∙_}
+use Prim.Native.Nat.{ℕ, _+_}
 use native.Mathlib.Omega.{arith}
 use lib.ListN.{length}
 use borrow.Author.Needs.{needs}
+use Rattle.cartset.proofs.Walk.{Ahead, ahead-start, ahead-turn}
 use Rattle.stations.specs.View.{stationsIn, headIn}
 use Rattle.messages.specs.View.{roomsIn}
-use Rattle.handoff.proofs.RoomByRoom.{struckTo, strike-none, strike-by, strike-kept, strike-all, copy-beyond}
+use Rattle.handoff.proofs.RoomByRoom.{struckTo, strike-none, strike-by, strike-kept, strike-skips, strike-all}
 use Rattle.handoff.proofs.strike.Statement.{statement}
 use Rattle.handoff.proofs.strike.Tie as tie
 
+-- the walk over the rooms that may name the cart has come to room k, and the cart is struck in the rooms before it
 abbrev Inv-loop : tie.InvT-loop
-Inv-loop stations₀ messages station cart row m₀ stations m =
-    (m ≤ 32)
+Inv-loop stations₀ messages station cart naming row left₀ stations left =
+    (k : ℕ)
+    × Ahead 32 naming left k
     × (length stations ≡ length stations₀)
     × (headIn stations ≡ headIn stations₀)
-    × (stationsIn stations ≡ struckTo (stationsIn stations₀) (roomsIn messages) (station .0) (cart .0) row m)
+    × (stationsIn stations ≡ struckTo (stationsIn stations₀) (roomsIn messages) (station .0) (cart .0) row k)
 
 abbrev μ-loop : tie.MeasureT-loop
-μ-loop stations₀ messages station cart row m₀ stations m = 32 - m
+μ-loop stations₀ messages station cart naming row left₀ stations left = left
 
 loop-holds : tie.Need-loop-holds Inv-loop μ-loop
 loop-holds c =
-    let a = c .before .before .args in
-    (omega arith, refl, refl, strike-none (stationsIn (a .stations .now)) (roomsIn (a .messages .now)) (a .station .0) (a .cart .0) (a .t5))
+    let a = c .before .before .args in (
+      0,
+      ahead-start 32 (a .naming) (omega arith) (c .before .before .pre .0 .inside),
+      refl,
+      refl,
+      strike-none (stationsIn (a .stations .now)) (roomsIn (a .messages .now)) (a .station .0) (a .cart .0) (a .t6),
+    )
+
+first-requires : tie.Need-first-requires Inv-loop μ-loop
+first-requires c κs = search needs
+
+without-first-requires : tie.Need-without-first-requires Inv-loop μ-loop
+without-first-requires c κs = search needs
 
 passes-by-requires : tie.Need-passes-by-requires Inv-loop μ-loop
-passes-by-requires c κs = search needs
+passes-by-requires c κs =
+    let a = c .before .before .before .before .before .before .before .args in
+    let l = c .before .before .before .before .loop in
+    let f = c .before .before .first in
+    let w = c .before .without-first in
+    let m = f .result in
+    let turn = ahead-turn 32 (a .naming) (l .left) (l .inv .0) m (l .inv .1) (omega arith) (f .ensures) (w .result) (w .ensures m (f .ensures)) in
+    let i = turn .inside in
+    search needs
 
 mul-strike-from : tie.Need-mul-strike-from Inv-loop μ-loop
 mul-strike-from c = search needs
@@ -37,33 +58,71 @@ array-read-strike-from c = search needs
 
 strike-from-requires : tie.Need-strike-from-requires Inv-loop μ-loop
 strike-from-requires c κs =
-    let is = c .before .before .passes-by .ensures .there (c .before .if1 .taken) in search needs
-
-add-m : tie.Need-add-m Inv-loop μ-loop
-add-m c = search needs
+    let a = c .before .before .before .before .before .before .before .before .before .before .args in
+    let l = c .before .before .before .before .before .before .before .loop in
+    let f = c .before .before .before .before .before .first in
+    let w = c .before .before .before .before .without-first in
+    let m = f .result in
+    let turn = ahead-turn 32 (a .naming) (l .left) (l .inv .0) m (l .inv .1) (omega arith) (f .ensures) (w .result) (w .ensures m (f .ensures)) in
+    let i = turn .inside in
+    let is = c .before .before .passes-by .ensures .there (c .before .if1 .taken) in
+    search needs
 
 loop-less : tie.Need-loop-less Inv-loop μ-loop
-loop-less c = search needs
+loop-less c =
+    let a = c .before .before .before .before .before .before .before .before .before .before .before .before .before .args in
+    let l = c .before .before .before .before .before .before .before .before .before .before .loop in
+    let f = c .before .before .before .before .before .before .before .before .first in
+    let w = c .before .before .before .before .before .before .before .without-first in
+    let m = f .result in
+    let turn = ahead-turn 32 (a .naming) (l .left) (l .inv .0) m (l .inv .1) (omega arith) (f .ensures) (w .result) (w .ensures m (f .ensures)) in
+    turn .less
 
 loop-again : tie.Need-loop-again Inv-loop μ-loop
 loop-again c =
-    let a = c .before .before .before .before .before .before .before .args in
-    let l = c .before .before .before .before .loop in
+    let a = c .before .before .before .before .before .before .before .before .before .before .before .before .before .args in
+    let l = c .before .before .before .before .before .before .before .before .before .before .loop in
+    let f = c .before .before .before .before .before .before .before .before .first in
+    let w = c .before .before .before .before .before .before .before .without-first in
+    let m = f .result in
+    let turn = ahead-turn 32 (a .naming) (l .left) (l .inv .0) m (l .inv .1) (omega arith) (f .ensures) (w .result) (w .ensures m (f .ensures)) in
+    let S = stationsIn (a .stations .now) in
+    let R = roomsIn (a .messages .now) in
+    let t = a .station .0 in
+    let b = c .before .before .before .before .before .passes-by in
+    let come = strike-skips S R t (a .cart .0) (a .t6) (a .naming) (c .before .before .before .before .before .before .before .before .before .before .before .before .before .pre .0 .others) (l .inv .0) (l .inv .4) (l .left) m (l .inv .1) (omega arith) (f .ensures) in
+    let k = c .before .before .strike-from in (
+      m + 1,
+      turn .ahead,
+      k .ensures .1 .1 ∙ l .inv .2,
+      k .ensures .1 .0 ∙ l .inv .3,
+      strike-by S R t (a .cart .0) (a .t6) m (b .result) come (b .ensures .there (c .before .before .before .before .if1 .taken)) (k .ensures .0),
+    )
+
+loop-less-2 : tie.Need-loop-less-2 Inv-loop μ-loop
+loop-less-2 c =
+    let a = c .before .before .before .before .before .before .before .before .before .args in
+    let l = c .before .before .before .before .before .before .loop in
+    let f = c .before .before .before .before .first in
+    let w = c .before .before .before .without-first in
+    let m = f .result in
+    let turn = ahead-turn 32 (a .naming) (l .left) (l .inv .0) m (l .inv .1) (omega arith) (f .ensures) (w .result) (w .ensures m (f .ensures)) in
+    turn .less
+
+loop-again-2 : tie.Need-loop-again-2 Inv-loop μ-loop
+loop-again-2 c =
+    let a = c .before .before .before .before .before .before .before .before .before .args in
+    let l = c .before .before .before .before .before .before .loop in
+    let f = c .before .before .before .before .first in
+    let w = c .before .before .before .without-first in
+    let m = f .result in
+    let turn = ahead-turn 32 (a .naming) (l .left) (l .inv .0) m (l .inv .1) (omega arith) (f .ensures) (w .result) (w .ensures m (f .ensures)) in
+    let S = stationsIn (a .stations .now) in
+    let R = roomsIn (a .messages .now) in
+    let t = a .station .0 in
     let b = c .before .passes-by in
-    elim (c .if1 .came) [
-      | inl p ↦ let taken = p .0 .taken in let k = p .2 in (
-        omega arith,
-        ap length (p .5) ∙ k .ensures .1 .1 ∙ l .inv .1,
-        ap headIn (p .5) ∙ k .ensures .1 .0 ∙ l .inv .2,
-        ap stationsIn (p .5) ∙ strike-by (stationsIn (a .stations .now)) (roomsIn (a .messages .now)) (a .station .0) (a .cart .0) (a .t5) (l .m) (b .result) (l .inv .3) (b .ensures .there taken) (k .ensures .0),
-      )
-      | inr p ↦ let other = p .0 .left in (
-        omega arith,
-        ap length (p .1) ∙ l .inv .1,
-        ap headIn (p .1) ∙ l .inv .2,
-        strike-kept (stationsIn (a .stations .now)) (roomsIn (a .messages .now)) (a .station .0) (a .cart .0) (a .t5) (l .m) (l .inv .3) (b .ensures .nowhere other (a .t5)) (ap stationsIn (p .1)),
-      )
-    ]
+    let come = strike-skips S R t (a .cart .0) (a .t6) (a .naming) (c .before .before .before .before .before .before .before .before .before .pre .0 .others) (l .inv .0) (l .inv .4) (l .left) m (l .inv .1) (omega arith) (f .ensures) in
+    (m + 1, turn .ahead, l .inv .2, l .inv .3, strike-kept S R t (a .cart .0) (a .t6) m come (b .ensures .nowhere (c .if1 .left) (a .t6)) refl)
 
 same-length : tie.Need-same-length Inv-loop μ-loop
 same-length c = search needs
@@ -71,9 +130,11 @@ same-length c = search needs
 returns : tie.Need-returns Inv-loop μ-loop
 returns c =
     let a = c .before .before .before .before .args in
-    let l = c .before .loop in (
-      strike-all (stationsIn (a .stations .now)) (roomsIn (a .messages .now)) (a .station .0) (a .cart .0) (a .t5) (l .m) (omega arith) (copy-beyond (a .stations .now)) (l .inv .3),
-      (l .inv .2, l .inv .1),
+    let l = c .before .loop in
+    let none : l .left ≡ 0 = omega arith in
+    let A : Ahead 32 (a .naming) 0 (l .inv .0) = rw none at (l .inv .1) in (
+      strike-all (stationsIn (a .stations .now)) (roomsIn (a .messages .now)) (a .station .0) (a .cart .0) (a .t6) (a .naming) (c .before .before .before .before .pre .0 .others) (l .inv .0) (l .inv .4) A,
+      (l .inv .3, l .inv .2),
     )
 
 pub strike-spec : {M : Type 1} → statement M
@@ -83,12 +144,15 @@ strike-spec =
     Inv-loop
     μ-loop
     loop-holds
+    first-requires
+    without-first-requires
     passes-by-requires
     mul-strike-from
     array-read-strike-from
     strike-from-requires
-    add-m
     loop-less
     loop-again
+    loop-less-2
+    loop-again-2
     same-length
     returns)

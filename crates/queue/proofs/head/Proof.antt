@@ -1,55 +1,107 @@
 -- `queue::head` meets its contract.
-use mathlib.Core.Path.{_≡_}
-use Prim.Native.Nat.{_≤_, _-_}
+use mathlib.Core.Path.{_≡_, sym, ap, _∙_}
+use mathlib.Core.Option.{Option}
+use Prim.Native.Nat.{ℕ, _+_}
 use native.Mathlib.Omega.{arith}
 use borrow.Author.Needs.{needs}
 use Rattle.protocol.specs.Wireless.{headAmong}
+use Rattle.cartset.proofs.Walk.{Ahead, ahead-start, ahead-next, ahead-inside, ahead-skips, ahead-step, ahead-less, ahead-end}
+use Rattle.stations.specs.View.{entriesIn}
+use Rattle.stations.proofs.TableLaws.{entries-word, entries-inside, not-in-entries}
 use Rattle.queue.specs.Rooms.{tablesFloor, roomCode}
-use Rattle.queue.proofs.HeadLaws.{head-none, head-fits, head-again, head-all}
+use Rattle.queue.proofs.HeadLaws.{head-none, head-fits, head-again, head-all, head-skips}
 use Rattle.queue.proofs.head.Statement.{statement}
 use Rattle.queue.proofs.head.Tie as tie
 
+-- the walk has come to room k, and the head among the rooms before it is known
 abbrev Inv-loop : tie.InvT-loop
-Inv-loop stations messages station head₀ m₀ head m = (m ≤ 32) × (head ≡ roomCode (headAmong (tablesFloor stations messages) (station .0) m))
+Inv-loop stations messages station head₀ left₀ head left =
+    (k : ℕ) × Ahead 32 (entriesIn stations (station .0)) left k × (head ≡ roomCode (headAmong (tablesFloor stations messages) (station .0) k))
 
 abbrev μ-loop : tie.MeasureT-loop
-μ-loop stations messages station head₀ m₀ head m = 32 - m
+μ-loop stations messages station head₀ left₀ head left = left
+
+entries-of-requires : tie.Need-entries-of-requires Inv-loop μ-loop
+entries-of-requires c κs = search needs
 
 loop-holds : tie.Need-loop-holds Inv-loop μ-loop
 loop-holds c =
-    let a = c .before .before .args in
-    let F = tablesFloor (a .stations .now) (a .messages .now) in
-    (omega arith, head-none F (a .station .0))
+    let a = c .before .before .before .args in
+    let e = c .entries-of .ensures in (
+      0,
+      rw e (ahead-start 32 (entriesIn (a .stations .now) (a .station .0)) (entries-word (a .stations .now) (a .station .0)) (entries-inside (a .stations .now) (a .station .0))),
+      head-none (tablesFloor (a .stations .now) (a .messages .now)) (a .station .0),
+    )
+
+first-requires : tie.Need-first-requires Inv-loop μ-loop
+first-requires c κs = search needs
+
+without-first-requires : tie.Need-without-first-requires Inv-loop μ-loop
+without-first-requires c κs = search needs
 
 head-with-requires : tie.Need-head-with-requires Inv-loop μ-loop
 head-with-requires c κs =
-    let a = c .before .before .before .before .args in
-    let F = tablesFloor (a .stations .now) (a .messages .now) in
-    let l = c .before .loop in
-    let low = head-fits F (a .station .0) (l .m) (l .head) (omega arith) (l .inv .1) in
+    let a = c .before .before .before .before .before .before .before .args in
+    let l = c .before .before .before .loop in
+    let A = l .inv .1 in
+    let i = ahead-inside 32 (entriesIn (a .stations .now) (a .station .0)) (l .left) (l .inv .0) (c .before .first .result) A (omega arith) (c .before .first .ensures) in
+    let low = head-fits (tablesFloor (a .stations .now) (a .messages .now)) (a .station .0) (l .inv .0) (l .head) (A .within) (l .inv .2) in
     search needs
 
-add-m : tie.Need-add-m Inv-loop μ-loop
-add-m c = omega arith
-
 loop-less : tie.Need-loop-less Inv-loop μ-loop
-loop-less c = omega arith
+loop-less c =
+    let a = c .before .before .before .before .before .before .before .before .args in
+    let l = c .before .before .before .before .loop in
+    let f = c .before .before .first in
+    let w = c .before .without-first in
+    ahead-less 32 (entriesIn (a .stations .now) (a .station .0)) (l .left) (l .inv .0) (f .result) (l .inv .1) (omega arith) (f .ensures) (w .result)
+    (w .ensures (f .result) (f .ensures))
 
 loop-again : tie.Need-loop-again Inv-loop μ-loop
 loop-again c =
-    let a = c .before .before .before .before .before .args in
-    let F = tablesFloor (a .stations .now) (a .messages .now) in
-    let l = c .before .before .loop in
-    (omega arith, head-again F (a .station .0) (l .m) (l .head) (c .head-with .result) (omega arith) (l .inv .1) (c .head-with .ensures))
+    let a = c .before .before .before .before .before .before .before .before .args in
+    let S = a .stations .now in
+    let F = tablesFloor S (a .messages .now) in
+    let t = a .station .0 in
+    let E = entriesIn S t in
+    let l = c .before .before .before .before .loop in
+    let k = l .inv .0 in
+    let A = l .inv .1 in
+    let f = c .before .before .first in
+    let w = c .before .without-first in
+    let m = f .result in
+    let next = ahead-next 32 E (l .left) k m A (omega arith) (f .ensures) in
+    let inside = ahead-inside 32 E (l .left) k m A (omega arith) (f .ensures) in
+    let skipped = head-skips F t k m next (λ r h n. not-in-entries S r t (ahead-skips 32 E (l .left) k m A (omega arith) (f .ensures) r h n)) in (
+      m + 1,
+      ahead-step 32 E (l .left) k m A (omega arith) (f .ensures) (w .result) (w .ensures m (f .ensures)),
+      head-again F t m (l .head) (c .head-with .result) (omega arith) (l .inv .2 ∙ ap roomCode (sym skipped)) (c .head-with .ensures),
+    )
 
 returns : tie.Need-returns Inv-loop μ-loop
 returns c =
-    let a = c .before .before .before .before .args in
-    let F = tablesFloor (a .stations .now) (a .messages .now) in
+    let a = c .before .before .before .before .before .args in
+    let S = a .stations .now in
+    let F = tablesFloor S (a .messages .now) in
+    let t = a .station .0 in
     let l = c .before .loop in
-    head-all F (a .station .0) (l .m) (l .head) (omega arith) (l .inv .1)
+    let k = l .inv .0 in
+    let none : l .left ≡ 0 = omega arith in
+    let A : Ahead 32 (entriesIn S t) 0 k = rw none at (l .inv .1) in
+    let skipped = head-skips F t k 32 (A .within) (λ r h n. not-in-entries S r t (ahead-end 32 (entriesIn S t) k A r h)) in
+    head-all F t 32 (l .head) (omega arith) (l .inv .2 ∙ ap roomCode (sym skipped))
 
 pub head-spec : {M : Type 1} → statement M
 head-spec =
     tie.close
-    (tie.spec Inv-loop μ-loop loop-holds head-with-requires add-m loop-less loop-again returns)
+    (tie.spec
+    Inv-loop
+    μ-loop
+    entries-of-requires
+    loop-holds
+    first-requires
+    without-first-requires
+    head-with-requires
+    loop-less
+    loop-again
+    returns)

@@ -5,20 +5,14 @@ use borrow.Author.Needs.{needs}
 use Rattle.report.proofs.put_fields.Statement.{statement}
 use Rattle.report.proofs.put_fields.Tie as tie
 
+put-two-fields-requires : tie.Need-put-two-fields-requires
+put-two-fields-requires c κs = search needs
+
 put-field-requires : tie.Need-put-field-requires
 put-field-requires c κs = search needs
 
-put-field-requires-2 : tie.Need-put-field-requires-2
-put-field-requires-2 c κs = search needs
-
-put-field-requires-3 : tie.Need-put-field-requires-3
-put-field-requires-3 c κs = search needs
-
-put-field-requires-4 : tie.Need-put-field-requires-4
-put-field-requires-4 c κs = search needs
-
-put-field-requires-5 : tie.Need-put-field-requires-5
-put-field-requires-5 c κs = search needs
+put-two-fields-requires-2 : tie.Need-put-two-fields-requires-2
+put-two-fields-requires-2 c κs = search needs
 
 put-text-requires : tie.Need-put-text-requires
 put-text-requires c κs = search needs
@@ -28,13 +22,14 @@ same-length c = search needs
 
 returns : tie.Need-returns
 returns c =
-    let w = c .before .before .before .before .before .before .before .before in
-    let p = w .before .before .before .before in
-    let b = p .before .before .before .before in
+    let t = c .before .before in
+    let k = t .before .before in
+    let w = k .before .before .before .before in
+    let b = w .before .before .before .before in
     let a = b .before .before .before .before in
-    let kind = a .before .before .before .before in
-    let s = kind .before .before .before .before in
-    with-text (reportIn (s .args .r) (s .args .text .now)) (s .pre .0) (kind .put-field .ensures) (a .put-field2 .ensures) (b .put-field3 .ensures) (p .put-field4 .ensures) (w .put-field5 .ensures) (c .before .before .before .before .if1 .taken) (c .before .before .put-text .ensures)
+    let s = a .before .before .before .before in
+    with-text (reportIn (s .args .r) (s .args .text .now)) (s .pre .0) (a .put-two-fields .ensures) (b .put-field .ensures)
+    (w .put-two-fields2 .ensures) (k .if1 .taken) (t .put-text .ensures)
 
 same-length-2 : tie.Need-same-length-2
 same-length-2 c = search needs
@@ -42,22 +37,19 @@ same-length-2 c = search needs
 returns-2 : tie.Need-returns-2
 returns-2 c =
     let w = c .before .before .before .before in
-    let p = w .before .before .before .before in
-    let b = p .before .before .before .before in
+    let b = w .before .before .before .before in
     let a = b .before .before .before .before in
-    let kind = a .before .before .before .before in
-    let s = kind .before .before .before .before in
-    without-text (reportIn (s .args .r) (s .args .text .now)) (s .pre .0) (kind .put-field .ensures) (a .put-field2 .ensures) (b .put-field3 .ensures) (p .put-field4 .ensures) (w .put-field5 .ensures) (c .if1 .left)
+    let s = a .before .before .before .before in
+    without-text (reportIn (s .args .r) (s .args .text .now)) (s .pre .0) (a .put-two-fields .ensures) (b .put-field .ensures)
+    (w .put-two-fields2 .ensures) (c .if1 .left)
 
 pub put-fields-spec : {M : Type 1} → statement M
 put-fields-spec =
     tie.close
     (tie.spec
+    put-two-fields-requires
     put-field-requires
-    put-field-requires-2
-    put-field-requires-3
-    put-field-requires-4
-    put-field-requires-5
+    put-two-fields-requires-2
     put-text-requires
     same-length
     returns

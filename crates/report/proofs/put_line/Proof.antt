@@ -5,8 +5,8 @@ use borrow.Author.Needs.{needs}
 use Rattle.report.proofs.put_line.Statement.{statement}
 use Rattle.report.proofs.put_line.Tie as tie
 
-put-decimal-requires : tie.Need-put-decimal-requires
-put-decimal-requires c κs = search needs
+put-index-requires : tie.Need-put-index-requires
+put-index-requires c κs = search needs
 
 put-fields-requires : tie.Need-put-fields-requires
 put-fields-requires c κs = search needs
@@ -21,8 +21,8 @@ returns : tie.Need-returns
 returns c =
     let f = c .before .before in
     let d = f .before .before .before .before in
-    let s = d .before .before .before .before in
-    line-written (s .args .index) (reportIn (s .args .r) (s .args .text .now)) (s .pre .0) (d .put-decimal .ensures) (f .put-fields .ensures)
+    let s = d .before .before .before .before .before in
+    line-written (s .args .index .number) (reportIn (s .args .r) (s .args .text .now)) (s .pre .0) (d .put-index .ensures) (f .put-fields .ensures)
 
 same-length : tie.Need-same-length
 same-length c = returns c .kept
@@ -31,7 +31,7 @@ pub put-line-spec : {M : Type 1} → statement M
 put-line-spec =
     tie.close
     (tie.spec
-    put-decimal-requires
+    put-index-requires
     put-fields-requires
     slice-write-out
     add-result

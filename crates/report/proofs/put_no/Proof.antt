@@ -1,7 +1,7 @@
 -- `report::put_no` meets its contract.
 use native.Mathlib.Omega.{arith}
 use lib.ListN.{length-set}
-use Rattle.report.proofs.Octets.{word-stored}
+use Rattle.report.proofs.Octets.{three-stored}
 use borrow.Author.Needs.{needs}
 use Rattle.report.proofs.put_no.Statement.{statement}
 use Rattle.report.proofs.put_no.Tie as tie
@@ -28,7 +28,7 @@ same-length : tie.Need-same-length
 same-length c = search needs
 
 returns : tie.Need-returns
-returns c = word-stored (c .args .out .now) (c .args .at) 32 110 111 (omega arith)
+returns c = three-stored (c .args .out .now) (c .args .at) 32 110 111 (omega arith)
 
 pub put-no-spec : {M : Type 1} → statement M
 put-no-spec =

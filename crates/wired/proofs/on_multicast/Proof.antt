@@ -23,12 +23,6 @@ meet-requires c κs = search needs
 minus-requires : tie.Need-minus-requires
 minus-requires c κs = search needs
 
-add-raise : tie.Need-add-raise
-add-raise c = search needs
-
-raise-requires : tie.Need-raise-requires
-raise-requires c κs = search needs
-
 minus-requires-2 : tie.Need-minus-requires-2
 minus-requires-2 c κs = search needs
 
@@ -38,9 +32,6 @@ minus-requires-3 c κs = search needs
 store-requires : tie.Need-store-requires
 store-requires c κs = search needs
 
-count-requires : tie.Need-count-requires
-count-requires c κs = search needs
-
 same-length : tie.Need-same-length
 same-length c = search needs
 
@@ -49,21 +40,20 @@ same-length-2 c = search needs
 
 returns : tie.Need-returns
 returns c =
-    let a = c .before .before .before .before .before .before .before .before .before .before .before .before .before .before .before .before .before .before .before .before .before .before .args in
-    let k = c .before .before .before .before .before .before .before .before .before .before .before .before .before .before .before .before .before .before .index-of in
-    let q = c .before .before .before .before .before .before .before .before .before .before .before .before .before .before .before .before .before .number-of in
-    let d = c .before .before .before .before .before .before .before .before .before .before .before .before .before .before .before .before .named-of in
-    let l = c .before .before .before .before .before .before .before .before .before .before .before .before .before .local-of in
-    let e = c .before .before .before .before .before .before .before .before .before .before .before .before .meet in
-    let o = c .before .before .before .before .before .before .before .before .before .before .before .minus in
-    let r = c .before .before .before .before .before .before .before .before .before .raise in
-    let y = c .before .before .before .before .before .minus2 in
-    let z = c .before .before .before .before .minus3 in
-    let t = c .before .before .before .store in
-    let n = c .count in
-    buffers (a .stations .now) (t .last .0) (a .carts .now) (r .last .0) (a .messages .now) (indexOf (a .said .0)) (numberOf (a .said .0)) (a .initiator .0) (a .to .0)
-    (k .result) (q .result) (d .result) (l .result) (e .result .0) (e .result .1) (o .result) (y .result) (z .result) (n .result)
-    (k .ensures) (q .ensures) (d .ensures) (l .ensures) (e .ensures .0) (e .ensures .1) (o .ensures) (r .ensures) (y .ensures) (z .ensures) (t .ensures) (n .ensures)
+    let a = c .before .before .before .before .before .before .before .before .before .before .before .before .before .before .before .before .before .before .before .args in
+    let k = c .before .before .before .before .before .before .before .before .before .before .before .before .before .before .before .index-of in
+    let q = c .before .before .before .before .before .before .before .before .before .before .before .before .before .before .number-of in
+    let d = c .before .before .before .before .before .before .before .before .before .before .before .before .before .named-of in
+    let l = c .before .before .before .before .before .before .before .before .before .before .local-of in
+    let e = c .before .before .before .before .before .before .before .before .before .meet in
+    let o = c .before .before .before .before .before .before .minus in
+    let y = c .before .before .before .before .minus2 in
+    let z = c .before .before .before .minus3 in
+    let t = c .before .before .store in
+    buffers (a .stations .now) (t .last .0) (a .carts .now) (e .last .0) (a .messages .now) (indexOf (a .said .0)) (numberOf (a .said .0)) (a .initiator .0) (a .to .0)
+    (k .result) (q .result) (d .result) (l .result) (e .result .due) (e .result .past) (o .result) (y .result) (z .result) (e .result .passed)
+    (k .ensures) (q .ensures) (d .ensures) (l .ensures) (e .ensures .0) (e .ensures .1 .0) (e .ensures .1 .1 .0) (e .ensures .1 .1 .1)
+    (o .ensures) (y .ensures) (z .ensures) (t .ensures)
 
 pub on-multicast-spec : {M : Type 1} → statement M
 on-multicast-spec =
@@ -75,12 +65,9 @@ on-multicast-spec =
     local-of-requires
     meet-requires
     minus-requires
-    add-raise
-    raise-requires
     minus-requires-2
     minus-requires-3
     store-requires
-    count-requires
     same-length
     same-length-2
     returns)

@@ -1,10 +1,10 @@
--- `wired::with_if` meets its contract.
+-- `cartset::with_if` meets its contract.
 use mathlib.Core.Path.{ap, sym, _∙_}
 use mathlib.Core.Bool.{Bool, cond}
 use borrow.Author.Needs.{needs}
 use Rattle.protocol.specs.CartSets.{with}
-use Rattle.wired.proofs.with_if.Statement.{statement}
-use Rattle.wired.proofs.with_if.Tie as tie
+use Rattle.cartset.proofs.with_if.Statement.{statement}
+use Rattle.cartset.proofs.with_if.Tie as tie
 
 with-cart-requires : tie.Need-with-cart-requires
 with-cart-requires c κs = search needs

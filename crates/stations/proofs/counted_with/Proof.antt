@@ -1,0 +1,21 @@
+-- `stations::counted_with` meets its contract.
+use mathlib.Core.Path.{_∙_, sym}
+use borrow.Author.Needs.{needs}
+use borrow.Author.Tests.{eq-eqb, ne-eqb}
+use Rattle.stations.proofs.counted_with.Statement.{statement}
+use Rattle.stations.proofs.counted_with.Tie as tie
+
+without-cart-requires : tie.Need-without-cart-requires
+without-cart-requires c κs = search needs
+
+with-cart-requires : tie.Need-with-cart-requires
+with-cart-requires c κs = search needs
+
+returns : tie.Need-returns
+returns c = rw (eq-eqb (c .before .before .args .word) 0 (c .before .if1 .taken)) (c .without-cart .ensures)
+
+returns-2 : tie.Need-returns-2
+returns-2 c = rw (ne-eqb (c .before .before .args .word) 0 (c .before .if1 .left)) (c .with-cart .ensures)
+
+pub counted-with-spec : {M : Type 1} → statement M
+counted-with-spec = tie.close (tie.spec without-cart-requires with-cart-requires returns returns-2)

@@ -1,0 +1,52 @@
+-- `wireless::rise` meets its contract.
+use mathlib.Core.Path.{ap, _∙_}
+use native.Mathlib.Omega.{arith}
+use Rattle.carts.specs.View.{cartsIn, withNext}
+use Rattle.carts.proofs.TableLaws.{next-beyond}
+use Rattle.carts.proofs.StepLaws.{entry, receive-entry}
+use borrow.Author.Needs.{needs}
+use Rattle.wireless.proofs.rise.Statement.{statement}
+use Rattle.wireless.proofs.rise.Tie as tie
+
+cart-at-requires : tie.Need-cart-at-requires
+cart-at-requires c κs = search needs
+
+receive-requires : tie.Need-receive-requires
+receive-requires c κs =
+    let a = c .before .before .before .args in
+    let k = c .cart-at in
+    let e = entry (cartsIn (a .carts .now)) (next-beyond (a .carts .now)) (a .number .0) (k .result) (k .ensures) (a .initiator .0) in
+    (c .before .before .before .pre .1, omega (arith, e, c .before .before .before .pre .2))
+
+mul-next : tie.Need-mul-next
+mul-next c = search needs
+
+element-copy-out-next : tie.Need-element-copy-out-next
+element-copy-out-next c = search needs
+
+put-next-requires : tie.Need-put-next-requires
+put-next-requires c κs = search needs
+
+same-length : tie.Need-same-length
+same-length c = search needs
+
+returns : tie.Need-returns
+returns c =
+    let a = c .before .before .before .before .before .before .before .before .before .args in
+    let k = c .before .before .before .before .before .before .cart-at in
+    let r = c .before .before .before .before .before .receive in
+    let kept = c .before .before .put-next .ensures in
+    let risen = receive-entry (cartsIn (a .carts .now)) (next-beyond (a .carts .now)) (a .number .0) (k .result) (k .ensures) (a .initiator) (r .result) (c .before .before .before .before .before .before .before .before .before .pre .1) (r .ensures) in
+    (kept .0 ∙ ap (withNext (cartsIn (a .carts .now)) (a .number .0) (a .initiator .0)) risen, kept .1)
+
+pub rise-spec : {M : Type 1} → statement M
+rise-spec =
+    tie.close
+    (tie.spec
+    cart-at-requires
+    receive-requires
+    mul-next
+    element-copy-out-next
+    put-next-requires
+    same-length
+    returns)
