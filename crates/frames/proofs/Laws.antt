@@ -1,46 +1,86 @@
 -- Laws of the decoder, over plain numbers and lists.
 use mathlib.Core.Path.{_≡_, refl, sym, ap, ap₂, _∙_, subst}
-use mathlib.Core.Bool.{Bool, true, false}
-use mathlib.Core.List.{List, [], _∷_, _++_}
-use Prim.Native.Nat.{ℕ, zero, _+_, _-_, _*_, _/_, _%_, _^_, _≤_, _<_}
+use mathlib.Core.Bool.{true, false}
+use mathlib.Core.List.{List, [], _∷_}
+use Prim.Native.Nat.{ℕ, zero, suc, _+_, _-_, _*_, _/_, _%_, _^_, _≤_, _<_}
 use native.Mathlib.Numerals.{add-one}
 use native.Mathlib.Omega.{arith}
 use lib.Dec.{eqb}
 use lib.ListN.{length, getD, take, drop, length-drop, drop-of-length-le}
-use lib.Seq.{take-suc, getD-drop, drop-cons, drop-drop}
-use lib.Pow.{pow-mono, pow-add}
-use borrow.Author.Tests.{ne-eqb, eq-eqb, lt-ltb, le-ltb, eqb-true}
+use lib.Seq.{length-take-le, getD-take, getD-drop, drop-cons, take-take}
+use lib.Pow.{pow-mono, pow-add, mod-pow-add, shr-shr}
+use borrow.Author.Tests.{ne-eqb, lt-ltb, le-ltb, eqb-true}
 use Rattle.protocol.proofs.Tests.{by-test, by-lt, on-cond}
 use Rattle.protocol.specs.Floor.{limits}
 use Rattle.protocol.specs.Folds.{isEmpty}
 use Rattle.protocol.specs.Events.{Event, start, enter, send, wire, radio, move}
 use Rattle.protocol.specs.Frames.{Fields, Reading, bigEndian, fieldsOf, unlisted, eventOf, fieldsRefusal, frameRefusal, frameOf, readAt, end, refusedFrame, taken}
+use Rattle.frames.specs.declared.Halves.{Halves}
+use Rattle.frames.specs.Decoded.{octetsOf, fieldsIn}
 
--- NUMBERS OF SEVERAL OCTETS
+-- NUMBERS OF EIGHT OCTETS
 
-big-endian-append : (n : ℕ) (l k : List ℕ) → bigEndian n (l ++ k) ≡ bigEndian (bigEndian n l) k
-unfolding bigEndian
-big-endian-append n [] k = refl
-big-endian-append n (x ∷ l) k = big-endian-append (n * 256 + x) l k
+-- the octets of a word as they are read, from the last on
+module _ (l : List ℕ) (at : ℕ) (h : at + 8 ≤ length l) where
+  abbrev eight : List ℕ
+  eight = take 8 (drop at l)
 
-pub no-octets : (l : List ℕ) (at : ℕ) → 0 ≡ bigEndian 0 (take 0 (drop at l))
-unfolding bigEndian
-no-octets l at = refl
+  eight-long : length eight ≡ 8
+  eight-long = let z = length-drop at l in length-take-le 8 (drop at l) (omega arith)
 
--- one octet more
-pub one-octet-more : (l : List ℕ) (at i v b v′ : ℕ) → at + i < length l → v ≡ bigEndian 0 (take i (drop at l)) → b ≡ getD l (at + i) 0 → v′ ≡ v * 256 + b → v′ ≡ bigEndian 0 (take (i + 1) (drop at l))
-unfolding bigEndian
-one-octet-more l at i v b v′ h e eb e′ =
-    e′ ∙ ap₂ (λ (x y : ℕ). x * 256 + y) e (eb ∙ sym (getD-drop at l i 0))
-    ∙ sym (big-endian-append 0 (take i (drop at l)) (getD (drop at l) i 0 ∷ []))
-    ∙ ap (λ (x : List ℕ). bigEndian 0 x) (sym (take-suc (drop at l) i 0 inside))
-    ∙ ap (λ (n : ℕ). bigEndian 0 (take n (drop at l))) (sym (add-one i))
+  pub none-read : octetsOf 0 0 ≡ drop 8 (take 8 (drop at l))
+  unfolding octetsOf
+  none-read = sym (drop-of-length-le eight {i = 8} (let z = eight-long in omega arith))
+
+  -- one octet more
+  pub octet-read : (i v b : ℕ) → i < 8 → octetsOf i v ≡ drop (8 - i) (take 8 (drop at l)) → b ≡ getD l (at + 7 - i) 0 → b < 256
+      → octetsOf (i + 1) (v * 256 + b) ≡ drop (8 - (i + 1)) (take 8 (drop at l))
+  unfolding octetsOf
+  octet-read i v b s e eb small =
+      ap (λ (n : ℕ). octetsOf n (v * 256 + b)) (add-one i)
+      ∙ ap₂ (λ (x y : ℕ). x ∷ octetsOf i y) low high
+      ∙ ap₂ (λ (x : ℕ) (k : List ℕ). x ∷ k) (eb ∙ here) (e ∙ ap (λ (n : ℕ). drop n eight) next)
+      ∙ sym (drop-cons eight (7 - i) 0 inside)
+      ∙ ap (λ (n : ℕ). drop n eight) before
+    where
+      low : (v * 256 + b) % 256 ≡ b
+      low = omega arith
+
+      high : (v * 256 + b) / 256 ≡ v
+      high = omega arith
+
+      next : 8 - i ≡ suc (7 - i)
+      next = omega arith
+
+      before : 7 - i ≡ 8 - (i + 1)
+      before = omega arith
+
+      place : at + 7 - i ≡ at + (7 - i)
+      place = omega arith
+
+      inside : 7 - i < length eight
+      inside = let z = eight-long in omega arith
+
+      here : getD l (at + 7 - i) 0 ≡ getD eight (7 - i) 0
+      here =
+          ap (λ (n : ℕ). getD l n 0) place
+          ∙ sym (getD-drop at l (7 - i) 0)
+          ∙ sym (getD-take 8 (drop at l) (7 - i) 0 (omega arith))
+
+  pub all-read : (i v : ℕ) → i ≡ 8 → octetsOf i v ≡ drop (8 - i) (take 8 (drop at l)) → octetsOf 8 v ≡ take 8 (drop at l)
+  all-read i v q e = subst (λ (n : ℕ). octetsOf n v ≡ drop (8 - n) eight) q e
+
+-- one octet of a word is put behind those that were before it
+pub octet-turned : (i w v n : ℕ) → i < 8 → bigEndian v (octetsOf (8 - i) w) ≡ n → bigEndian (v * 256 + w % 256) (octetsOf (8 - (i + 1)) (w / 256)) ≡ n
+unfolding bigEndian octetsOf
+octet-turned i w v n h e = ap (λ (k : ℕ). bigEndian v (octetsOf k w)) one-more ∙ e
   where
-    inside : i < length (drop at l)
-    inside = let z = length-drop at l in omega arith
+    one-more : suc (8 - (i + 1)) ≡ 8 - i
+    one-more = omega arith
 
-pub all-octets : (l : List ℕ) (at i n v : ℕ) → i ≡ n → v ≡ bigEndian 0 (take i (drop at l)) → v ≡ bigEndian 0 (take n (drop at l))
-all-octets l at i n v q e = e ∙ ap (λ (k : ℕ). bigEndian 0 (take k (drop at l))) q
+pub all-turned : (i w v n : ℕ) → i ≡ 8 → bigEndian v (octetsOf (8 - i) w) ≡ n → v ≡ n
+unfolding bigEndian octetsOf
+all-turned i w v n q e = subst (λ (k : ℕ). bigEndian v (octetsOf (8 - k) w) ≡ n) q e
 
 -- i octets make a number below 2^(8 i)
 pub few-fit : (i v : ℕ) → i < 8 → v < 2 ^ (8 * i) → v < 72057594037927936
@@ -54,56 +94,89 @@ more-fit i v b v′ l h e =
 
 -- FIELDS
 
--- the fields of the frame at a place, from the three numbers that its octets make
-pub fields-made : (l : List ℕ) (at head zeros set : ℕ) → head ≡ bigEndian 0 (take 3 (drop at l)) → zeros ≡ bigEndian 0 (take 5 (drop (at + 3) l)) → set ≡ bigEndian 0 (take 8 (drop (at + 8) l))
-    → record { kind = head / 1048576; station = head / 65536 % 16; cart = head / 1024 % 64; other = head / 64 % 16; length = head % 64; zero = zeros; set = set } ≡ fieldsOf (drop at l)
+-- eight octets: the number of the first three, and that of the last five
+octets-split : (a b c d e f g h : ℕ) → a < 256 → b < 256 → c < 256 → d < 256 → e < 256 → f < 256 → g < 256 → h < 256 → (n : ℕ)
+    → n ≡ bigEndian 0 (a ∷ b ∷ c ∷ d ∷ e ∷ f ∷ g ∷ h ∷ [])
+    → (bigEndian 0 (a ∷ b ∷ c ∷ []) ≡ n / 2 ^ 40) × (bigEndian 0 (d ∷ e ∷ f ∷ g ∷ h ∷ []) ≡ n % 2 ^ 40)
+unfolding bigEndian
+octets-split a b c d e f g h ha hb hc hd he hf hg hh n q = (omega arith, omega arith)
+
+word-split : (w n : ℕ) → n ≡ bigEndian 0 (octetsOf 8 w)
+    → (bigEndian 0 (take 3 (octetsOf 8 w)) ≡ n / 2 ^ 40) × (bigEndian 0 (drop 3 (octetsOf 8 w)) ≡ n % 2 ^ 40)
+unfolding octetsOf
+word-split w n q =
+    octets-split _ _ _ _ _ _ _ _ (omega arith) (omega arith) (omega arith) (omega arith) (omega arith) (omega arith) (omega arith) (omega arith) n q
+
+behind-three : (l : List ℕ) → drop 3 (take 8 l) ≡ take 5 (drop 3 l)
+behind-three [] = refl
+behind-three (x ∷ []) = refl
+behind-three (x ∷ y ∷ []) = refl
+behind-three (x ∷ y ∷ z ∷ l) = refl
+
+-- the fields of the frame at the front of these octets, from the two numbers that they make
+pub fields-made : (l : List ℕ) (f : Halves) (w v : ℕ) → octetsOf 8 w ≡ take 8 l → f .head ≡ bigEndian 0 (octetsOf 8 w)
+    → octetsOf 8 v ≡ take 8 (drop 8 l) → f .set ≡ bigEndian 0 (octetsOf 8 v) → fieldsIn f ≡ fieldsOf l
 unfolding fieldsOf
-fields-made l at head zeros set h z s = λ i. record {
-  kind = h i / 1048576;
-  station = h i / 65536 % 16;
-  cart = h i / 1024 % 64;
-  other = h i / 64 % 16;
-  length = h i % 64;
-  zero = (z ∙ ap (λ (k : List ℕ). bigEndian 0 (take 5 k)) (sym (drop-drop 3 at l))) i;
-  set = (s ∙ ap (λ (k : List ℕ). bigEndian 0 (take 8 k)) (sym (drop-drop 8 at l))) i;
+fields-made l f w v e h d s = λ i. record {
+  kind = (let z = high in let q : f .head / 2 ^ 60 ≡ bigEndian 0 (take 3 l) / 1048576 = omega arith in q) i;
+  station = (let z = high in let q : f .head / 2 ^ 56 % 16 ≡ bigEndian 0 (take 3 l) / 65536 % 16 = omega arith in q) i;
+  cart = (let z = high in let q : f .head / 2 ^ 50 % 64 ≡ bigEndian 0 (take 3 l) / 1024 % 64 = omega arith in q) i;
+  other = (let z = high in let q : f .head / 2 ^ 46 % 16 ≡ bigEndian 0 (take 3 l) / 64 % 16 = omega arith in q) i;
+  length = (let z = high in let q : f .head / 2 ^ 40 % 64 ≡ bigEndian 0 (take 3 l) % 64 = omega arith in q) i;
+  zero = sym low i;
+  set = (s ∙ ap (bigEndian 0) d) i;
 }
+  where
+    high : bigEndian 0 (take 3 l) ≡ f .head / 2 ^ 40
+    high = ap (bigEndian 0) (sym (take-take 3 8 l (omega arith)) ∙ ap (take 3) (sym e)) ∙ word-split w (f .head) h .0
 
--- a field is not larger than its bits
-pub station-small : (l : List ℕ) → fieldsOf l .station < 16
-unfolding fieldsOf
-station-small l = omega arith
+    low : bigEndian 0 (take 5 (drop 3 l)) ≡ f .head % 2 ^ 40
+    low = ap (bigEndian 0) (sym (behind-three l) ∙ ap (drop 3) (sym e)) ∙ word-split w (f .head) h .1
 
-pub cart-small : (l : List ℕ) → fieldsOf l .cart < 64
-unfolding fieldsOf
-cart-small l = omega arith
+-- other, length and zero are the bits below the cart
+pub low-fields : (head set : ℕ)
+    → (head % 2 ^ 50 + 0 + set ≡ 0 → head / 2 ^ 46 % 16 + head / 2 ^ 40 % 64 + head % 2 ^ 40 + set ≡ 0)
+    × (head / 2 ^ 46 % 16 + head / 2 ^ 40 % 64 + head % 2 ^ 40 + set ≡ 0 → head % 2 ^ 50 + 0 + set ≡ 0)
+low-fields head set =
+    sums (head / 2 ^ 46 % 16) (head / 2 ^ 40 % 64) (head % 2 ^ 40) (head % 2 ^ 46) (head % 2 ^ 50) (mod-pow-add head 4 46) (mod-pow-add head 6 40)
+  where
+    sums : (other length zeros below low : ℕ) → low ≡ other * 2 ^ 46 + below → below ≡ length * 2 ^ 40 + zeros
+        → (low + 0 + set ≡ 0 → other + length + zeros + set ≡ 0) × (other + length + zeros + set ≡ 0 → low + 0 + set ≡ 0)
+    sums other length zeros below low e g = (λ z. omega arith, λ z. omega arith)
 
--- ZERO FIELDS
+-- cart and other are the ten bits below the station
+pub send-fields : (head : ℕ)
+    → (head / 2 ^ 46 % 1024 + head % 2 ^ 40 ≡ 0 → head / 2 ^ 50 % 64 + head / 2 ^ 46 % 16 + head % 2 ^ 40 ≡ 0)
+    × (head / 2 ^ 50 % 64 + head / 2 ^ 46 % 16 + head % 2 ^ 40 ≡ 0 → head / 2 ^ 46 % 1024 + head % 2 ^ 40 ≡ 0)
+send-fields head =
+    sums (head / 2 ^ 50 % 64) (head / 2 ^ 46 % 16) (head % 2 ^ 40) (head / 2 ^ 46 % 1024)
+    (mod-pow-add (head / 2 ^ 46) 6 4 ∙ ap (λ (n : ℕ). n % 64 * 16 + head / 2 ^ 46 % 16) (shr-shr head 46 4))
+  where
+    sums : (cart other zeros both : ℕ) → both ≡ cart * 16 + other
+        → (both + zeros ≡ 0 → cart + other + zeros ≡ 0) × (cart + other + zeros ≡ 0 → both + zeros ≡ 0)
+    sums cart other zeros both e = (λ z. omega arith, λ z. omega arith)
 
-pub not-zero : (n : ℕ) → (n ≡ 0 → ⊥) → false ≡ eqb n 0
-not-zero n h = sym (ne-eqb n 0 h)
+-- a kind that is none of the six
+pub no-such-kind : (k : ℕ) → (k ≡ 0 → ⊥) → (k ≡ 1 → ⊥) → (k ≡ 2 → ⊥) → (k ≡ 3 → ⊥) → (k ≡ 4 → ⊥) → (k ≡ 5 → ⊥) → 5 < k
+no-such-kind k a b c d e f = omega arith
 
-pub others-zero : (a b c d : ℕ) → a ≡ 0 → b ≡ 0 → c ≡ 0 → eqb d 0 ≡ eqb (a + b + c + d) 0
-others-zero a b c d x y z = ap (λ (n : ℕ). eqb n 0) (let e : d ≡ a + b + c + d = omega arith in e)
-
-module _ (f : Fields) (r : Bool) where
-  pub listed-send : f .kind ≡ 2 → r ≡ eqb (f .cart + f .other + f .zero + 0) 0 → r ≡ eqb (unlisted f) 0
+-- the fields not listed for a kind
+module _ (f : Fields) where
+  pub unlisted-send : f .kind ≡ 2 → unlisted f ≡ f .cart + f .other + f .zero
   unfolding unlisted
-  listed-send k e = rw (eq-eqb (f .kind) 2 k) (e ∙ ap (λ (n : ℕ). eqb n 0) same)
-    where
-      same : f .cart + f .other + f .zero + 0 ≡ f .cart + f .other + f .zero
-      same = omega arith
+  unlisted-send k = rw k refl
 
-  pub listed-wire : f .kind ≡ 3 → r ≡ eqb (f .cart + f .length + f .zero + f .set) 0 → r ≡ eqb (unlisted f) 0
+  pub unlisted-wire : f .kind ≡ 3 → unlisted f ≡ f .cart + f .length + f .zero + f .set
   unfolding unlisted
-  listed-wire k e = rw (k) e
+  unlisted-wire k = rw k refl
 
-  pub listed-move : f .kind ≡ 5 → r ≡ eqb (f .station + f .length + f .zero + f .set) 0 → r ≡ eqb (unlisted f) 0
+  pub unlisted-move : f .kind ≡ 5 → unlisted f ≡ f .station + f .length + f .zero + f .set
   unfolding unlisted
-  listed-move k e = rw (k) e
+  unlisted-move k = rw k refl
 
-  pub listed-else : (f .kind ≡ 2 → ⊥) → (f .kind ≡ 3 → ⊥) → (f .kind ≡ 5 → ⊥) → r ≡ eqb (f .other + f .length + f .zero + f .set) 0 → r ≡ eqb (unlisted f) 0
+  pub unlisted-else : (f .kind ≡ 2 → ⊥) → (f .kind ≡ 3 → ⊥) → (f .kind ≡ 5 → ⊥) → unlisted f ≡ f .other + f .length + f .zero + f .set
   unfolding unlisted
-  listed-else a b c e = rw (ne-eqb (f .kind) 2 a, ne-eqb (f .kind) 3 b, ne-eqb (f .kind) 5 c) e
+  unlisted-else a b c = rw (ne-eqb (f .kind) 2 a, ne-eqb (f .kind) 3 b, ne-eqb (f .kind) 5 c) refl
 
 -- REFUSALS
 
@@ -139,9 +212,6 @@ module _ (f : Fields) (behind : ℕ) (e : fieldsRefusal limits f behind ≡ 0) w
       (λ u. u)
       (λ u. absurd (let z : 3 ≡ 0 = stray-field f behind kind-known u ∙ e in omega arith))
 
-  pub only-listed : unlisted f ≡ 0
-  only-listed = eqb-true (unlisted f) 0 listed
-
   pub text-short : f .length ≤ 32
   text-short =
       by-lt 32 (f .length) (λ t. absurd (let z : 4 ≡ 0 = long-text f behind kind-known listed t ∙ e in omega arith)) (λ t. t)
@@ -169,54 +239,29 @@ abbrev pub frameWith : Fields → List ℕ → Reading
 frameWith f text = taken (eventOf limits f text) (16 + f .length)
 
 module _ (f : Fields) (text : List ℕ) where
-  pub send-taken : f .kind ≡ 2 → taken (send (f .station) (f .set) text) (16 + f .length) ≡ frameWith f text
-  unfolding eventOf
-  send-taken k = rw k refl
-
-  other-taken : (e : Event) → (f .kind ≡ 2 → ⊥) → unlisted f ≡ 0 → e ≡ eventOf limits f text → taken e 16 ≡ frameWith f text
-  other-taken e h u q = ap₂ taken q same
-    where
-      same : 16 ≡ 16 + f .length
-      same = let z = no-text f h u in omega arith
-
-  start-event : f .kind ≡ 0 → start (f .station + 1) (f .cart + 1) ≡ eventOf limits f text
+  pub start-event : f .kind ≡ 0 → start (f .station + 1) (f .cart + 1) ≡ eventOf limits f text
   unfolding eventOf
   start-event k = rw k (ap₂ start (add-one (f .station)) (add-one (f .cart)))
 
-  enter-event : f .kind ≡ 1 → enter (f .station) (f .cart) ≡ eventOf limits f text
+  pub enter-event : f .kind ≡ 1 → enter (f .station) (f .cart) ≡ eventOf limits f text
   unfolding eventOf
   enter-event k = rw k refl
 
-  wire-event : f .kind ≡ 3 → wire (f .station) (f .other) ≡ eventOf limits f text
+  pub send-event : f .kind ≡ 2 → send (f .station) (f .set) text ≡ eventOf limits f text
+  unfolding eventOf
+  send-event k = rw k refl
+
+  pub wire-event : f .kind ≡ 3 → wire (f .station) (f .other) ≡ eventOf limits f text
   unfolding eventOf
   wire-event k = rw k refl
 
-  radio-event : f .kind ≡ 4 → radio (f .station) (f .cart) 32 ≡ eventOf limits f text
+  pub radio-event : f .kind ≡ 4 → radio (f .station) (f .cart) 32 ≡ eventOf limits f text
   unfolding eventOf
   radio-event k = rw k refl
 
-  move-event : (f .kind ≡ 0 → ⊥) → (f .kind ≡ 1 → ⊥) → (f .kind ≡ 2 → ⊥) → (f .kind ≡ 3 → ⊥) → (f .kind ≡ 4 → ⊥)
-      → move (f .cart) (f .other) ≡ eventOf limits f text
+  pub move-event : f .kind ≡ 5 → move (f .cart) (f .other) ≡ eventOf limits f text
   unfolding eventOf
-  move-event a b c d e =
-      rw (ne-eqb (f .kind) 0 a, ne-eqb (f .kind) 1 b, ne-eqb (f .kind) 2 c, ne-eqb (f .kind) 3 d, ne-eqb (f .kind) 4 e) refl
-
-  module _ (u : unlisted f ≡ 0) where
-    pub start-taken : f .kind ≡ 0 → taken (start (f .station + 1) (f .cart + 1)) 16 ≡ frameWith f text
-    start-taken k = other-taken _ (λ q. omega arith) u (start-event k)
-
-    pub enter-taken : f .kind ≡ 1 → taken (enter (f .station) (f .cart)) 16 ≡ frameWith f text
-    enter-taken k = other-taken _ (λ q. omega arith) u (enter-event k)
-
-    pub wire-taken : f .kind ≡ 3 → taken (wire (f .station) (f .other)) 16 ≡ frameWith f text
-    wire-taken k = other-taken _ (λ q. omega arith) u (wire-event k)
-
-    pub radio-taken : f .kind ≡ 4 → taken (radio (f .station) (f .cart) 32) 16 ≡ frameWith f text
-    radio-taken k = other-taken _ (λ q. omega arith) u (radio-event k)
-
-    pub move-taken : (f .kind ≡ 0 → ⊥) → (f .kind ≡ 1 → ⊥) → (f .kind ≡ 2 → ⊥) → (f .kind ≡ 3 → ⊥) → (f .kind ≡ 4 → ⊥)
-        → taken (move (f .cart) (f .other)) 16 ≡ frameWith f text
-    move-taken a b c d e = other-taken _ c u (move-event a b c d e)
+  move-event k = rw k refl
 
 -- READINGS
 

@@ -1,35 +1,126 @@
 -- Laws of the decoder's values: what is known of a reading, for the decoder's callers too.
-use mathlib.Core.Path.{_≡_, refl, sym, ap, _∙_}
+use mathlib.Core.Path.{_≡_, refl, sym, ap, ap₂, _∙_}
+use mathlib.Core.Bool.{true}
 use mathlib.Core.List.{List, [], _∷_}
 use Prim.{tt}
-use Prim.Native.Nat.{ℕ, _+_, _-_, _≤_}
+use Prim.Native.Nat.{ℕ, _+_, _-_, _/_, _%_, _^_, _≤_, _<_}
 use native.Mathlib.Omega.{arith}
-use lib.ListN.{length, drop}
+use lib.Dec.{eqb}
+use lib.ListN.{length, take, drop}
+use borrow.Author.Tests.{eq-eqb, ne-eqb, eqb-true, eqb-false}
 use denote.Enum.Declared.{tagOf}
 use types.Run.{OneOf, miss}
-use Rattle.protocol.proofs.Tests.{by-lt, by-eq}
+use Rattle.protocol.proofs.Tests.{by-lt, by-eq, on-cond}
 use Rattle.protocol.specs.Floor.{limits}
 use Rattle.protocol.specs.Frames as frames
-use Rattle.protocol.specs.Frames.{fieldsOf, fieldsRefusal, readAt, movedTo, taken}
+use Rattle.protocol.specs.Frames.{fieldsOf, unlisted, eventOf, fieldsRefusal, readAt, movedTo, refusedFrame, taken}
 use Rattle.protocol.specs.Events as events
+use Rattle.protocol.specs.Events.{send}
 use Rattle.frames.specs.declared.Event.{Event}
 use Rattle.frames.specs.declared.Event.the-variants.{Start, Enter, Send, Wire, Radio, Move}
 use Rattle.frames.specs.declared.Reading.{Reading}
 use Rattle.frames.specs.declared.Reading.the-variants.{End, Refused, Taken}
-use Rattle.frames.specs.declared.Fields.{Fields}
-use Rattle.frames.specs.Decoded.{fieldsIn, InFields, readingIn, sizeOf, refusalOf, refusalNumber}
+use Rattle.frames.specs.declared.Halves.{Halves}
+use Rattle.frames.specs.Decoded.{fieldsIn, ifListed, frameIn, eventIn, readingIn, sizeOf, refusalOf, refusalNumber}
 use Rattle.frames.proofs.Event.{the-type as event-type}
 use Rattle.frames.proofs.Reading.{the-type as reading-type}
-use Rattle.frames.proofs.Laws.{station-small, cart-small, only-listed, text-short, text-there, nothing-left, cut-frame, refused-frame, taken-frame}
+use Rattle.frames.proofs.Laws.{low-fields, send-fields, unlisted-send, unlisted-wire, unlisted-move, unlisted-else}
+use Rattle.frames.proofs.Laws.{no-kind, stray-field, long-text, cut-text, no-refusal, text-short, text-there}
+use Rattle.frames.proofs.Laws.{no-text, frameWith, send-event, nothing-left, cut-frame, refused-frame, taken-frame}
 
--- what the event of a frame that is not refused asks of its fields
-pub in-fields : (f : Fields) (l : List ℕ) (behind : ℕ) → fieldsIn f ≡ fieldsOf l → fieldsRefusal limits (fieldsIn f) behind ≡ 0 → InFields f
-in-fields f l behind e r =
-    record {
-      station = let z = ap (λ (g : frames.Fields). g .station) e in let h = station-small l in omega arith;
-      cart = let z = ap (λ (g : frames.Fields). g .cart) e in let h = cart-small l in omega arith;
-      listed = only-listed (fieldsIn f) behind r;
-    }
+-- FRAMES BY KIND
+
+module _ (f : frames.Fields) (behind : ℕ) (l : List ℕ) where
+  read-refused : (r : ℕ) → r ≡ fieldsRefusal limits f behind → (r ≡ 0 → ⊥) → refusedFrame r ≡ frameIn l f behind
+  read-refused r q n = rw (sym q, ne-eqb r 0 n) refl
+
+  read-taken : 0 ≡ fieldsRefusal limits f behind → frameWith f (take (f .length) (drop 16 l)) ≡ frameIn l f behind
+  read-taken q = rw (sym q) refl
+
+  -- a frame that is no send, with a number that is zero where the fields not listed are
+  module _ (k : f .kind ≤ 5) (h : f .kind ≡ 2 → ⊥) (stray : ℕ) (only : stray ≡ 0 → unlisted f ≡ 0) (all : unlisted f ≡ 0 → stray ≡ 0) where
+    stray-read : (stray ≡ 0 → ⊥) → refusedFrame 3 ≡ frameIn l f behind
+    stray-read n = read-refused 3 (stray-field f behind k (ne-eqb (unlisted f) 0 (λ u. n (all u)))) (λ z. omega arith)
+
+    event-read : (e : events.Event) → e ≡ eventOf limits f (take (f .length) (drop 16 l)) → stray ≡ 0 → taken e 16 ≡ frameIn l f behind
+    event-read e q z =
+        let u = only z in
+        let t = no-text f h u in
+        let same : 16 ≡ 16 + f .length = omega arith in
+        ap₂ taken q same ∙ read-taken (no-refusal f behind k (eq-eqb (unlisted f) 0 u) (omega arith) (omega arith))
+
+    listed-read : (e : Event) (r : Reading) → r ≡ ifListed stray e → sizeOf e ≡ 16 → eventIn l e ≡ eventOf limits f (take (f .length) (drop 16 l))
+        → readingIn l r ≡ frameIn l f behind
+    listed-read e r q s g =
+        ap (readingIn l) q
+        ∙ on-cond (λ (x : Reading). readingIn l x ≡ frameIn l f behind) (eqb stray 0)
+        (λ t. ap (taken (eventIn l e)) s ∙ event-read (eventIn l e) g (eqb-true stray 0 t))
+        (λ n. stray-read (eqb-false stray 0 n))
+
+module _ (f : Halves) (behind : ℕ) (l : List ℕ) where
+  abbrev fields : frames.Fields
+  fields = fieldsIn f
+
+  abbrev event : events.Event
+  event = eventOf limits fields (take (fields .length) (drop 16 l))
+
+  module _ (e : Event) (r : Reading) where
+    -- start, enter, radio: station and cart are listed, and the low bits are those below the cart
+    pub station-read : fields .kind ≤ 5 → (fields .kind ≡ 2 → ⊥) → (fields .kind ≡ 3 → ⊥) → (fields .kind ≡ 5 → ⊥)
+        → r ≡ ifListed (f .head % 2 ^ 50 + 0 + f .set) e → sizeOf e ≡ 16 → eventIn l e ≡ event → readingIn l r ≡ frameIn l fields behind
+    station-read k a b d =
+        let u = unlisted-else fields a b d in
+        let low = low-fields (f .head) (f .set) in
+        listed-read fields behind l k a (f .head % 2 ^ 50 + 0 + f .set) (λ z. u ∙ low .0 z) (λ z. low .1 (sym u ∙ z)) e r
+
+    -- wire and move: other is listed, the low bits are those below it, and one field above it is not listed
+    other-read : (above : ℕ) → fields .kind ≤ 5 → (fields .kind ≡ 2 → ⊥) → unlisted fields ≡ above + fields .length + fields .zero + fields .set
+        → r ≡ ifListed (f .head % 2 ^ 46 + above + f .set) e → sizeOf e ≡ 16 → eventIn l e ≡ event → readingIn l r ≡ frameIn l fields behind
+    other-read above k h u = listed-read fields behind l k h (f .head % 2 ^ 46 + above + f .set) (λ z. omega arith) (λ z. omega arith) e r
+
+    pub wire-read : fields .kind ≡ 3 → r ≡ ifListed (f .head % 2 ^ 46 + fields .cart + f .set) e → sizeOf e ≡ 16 → eventIn l e ≡ event
+        → readingIn l r ≡ frameIn l fields behind
+    wire-read k = other-read (fields .cart) (omega arith) (λ z. omega arith) (unlisted-wire fields k)
+
+    pub move-read : fields .kind ≡ 5 → r ≡ ifListed (f .head % 2 ^ 46 + fields .station + f .set) e → sizeOf e ≡ 16 → eventIn l e ≡ event
+        → readingIn l r ≡ frameIn l fields behind
+    move-read k = other-read (fields .station) (omega arith) (λ z. omega arith) (unlisted-move fields k)
+
+  pub unknown-read : 5 < fields .kind → refusedFrame 2 ≡ frameIn l fields behind
+  unknown-read k = read-refused fields behind l 2 (no-kind fields behind k) (λ z. omega arith)
+
+  module _ (k : fields .kind ≡ 2) where
+    pub send-stray : (f .head / 2 ^ 46 % 1024 + f .head % 2 ^ 40 ≡ 0 → ⊥) → refusedFrame 3 ≡ frameIn l fields behind
+    send-stray n =
+        let u = unlisted-send fields k in
+        let none : unlisted fields ≡ 0 → ⊥ = λ z. n (send-fields (f .head) .1 (sym u ∙ z)) in
+        read-refused fields behind l 3 (stray-field fields behind (omega arith) (ne-eqb (unlisted fields) 0 none)) (λ z. omega arith)
+
+    module _ (z : f .head / 2 ^ 46 % 1024 + f .head % 2 ^ 40 ≡ 0) where
+      send-listed : eqb (unlisted fields) 0 ≡ true
+      send-listed = eq-eqb (unlisted fields) 0 (unlisted-send fields k ∙ send-fields (f .head) .0 z)
+
+      pub send-long : 32 < fields .length → refusedFrame 4 ≡ frameIn l fields behind
+      send-long t = read-refused fields behind l 4 (long-text fields behind (omega arith) send-listed t) (λ z. omega arith)
+
+      pub send-cut : fields .length ≤ 32 → behind < fields .length → refusedFrame 1 ≡ frameIn l fields behind
+      send-cut t b = read-refused fields behind l 1 (cut-text fields behind (omega arith) send-listed t b) (λ z. omega arith)
+
+      pub send-read : fields .length ≤ 32 → fields .length ≤ behind
+          → taken (send (fields .station) (f .set) (take (fields .length) (drop 16 l))) (16 + fields .length) ≡ frameIn l fields behind
+      send-read t b =
+          ap (λ (e : events.Event). taken e (16 + fields .length)) (send-event fields (take (fields .length) (drop 16 l)) k)
+          ∙ read-taken fields behind l (no-refusal fields behind (omega arith) send-listed t b)
+
+-- the frame at a place
+pub frame-read : (l : List ℕ) (at : ℕ) (f : frames.Fields) → 16 ≤ length l - at → f ≡ fieldsOf (drop at l)
+    → frameIn (drop at l) f (length l - at - 16) ≡ readAt limits l at
+frame-read l at f h e =
+    by-eq (fieldsRefusal limits f (length l - at - 16)) 0
+    (λ z. sym (read-taken f (length l - at - 16) (drop at l) (sym z)) ∙ taken-frame l at f h e (sym z))
+    (λ n. sym (read-refused f (length l - at - 16) (drop at l) _ refl n) ∙ refused-frame l at f h e _ refl n)
+
+-- EVENTS
 
 -- an event other than a send has the size of a frame
 pub other-size : (e : Event) → OneOf (0 ∷ 1 ∷ 3 ∷ 4 ∷ 5 ∷ []) (tagOf event-type e) → 16 ≡ sizeOf e

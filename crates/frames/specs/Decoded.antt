@@ -1,18 +1,19 @@
 -- What the decoder's values say, in the words of the written steps.
-use mathlib.Core.Path.{_≡_}
-use mathlib.Core.List.{List, []}
-use Prim.Native.Nat.{ℕ, _+_, _<_}
+use mathlib.Core.Bool.{cond}
+use mathlib.Core.List.{List, [], _∷_}
+use Prim.Native.Nat.{ℕ, zero, suc, _+_, _/_, _%_, _^_}
+use lib.Dec.{eqb}
 use lib.ListN.{take, drop}
 use Rattle.protocol.specs.Floor.{limits}
 use Rattle.protocol.specs.Events.{start, enter, send, wire, radio, move}
 use Rattle.protocol.specs.Events as events
-use Rattle.protocol.specs.Frames.{unlisted, eventOf, end, refusedFrame, taken}
+use Rattle.protocol.specs.Frames.{Fields, eventOf, fieldsRefusal, end, refusedFrame, taken}
 use Rattle.protocol.specs.Frames as frames
 use Rattle.frames.specs.declared.Event.{Event}
 use Rattle.frames.specs.declared.Event.the-variants.{Start, Enter, Send, Wire, Radio, Move}
 use Rattle.frames.specs.declared.Reading.{Reading}
 use Rattle.frames.specs.declared.Reading.the-variants.{End, Refused, Taken}
-use Rattle.frames.specs.declared.Fields.{Fields}
+use Rattle.frames.specs.declared.Halves.{Halves}
 
 -- the event, with these octets from its frame on: "A send is followed by its text"; a radio step's text buffer holds every text
 abbrev pub eventIn : List ℕ → Event → events.Event
@@ -52,18 +53,33 @@ refusalNumber (taken e size) = 0
 abbrev pub refusalOf : Reading → ℕ
 refusalOf r = refusalNumber (readingIn [] r)
 
--- FIELDS
+-- FRAMES
 
--- the fields of a frame
-abbrev pub fieldsIn : Fields → frames.Fields
-fieldsIn f = record { kind = f .kind; station = f .station; cart = f .cart; other = f .other; length = f .length; zero = f .zero; set = f .set }
+-- n octets of a number, least significant first
+unfoldable pub octetsOf : ℕ → ℕ → List ℕ
+octetsOf zero w = []
+octetsOf (suc n) w = w % 256 ∷ octetsOf n (w / 256)
 
--- station and cart are not larger than their bits, and the fields not listed for the kind are zero
-pub record InFields (f : Fields) : Type 0 where
-  pub station : f .station < 16
-  pub cart : f .cart < 64
-  pub listed : unlisted (fieldsIn f) ≡ 0
+-- the fields of a frame: "kind 4 bits, station 4, cart 6, other 4, length 6, zero 40, set 64"
+abbrev pub fieldsIn : Halves → Fields
+fieldsIn f =
+    let head = f .head in
+    record {
+      kind = head / 2 ^ 60;
+      station = head / 2 ^ 56 % 16;
+      cart = head / 2 ^ 50 % 64;
+      other = head / 2 ^ 46 % 16;
+      length = head / 2 ^ 40 % 64;
+      zero = head % 2 ^ 40;
+      set = f .set;
+    }
 
--- the reading of a frame with these fields that is not refused
-abbrev pub frameIn : List ℕ → Fields → frames.Reading
-frameIn l f = taken (eventOf limits (fieldsIn f) (take (f .length) (drop 16 l))) (16 + f .length)
+-- an event whose frame has fields of this sum not listed for its kind
+abbrev pub ifListed : ℕ → Event → Reading
+ifListed n e = cond (eqb n 0) (Taken e) (Refused 3)
+
+-- the reading of a frame with these fields, at the front of these octets, and so many octets behind it
+abbrev pub frameIn : List ℕ → Fields → ℕ → frames.Reading
+frameIn l f behind =
+    let refusal = fieldsRefusal limits f behind in
+    cond (eqb refusal 0) (taken (eventOf limits f (take (f .length) (drop 16 l))) (16 + f .length)) (refusedFrame refusal)

@@ -4,11 +4,10 @@ use ids::Station;
 ghost use mathlib.Core.Path.{_≡_};
 ghost use mathlib.Core.List.{List};
 ghost use Prim.Native.Nat.{ℕ, _+_, _<_, _≤_};
-ghost use lib.Dec.{eqb};
 ghost use lib.ListN.{length, take, drop};
 ghost use Rattle.protocol.specs.Floor.{limits};
-ghost use Rattle.protocol.specs.Frames.{bigEndian, fieldsOf, unlisted, fieldsRefusal, readAt, movedTo};
-ghost use Rattle.frames.specs.Decoded.{fieldsIn, InFields, frameIn, sizeOf, takenIn, readingIn, refusalOf, refusalNumber};
+ghost use Rattle.protocol.specs.Frames.{bigEndian, fieldsOf, readAt, movedTo};
+ghost use Rattle.frames.specs.Decoded.{octetsOf, fieldsIn, ifListed, frameIn, sizeOf, readingIn, refusalOf, refusalNumber};
 
 // An event.
 pub enum Event {
@@ -31,14 +30,9 @@ pub enum Reading {
     Taken(Event),
 }
 
-// The fields of a frame.
-struct Fields {
-    kind: u64,
-    station: u64,
-    cart: u64,
-    other: u64,
-    length: u64,
-    zero: u64,
+// The sixteen octets of a frame as two numbers: kind to zero, and the set.
+struct Halves {
+    head: u64,
     set: u64,
 }
 
@@ -48,106 +42,145 @@ const FRAME: usize = 16;
 // "text 0 to 32 octets".
 const TEXT: u64 = 32;
 
+// The lowest bit of each field of the head: "kind 4 bits, station 4, cart 6, other 4, length 6, zero 40".
+const KIND_BIT: u64 = 1 << 60;
+
+const STATION_BIT: u64 = 1 << 56;
+
+const CART_BIT: u64 = 1 << 50;
+
+const OTHER_BIT: u64 = 1 << 46;
+
+const LENGTH_BIT: u64 = 1 << 40;
+
 fn wide(x: u8) -> u64
     ensures { λ r. ⌜ (r ≡ x) × (r < 256) ⌝ }
 {
     x as u64
 }
 
-// The number that n octets make, most significant first.
-fn number_at(octets: &[u8], at: usize, n: usize) -> u64
-    requires { ⌜ (n ≤ 8) × (at + n ≤ length (now octets)) ⌝ }
-    ensures { λ r. ⌜ r ≡ bigEndian 0 (take n (drop at (now (octets .entry)))) ⌝ }
+// Eight octets as one number, the first the least significant: the machine's own order, in which it loads all eight at once.
+fn word_at(octets: &[u8], at: usize) -> u64
+    requires { ⌜ at + 8 ≤ length (now octets) ⌝ }
+    ensures { λ r. ⌜ octetsOf 8 r ≡ take 8 (drop at (now (octets .entry))) ⌝ }
 {
     let mut value: u64 = 0;
     let mut i: usize = 0;
-    while i < n {
-        value = value * 256 + wide(octets[at + i]);
+    while i < 8 {
+        value = value * 256 + wide(octets[at + 7 - i]);
         i += 1;
     }
     value
 }
 
-// The fields of the frame at a place: "kind 4 bits, station 4, cart 6, other 4, length 6, zero 40, set 64".
-fn fields_at(octets: &[u8], at: usize) -> Fields
+// The sixteen octets at a place, as the machine loads them.
+fn words_at(octets: &[u8], at: usize) -> Halves
+    requires { ⌜ at + 16 ≤ length (now octets) ⌝ }
+    ensures { λ r. ⌜ octetsOf 8 (r .head) ≡ take 8 (drop at (now (octets .entry))) ⌝ }
+    ensures { λ r. ⌜ octetsOf 8 (r .set) ≡ take 8 (drop (at + 8) (now (octets .entry))) ⌝ }
+{
+    Halves {
+        head: word_at(octets, at),
+        set: word_at(octets, at + 8),
+    }
+}
+
+// The number that the octets of a word make, most significant first.
+fn swapped(word: u64) -> u64
+    ensures { λ r. ⌜ r ≡ bigEndian 0 (octetsOf 8 word) ⌝ }
+{
+    let mut left = word;
+    let mut value: u64 = 0;
+    let mut i: usize = 0;
+    while i < 8 {
+        value = value * 256 + left % 256;
+        left = left / 256;
+        i += 1;
+    }
+    value
+}
+
+// The frame at a place: "fields packed most significant bit first".
+fn halves_at(octets: &[u8], at: usize) -> Halves
     requires { ⌜ at + 16 ≤ length (now octets) ⌝ }
     ensures { λ r. ⌜ fieldsIn r ≡ fieldsOf (drop at (now (octets .entry))) ⌝ }
 {
-    let head = number_at(octets, at, 3);
-    let zero = number_at(octets, at + 3, 5);
-    let set = number_at(octets, at + 8, 8);
-    Fields {
-        kind: head / 1048576,
-        station: head / 65536 % 16,
-        cart: head / 1024 % 64,
-        other: head / 64 % 16,
-        length: head % 64,
-        zero,
-        set,
+    let words = words_at(octets, at);
+    Halves {
+        head: swapped(words.head),
+        set: swapped(words.set),
     }
 }
 
-// Are all four zero.
-fn are_zero(a: u64, b: u64, c: u64, d: u64) -> bool
-    ensures { λ r. ⌜ r ≡ eqb (a + b + c + d) 0 ⌝ }
-{
-    if a != 0 {
-        return false;
-    }
-    if b != 0 {
-        return false;
-    }
-    if c != 0 {
-        return false;
-    }
-    d == 0
-}
-
+// The event of a frame whose kind does not list the low bits of the head, a field above them and the set, if all that is zero:
 // "Fields not listed for a kind must be zero."
-fn listed_only(f: Fields) -> bool
-    ensures { λ r. ⌜ r ≡ eqb (unlisted (fieldsIn f)) 0 ⌝ }
+fn if_listed(low: u64, field: u64, set: u64, e: Event) -> Reading
+    ensures { λ r. ⌜ r ≡ ifListed (low + field + set) e ⌝ }
 {
-    let kind = f.kind;
-    match kind {
-        2 => are_zero(f.cart, f.other, f.zero, 0),
-        3 => are_zero(f.cart, f.length, f.zero, f.set),
-        5 => are_zero(f.station, f.length, f.zero, f.set),
-        _ => are_zero(f.other, f.length, f.zero, f.set),
+    if low != 0 {
+        return Reading::Refused(3);
     }
+    if field != 0 {
+        return Reading::Refused(3);
+    }
+    if set != 0 {
+        return Reading::Refused(3);
+    }
+    Reading::Taken(e)
 }
 
-// The refusal of a frame with these fields and so many octets behind it, or 0: "Checks run down the table".
-fn refusal_of(f: Fields, behind: usize) -> u64
-    ensures { λ r. ⌜ r ≡ fieldsRefusal limits (fieldsIn f) behind ⌝ }
+// A send with so many octets behind its frame: "Checks run down the table".
+fn send_of(f: Halves, behind: usize) -> Reading
+    requires { ⌜ fieldsIn f .kind ≡ 2 ⌝ }
+    ensures { λ r. ⌜ ((l : List ℕ) → readingIn l r ≡ frameIn l (fieldsIn f) behind) ⌝ }
 {
-    if 5 < f.kind {
-        return 2;
+    if f.head / OTHER_BIT % 1024 != 0 {
+        return Reading::Refused(3);
     }
-    if !listed_only(f) {
-        return 3;
+    if f.head % LENGTH_BIT != 0 {
+        return Reading::Refused(3);
     }
-    if TEXT < f.length {
-        return 4;
+    let length = f.head / LENGTH_BIT % 64;
+    if TEXT < length {
+        return Reading::Refused(4);
     }
-    if (behind as u64) < f.length {
-        return 1;
+    if (behind as u64) < length {
+        return Reading::Refused(1);
     }
-    0
+    Reading::Taken(Event::Send(Station(f.head / STATION_BIT % 16), f.set, length as usize))
 }
 
-// The event of a frame that is not refused.
-fn event_of(f: Fields) -> Event
-    requires { ⌜ InFields f ⌝ }
-    ensures { λ r. ⌜ ((l : List ℕ) → takenIn l r ≡ frameIn l f) ⌝ }
+// A frame with so many octets behind it, taken apart by its kind or refused.
+fn reading_of(f: Halves, behind: usize) -> Reading
+    ensures { λ r. ⌜ ((l : List ℕ) → readingIn l r ≡ frameIn l (fieldsIn f) behind) ⌝ }
 {
-    let kind = f.kind;
+    let head = f.head;
+    let kind = head / KIND_BIT;
+    let station = head / STATION_BIT % 16;
     match kind {
-        0 => Event::Start(f.station + 1, f.cart + 1),
-        1 => Event::Enter(Station(f.station), CartNumber(f.cart)),
-        2 => Event::Send(Station(f.station), f.set, f.length as usize),
-        3 => Event::Wire(Station(f.station), Station(f.other)),
-        4 => Event::Radio(Station(f.station), CartNumber(f.cart)),
-        _ => Event::Move(CartNumber(f.cart), Station(f.other)),
+        0 => {
+            let e = Event::Start(station + 1, head / CART_BIT % 64 + 1);
+            if_listed(head % CART_BIT, 0, f.set, e)
+        }
+        1 => {
+            let e = Event::Enter(Station(station), CartNumber(head / CART_BIT % 64));
+            if_listed(head % CART_BIT, 0, f.set, e)
+        }
+        2 => send_of(f, behind),
+        3 => {
+            let e = Event::Wire(Station(station), Station(head / OTHER_BIT % 16));
+            if_listed(head % OTHER_BIT, head / CART_BIT % 64, f.set, e)
+        }
+        4 => {
+            let e = Event::Radio(Station(station), CartNumber(head / CART_BIT % 64));
+            if_listed(head % CART_BIT, 0, f.set, e)
+        }
+        5 => {
+            let cart = CartNumber(head / CART_BIT % 64);
+            let e = Event::Move(cart, Station(head / OTHER_BIT % 16));
+            if_listed(head % OTHER_BIT, station, f.set, e)
+        }
+        _ => Reading::Refused(2),
     }
 }
 
@@ -161,12 +194,7 @@ pub fn frame_at(octets: &[u8], at: usize) -> Reading
     if octets.len() - at < FRAME {
         return Reading::Refused(1);
     }
-    let f = fields_at(octets, at);
-    let refusal = refusal_of(f, octets.len() - at - FRAME);
-    if refusal != 0 {
-        return Reading::Refused(refusal);
-    }
-    Reading::Taken(event_of(f))
+    reading_of(halves_at(octets, at), octets.len() - at - FRAME)
 }
 
 // How many octets an event took: its frame, and of a send the text.
