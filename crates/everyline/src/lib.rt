@@ -11,14 +11,17 @@ ghost use Rattle.lines.specs.Lines.{used};
 ghost use Rattle.lines.specs.Words.{capacity};
 ghost use Rattle.everyline.specs.ToEvery.{PushedToEvery};
 
-// The record joins the line from `from` to each of the stations 0 to n - 1, at its end.
+// The record joins the line from `from` to each of the stations 0 to n - 1, at its end. The free rows are held from push to push: a word of
+// them serves many.
 pub fn push_to_every(lines: &mut [u64], from: Station, n: u64, said: Record)
     requires { ⌜ (from .0 < 16) × (n ≤ 16) × (form (now lines) ≡ true) × (used (now lines) + n ≤ capacity (now lines)) ⌝ }
     ensures { λ _. ⌜ PushedToEvery (now (lines .entry)) (now (lines .exit)) (from .0) n said ⌝ }
 {
+    let mut held = lines::hold(lines);
     let mut to: u64 = 0;
     while to < n {
-        lines::push_back(lines, from.0 as usize, to as usize, said);
+        held = lines::push_held(lines, from.0 as usize, to as usize, said, held);
         to += 1;
     }
+    lines::release(lines, held);
 }

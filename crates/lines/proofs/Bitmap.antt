@@ -17,11 +17,11 @@ use Rattle.protocol.specs.CartSets.{digit}
 use Rattle.protocol.specs.Form.{bit}
 use Rattle.protocol.proofs.SetLaws.{digit-lt, same-digits}
 use Rattle.protocol.proofs.Tests.{every-at, every-all}
-use Rattle.lines.specs.Bits.{bitAt}
+use Rattle.lines.specs.Bits.{bitAt, lowestOf}
 use Rattle.lines.specs.Words.{summaryOf}
 use Rattle.lines.specs.Form.{summaryOk}
 use Rattle.lines.specs.Parts.{With, Without, Summed, Full, Freed, Taken, Given, Marked}
-use Rattle.lines.proofs.Digits.{same-yes, same-no, below-yes, below-no, digit-none, or-digit, and-digit, out-digit, one-digit, ones-digit}
+use Rattle.lines.proofs.Digits.{same-yes, same-no, below-yes, below-no, digit-none, or-digit, and-digit, out-digit, one-digit, ones-digit, lowest-out}
 use Rattle.lines.proofs.Sums.{not-true-false, and-true}
 
 -- ---- one bit of a word
@@ -43,6 +43,12 @@ without-is x b h = subst (λ (p : ℕ). Without x b (bitXor x (bitAnd x p))) (sy
   bits = λ c. out-digit x (2 ^ b) c ∙ ap (λ (y : ℕ). digit x c - y) (one-digit b c);
   small = λ n hx. xor-lt n x (bitAnd x (2 ^ b)) hx (lt-of-le-of-lt (and-le-l x (2 ^ b)) hx);
 })
+
+pub without-lowest-is : (x : ℕ) → 0 < x → x < 2 ^ 64 → Without x (lowestOf x) (bitAnd x (x - 1))
+without-lowest-is x p h = record {
+  bits = λ c. and-digit x (x - 1) c ∙ lowest-out 64 x p h c;
+  small = λ n hx. lt-of-le-of-lt (and-le-l x (x - 1)) hx;
+}
 
 pub summed-with : (s w x r : ℕ) → With s w r → 0 < x → w < 49 → Summed s w x r
 summed-with s w x r h p hw = record {
@@ -137,7 +143,7 @@ freed-still l w x hw hl s was is =
     }
 
 module _ (l l′ : List ℕ) (w x : ℕ) (h : Freed l l′ w x) (hw : w < 49) where
-  freed-summary : Summary l → Summary l′
+  pub freed-summary : Summary l → Summary l′
   freed-summary s = record { bits = λ v hv. pick v hv (ℕ-discrete v w); small = h .summary .small (s .small) }
     where
       pick : (v : ℕ) → v < 49 → Dec (v ≡ w) → digit (summaryOf l′) v ≡ bit (ltb 0 (getD l′ v 0))
@@ -181,8 +187,8 @@ row-there : (f w b y : ℕ) → f ≡ w * 64 + b → b < 64 → (y / 64 ≡ w �
 row-there f w b y e hb q = same-no f y (λ t. q (omega arith))
 
 pub take-is : (l l′ : List ℕ) (w b x : ℕ) → summaryOk l ≡ true → digit (summaryOf l) w ≡ 1 → b < 64 → digit (getD l w 0) b ≡ 1
-    → Without (getD l w 0) b x → Freed l l′ w x → Taken l l′ (w * 64 + b)
-take-is l l′ w b x ok e hb eb out h =
+    → b ≡ lowestOf (getD l w 0) → Without (getD l w 0) (lowestOf (getD l w 0)) x → Freed l l′ w x → Taken l l′ (w * 64 + b)
+take-is l l′ w b x ok e hb eb low out h =
     let s = summary-of l ok in
     let hw = summary-low l s w e in
     record {
@@ -195,6 +201,7 @@ take-is l l′ w b x ok e hb eb out h =
   where
     pick : w < 49 → (y : ℕ) → y < 3136 → Dec (y / 64 ≡ w) → bitAt l′ y ≡ bitAt l y - bit (eqb (w * 64 + b) y)
     pick hw y hy (yes q) =
+        let same = ap (λ (t : ℕ). bit (eqb t (y % 64))) low in
         omega (arith, freed-here l l′ w x h hw y q, out .bits (y % 64), at-word l w y q, row-here (w * 64 + b) w b y refl hb q)
     pick hw y hy (no q) = omega (arith, freed-there l l′ w x h hw y hy q, row-there (w * 64 + b) w b y refl hb q)
 

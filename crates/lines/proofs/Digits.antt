@@ -1,10 +1,10 @@
 -- Laws of a number's bits.
-use mathlib.Core.Path.{_≡_, refl, sym, ap, _∙_, subst}
+use mathlib.Core.Path.{_≡_, refl, sym, ap, ap₂, _∙_, subst}
 use Prim.Native.Nat.{ℕ, zero, suc, _-_, _/_, _%_, _^_, _≤_, _<_, min, max}
 use native.Mathlib.Nat.{pow-suc, div-one, zero-div}
 use native.Mathlib.Decide.{decLe}
 use native.Mathlib.Omega.{arith}
-use lib.Dec.{eqb, ltb}
+use lib.Dec.{eqb, ltb, eqb·suc-suc, eqb·zero-suc}
 use lib.Arith.{lt-one}
 use lib.Pow.{pow-pos}
 use lib.Bits.{bitAnd, bitOr, bitXor, and-shr, or-shr, xor-shr, and-step, or-step, xor-step, differ}
@@ -88,3 +88,31 @@ lowest-bit (suc k) n p h = pick (n % 2) refl (λ q. lowest-bit k (n / 2) q half)
       where
         one : n % 2 ≡ 1
         one = omega arith
+
+-- one less than it has all its bits but that one, and others only below that one
+pub lowest-out : (k n : ℕ) → 0 < n → n < 2 ^ k → (c : ℕ) → min (digit n c) (digit (n - 1) c) ≡ digit n c - bit (eqb (trailingZeros k n) c)
+unfolding trailingZeros
+lowest-out zero n p h c = absurd (omega (arith, lt-one h))
+lowest-out (suc k) n p h c = pick (n % 2) refl c (λ q. lowest-out k (n / 2) q half)
+  where
+    half : n / 2 < 2 ^ k
+    half = omega (arith, subst (λ (x : ℕ). n < x) (pow-suc 2 k) h)
+
+    pick : (d : ℕ) → n % 2 ≡ d → (c : ℕ)
+        → (0 < n / 2 → (c : ℕ) → min (digit (n / 2) c) (digit (n / 2 - 1) c) ≡ digit (n / 2) c - bit (eqb (trailingZeros k (n / 2)) c))
+        → min (digit n c) (digit (n - 1) c) ≡ digit n c - bit (eqb (under d (trailingZeros k (n / 2))) c)
+    pick zero e zero rec = omega (arith, digit-zero n)
+    pick zero e (suc c) rec =
+        let q : (n - 1) / 2 ≡ n / 2 - 1 = omega arith in
+        let t = ap bit (eqb·suc-suc (trailingZeros k (n / 2)) c) in
+        omega (arith, half-digit n c, half-digit (n - 1) c, ap (λ (x : ℕ). digit x c) q, rec (omega arith) c)
+    pick (suc d) e zero rec = ap₂ min one none ∙ sym (ap (λ (x : ℕ). x - bit (eqb 0 0)) one)
+      where
+        one : digit n 0 ≡ 1
+        one = omega (arith, digit-zero n)
+
+        none : digit (n - 1) 0 ≡ 0
+        none = omega (arith, digit-zero (n - 1))
+    pick (suc d) e (suc c) rec =
+        let q : (n - 1) / 2 ≡ n / 2 = omega arith in
+        omega (arith, half-digit n c, half-digit (n - 1) c, ap (λ (x : ℕ). digit x c) q, ap bit (eqb·zero-suc c))

@@ -243,8 +243,11 @@ module _ (l : List ℕ) (e : form l ≡ true) where
   pub linkable : (k : ℕ) → k < 256 → (lineAt k + 3 ≤ length l) × (0 < lengthOf l k → tailOf l k < 3136)
   linkable k h = (own-line k h, λ some. omega (arith, form-formed l e .most, tail-below l (form-formed l e) k h some))
 
+  pub holdable : (50 ≤ length l) × (summaryOk l ≡ true)
+  holdable = let w = form-formed l e in (omega (arith, w .long), w .summary)
+
   pub takable : used l < capacity l → (50 ≤ length l) × (summaryOk l ≡ true) × (0 < summaryOf l)
-  takable h = let w = form-formed l e in (omega (arith, w .long), w .summary, room-summary l w h)
+  takable h = (holdable .0, holdable .1, room-summary l (form-formed l e) h)
 
   module _ (k : ℕ) (hk : k < 256) (some : 0 < length (lineOf l k)) where
     pub some-long : 0 < lengthOf l k

@@ -6,6 +6,7 @@ pub mod Chains
 pub mod Formed
 pub mod Change
 pub mod Push
+pub mod Holding
 pub mod Pop
 pub mod Start
 pub mod Test

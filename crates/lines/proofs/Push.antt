@@ -34,7 +34,7 @@ module _ (l : List ℕ) (at k f n : ℕ) (r : Record) where
   unfolding joined
   length-joined = simp length-set
 
-  joined-other : (i : ℕ) → (i ≡ rowAt f + 1 → ⊥) → (i ≡ rowAt f + 2 → ⊥) → (i ≡ at → ⊥) → (i ≡ lineAt k + 1 → ⊥) → (i ≡ lineAt k + 2 → ⊥)
+  pub joined-other : (i : ℕ) → (i ≡ rowAt f + 1 → ⊥) → (i ≡ rowAt f + 2 → ⊥) → (i ≡ at → ⊥) → (i ≡ lineAt k + 1 → ⊥) → (i ≡ lineAt k + 2 → ⊥)
       → getD (joined l at k f n r) i 0 ≡ getD l i 0
   unfolding joined
   joined-other i h1 h2 h3 h4 h5 = simp getD-set-other
@@ -73,6 +73,21 @@ record Joined (l l′ : List ℕ) (k f : ℕ) (r : Record) : Type 0 where
   first : lengthOf l k ≡ 0 → (headOf l′ k ≡ f) × ((x : ℕ) → nextOf l′ x ≡ nextOf l x)
   later : 0 < lengthOf l k → (headOf l′ k ≡ headOf l k) × (nextOf l′ (tailOf l k) ≡ f) × ((x : ℕ) → (x ≡ tailOf l k → ⊥) → nextOf l′ x ≡ nextOf l x)
 
+-- where the link is
+module _ (l : List ℕ) (k at : ℕ) (link : Link l k at) where
+  abbrev Where : Type 0
+  Where = ((lengthOf l k ≡ 0) × (at ≡ lineAt k)) ⊎ ((0 < lengthOf l k) × (at ≡ rowAt (tailOf l k)))
+
+  link-where : Where
+  link-where = pick (decLe 1 (lengthOf l k))
+    where
+      pick : Dec (1 ≤ lengthOf l k) → Where
+      pick (yes h) = inr (h, link .later h)
+      pick (no h) = let e : lengthOf l k ≡ 0 = omega arith in inl (e, link .first e)
+
+  pub link-high : 50 ≤ at
+  link-high = ⊎-elim (λ z. omega (arith, z .1)) (λ z. omega (arith, z .1)) link-where
+
 module _ (l l1 : List ℕ) (at k f n : ℕ) (r : Record) (w : Formed l) (hk : k < 256) (t : Taken l l1 f) (same : length l1 ≡ length l) (en : n ≡ lengthOf l k) (link : Link l k at) where
   abbrev l2 : List ℕ
   l2 = joined l1 at k f n r
@@ -84,20 +99,9 @@ module _ (l l1 : List ℕ) (at k f n : ℕ) (r : Record) (w : Formed l) (hk : k 
   f-off : (j : ℕ) → j < 256 → count f (rowsOf l j) ≡ 0
   f-off j hj = omega (arith, at-most-once l w f (t .within), t .was, stands-line l f j hj)
 
-  -- where the link is
-  abbrev Where : Type 0
-  Where = ((lengthOf l k ≡ 0) × (at ≡ lineAt k)) ⊎ ((0 < lengthOf l k) × (at ≡ rowAt (tailOf l k)))
-
-  link-where : Where
-  link-where = pick (decLe 1 (lengthOf l k))
-    where
-      pick : Dec (1 ≤ lengthOf l k) → Where
-      pick (yes h) = inr (h, link .later h)
-      pick (no h) = let e : lengthOf l k ≡ 0 = omega arith in inl (e, link .first e)
-
   joins : Fits l1 at k f n
   joins = record {
-    link = ⊎-elim (λ z. omega (arith, w .long, same, z .1)) (λ z. omega (arith, w .long, same, z .1, tail-below l w k hk (z .0))) link-where;
+    link = ⊎-elim (λ z. omega (arith, w .long, same, z .1)) (λ z. omega (arith, w .long, same, z .1, tail-below l w k hk (z .0))) (link-where l k at link);
     line = omega (arith, w .long, same);
     row = omega (arith, w .long, same, f-below);
     few = omega (arith, en, line-short l w k hk, w .most);
@@ -111,7 +115,7 @@ module _ (l l1 : List ℕ) (at k f n : ℕ) (r : Record) (w : Formed l) (hk : k 
 
   -- the link is a head or a next row
   not-link : (i : ℕ) → (i ≡ lineAt k → ⊥) → (i ≡ rowAt (tailOf l k) → ⊥) → i ≡ at → ⊥
-  not-link i h1 h2 q = ⊎-elim (λ z. h1 (q ∙ z .1)) (λ z. h2 (q ∙ z .1)) link-where
+  not-link i h1 h2 q = ⊎-elim (λ z. h1 (q ∙ z .1)) (λ z. h2 (q ∙ z .1)) (link-where l k at link)
 
   stored : Joined l l2 k f r
   unfolding recordOf
@@ -185,11 +189,8 @@ module _ (l l1 : List ℕ) (at k f n : ℕ) (r : Record) (w : Formed l) (hk : k 
   long-same : length l2 ≡ length l
   long-same = length-joined l1 at k f n r ∙ same
 
-  at-high : 50 ≤ at
-  at-high = ⊎-elim (λ z. omega (arith, z .1)) (λ z. omega (arith, z .1)) link-where
-
   low-same : (a : ℕ) → a < 50 → getD l2 a 0 ≡ getD l1 a 0
-  low-same a h = joined-other l1 at k f n r a (omega arith) (omega arith) (omega (arith, at-high)) (omega arith) (omega arith)
+  low-same a h = joined-other l1 at k f n r a (omega arith) (omega arith) (omega (arith, link-high l k at link)) (omega arith) (omega arith)
 
   stands-more : (x : ℕ) → standsTo l2 256 x ≡ standsTo l 256 x + bit (eqb f x)
   stands-more x = omega (arith, stands-change l l2 k hk rows-other x, ap (count x) rows-line, count-end x f (rowsOf l k))

@@ -5,3 +5,4 @@ pub mod Lines
 pub mod Form
 pub mod Post
 pub mod Parts
+pub mod Holding

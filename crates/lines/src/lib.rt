@@ -14,11 +14,12 @@ ghost use lib.Dec.{eqb, ltb};
 ghost use Rattle.protocol.specs.Folds.{every};
 ghost use Rattle.protocol.specs.CartSets.{digit};
 ghost use Rattle.protocol.specs.Form.{bit};
-ghost use Rattle.lines.specs.Bits.{bitAt};
+ghost use Rattle.lines.specs.Bits.{bitAt, lowestOf};
 ghost use Rattle.lines.specs.Words.{freeWords, mostRows, lineCount, linesAt, rowsAt, lineAt, rowAt, headOf, tailOf, lengthOf, nextOf, capacity, summaryOf};
 ghost use Rattle.lines.specs.Lines.{recordOf, lineOf, used};
 ghost use Rattle.lines.specs.Form.{form, sized, rowsOk, summaryOk};
 ghost use Rattle.lines.specs.Post.{Pushed, Popped, Cleared};
+ghost use Rattle.lines.specs.Holding.{released, Holds};
 ghost use Rattle.lines.specs.Parts.{With, Without, Summed, Full, Freed, Taken, Given, AllFree, Emptied, Link, Fits, joined, left, Marked, Walked, Surveyed};
 
 const SUMMARY: usize = 49;
@@ -117,9 +118,17 @@ fn without_bit(x: u64, b: usize) -> u64
 // The place of the lowest bit of x.
 fn lowest(x: u64) -> usize
     requires { ⌜ 0 < x ⌝ }
-    ensures { λ r. ⌜ (r < 64) × (digit x r ≡ 1) ⌝ }
+    ensures { λ r. ⌜ (r < 64) × (digit x r ≡ 1) × (r ≡ lowestOf x) ⌝ }
 {
     u64::trailing_zeros(x) as usize
+}
+
+// x without its lowest bit, wherever that is: nothing has to wait for its place.
+fn without_lowest(x: u64) -> u64
+    requires { ⌜ 0 < x ⌝ }
+    ensures { λ r. ⌜ Without x (lowestOf x) r ⌝ }
+{
+    x & (x - 1)
 }
 
 // 1 where x is not 0.
@@ -174,7 +183,7 @@ fn take_row(pool: &mut [u64]) -> usize
     let w = lowest(pool[SUMMARY]);
     let word = pool[w];
     let b = lowest(word);
-    change_free(pool, w, without_bit(word, b));
+    change_free(pool, w, without_lowest(word));
     w * 64 + b
 }
 
@@ -271,6 +280,71 @@ fn leave(pool: &mut [u64], k: usize, row: usize, n: usize)
 {
     pool[LINES + k * LINE_WORDS] = row as u64;
     pool[LINES + k * LINE_WORDS + 2] = (n - 1) as u64;
+}
+
+// A word of the free rows that a caller holds from push to push, so that no push has to wait for what the last one stored: word `at` of the
+// pool is `free`, whatever the pool still says. It is one that is not 0, where there is one: a word that is used up is stored at once.
+pub struct Held {
+    pub at: usize,
+    pub free: u64,
+}
+
+// The word that has the lowest free row.
+pub fn hold(pool: &[u64]) -> Held
+    requires { ⌜ (linesAt ≤ length (now pool)) × (summaryOk (now pool) ≡ true) ⌝ }
+    ensures { λ r. ⌜ (released (now (pool .entry)) r ≡ now (pool .entry)) × Holds (now (pool .entry)) r ⌝ }
+{
+    let s = pool[SUMMARY];
+    if s == 0 {
+        return Held {
+            at: 0,
+            free: pool[0],
+        };
+    }
+    let w = lowest(s);
+    Held {
+        at: w,
+        free: pool[w],
+    }
+}
+
+// The word that is held is x now. It stays held, or the next one is where x is 0.
+fn change_held(pool: &mut [u64], held: Held, x: u64) -> Held
+    requires { ⌜ Holds (now pool) held × (0 < held .free) × (linesAt ≤ length (now pool)) × (summaryOk (released (now pool) held) ≡ true) ⌝ }
+    ensures { λ r. ⌜ Freed (released (now (pool .entry)) held) (released (now (pool .exit)) r) (held .at) x × Holds (now (pool .exit)) r ⌝ }
+{
+    if 0 < x {
+        return Held {
+            at: held.at,
+            free: x,
+        };
+    }
+    put_free(pool, held.at, 0);
+    hold(pool)
+}
+
+// A push_back for a caller that holds a word: what is held is another then, and it is the pool with that word released that is pushed to.
+pub fn push_held(pool: &mut [u64], i: usize, j: usize, r: Record, held: Held) -> Held
+    requires { ⌜ (i < 16) × (j < 16) × Holds (now pool) held ⌝ }
+    requires { ⌜ (form (released (now pool) held) ≡ true) × (used (released (now pool) held) < capacity (released (now pool) held)) ⌝ }
+    ensures { λ h. ⌜ Pushed (released (now (pool .entry)) held) (released (now (pool .exit)) h) (i * 16 + j) r × Holds (now (pool .exit)) h ⌝ }
+{
+    let k = i * 16 + j;
+    let at = link_at(pool, k);
+    let n = length_of(pool, k);
+    let b = lowest(held.free);
+    let rest = change_held(pool, held, without_lowest(held.free));
+    join(pool, at, k, held.at * 64 + b, n, r);
+    rest
+}
+
+// Stores the word that is held, which is then held no more.
+pub fn release(pool: &mut [u64], held: Held)
+    requires { ⌜ held .at < length (now pool) ⌝ }
+    ensures { λ _. ⌜ now (pool .exit) ≡ released (now (pool .entry)) held ⌝ }
+{
+    let at = held.at;
+    pool[at] = held.free;
 }
 
 // The record at the head of the line from i to j goes.

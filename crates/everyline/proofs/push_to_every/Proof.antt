@@ -1,23 +1,35 @@
--- `everyline::push_to_every` meets its contract. The loop's invariant: the record is on the lines to the stations passed.
+-- `everyline::push_to_every` meets its contract. The loop's invariant: with the held word released, the record is on the lines to the
+-- stations passed.
 use Prim.Native.Nat.{_≤_, _-_}
 use native.Mathlib.Omega.{arith}
 use borrow.Author.Needs.{needs}
+use Rattle.lines.specs.Holding.{released, Holds}
+use Rattle.lines.proofs.Formed.{holdable}
+use Rattle.lines.proofs.Holding.{length-released}
 use Rattle.everyline.specs.ToEvery.{PushedToEvery}
 use Rattle.everyline.proofs.Turns.{to-none, to-one-more, all-turns}
 use Rattle.everyline.proofs.push_to_every.Statement.{statement}
 use Rattle.everyline.proofs.push_to_every.Tie as tie
 
 abbrev Inv-loop : tie.InvT-loop
-Inv-loop lines₀ from n said to₀ lines to = (to ≤ n) × PushedToEvery lines₀ lines (from .0) to said
+Inv-loop lines₀ from n said held₀ to₀ lines held to = (to ≤ n) × PushedToEvery lines₀ (released lines held) (from .0) to said × Holds lines held
 
 abbrev μ-loop : tie.MeasureT-loop
-μ-loop lines₀ from n said to₀ lines to = n - to
+μ-loop lines₀ from n said held₀ to₀ lines held to = n - to
+
+hold-requires : tie.Need-hold-requires Inv-loop μ-loop
+hold-requires c κs = holdable (c .before .before .args .lines .now) (c .before .before .pre .2)
 
 loop-holds : tie.Need-loop-holds Inv-loop μ-loop
-loop-holds c = (omega arith, to-none (c .before .args .lines .now) (c .before .args .from .0) (c .before .args .said) (c .before .pre .2))
+loop-holds c =
+    let a = c .before .before .before .args in
+    let h = c .hold .ensures in
+    (omega arith, rw (h .0) (to-none (a .lines .now) (a .from .0) (a .said) (c .before .before .before .pre .2)), h .1)
 
-push-back-requires : tie.Need-push-back-requires Inv-loop μ-loop
-push-back-requires c κs = search needs
+push-held-requires : tie.Need-push-held-requires Inv-loop μ-loop
+push-held-requires c κs =
+    let i = c .before .before .loop .inv in
+    ((omega arith, omega arith, i .2), (i .1 .formed, omega (arith, i .1 .more, i .1 .room)))
 
 add-to : tie.Need-add-to Inv-loop μ-loop
 add-to c = search needs
@@ -27,18 +39,44 @@ loop-less c = search needs
 
 loop-again : tie.Need-loop-again Inv-loop μ-loop
 loop-again c =
-    let a = c .before .before .before .before .before .before .before .args in
+    let s = c .before .before .before .before .before .before .before .before .before in
+    let a = s .args in
     let l = c .before .before .before .before .before .loop in
-    (omega arith, to-one-more (a .lines .now) (l .lines) (c .before .before .push-back .last .0) (a .from .0) (l .to) (a .said) (c .before .before .before .before .before .before .before .pre .0) (omega arith) (l .inv .1) (c .before .before .push-back .ensures))
+    let p = c .before .before .push-held in (
+      omega arith,
+      to-one-more (a .lines .now) (released (l .lines) (l .held)) (released (p .last .0) (p .result)) (a .from .0) (l .to) (a .said)
+          (s .pre .0) (omega arith) (l .inv .1) (p .ensures .0),
+      p .ensures .1,
+    )
+
+release-requires : tie.Need-release-requires Inv-loop μ-loop
+release-requires c κs =
+    let s = c .before .before .before .before .before .before in
+    let l = c .before .before .loop in
+    omega (arith, holdable (s .args .lines .now) (s .pre .2) .0, length-released (l .lines) (l .held), l .inv .1 .words, l .inv .2 .low)
 
 same-length : tie.Need-same-length Inv-loop μ-loop
-same-length c = search needs
+same-length c = let l = c .before .before .before .before .before .loop in omega (arith, length-released (l .lines) (l .held), l .inv .1 .words)
 
 returns : tie.Need-returns Inv-loop μ-loop
 returns c =
-    let a = c .before .before .before .args in
-    let l = c .before .loop in
-    all-turns (a .lines .now) (l .lines) (a .from .0) (l .to) (a .n) (a .said) (omega arith) (l .inv .1)
+    let a = c .before .before .before .before .before .before .before .before .before .args in
+    let l = c .before .before .before .before .before .loop in
+    rw (c .before .before .release .ensures)
+    (all-turns (a .lines .now) (released (l .lines) (l .held)) (a .from .0) (l .to) (a .n) (a .said) (omega arith) (l .inv .1))
 
 pub push-to-every-spec : {M : Type 1} → statement M
-push-to-every-spec = tie.close (tie.spec Inv-loop μ-loop loop-holds push-back-requires add-to loop-less loop-again same-length returns)
+push-to-every-spec =
+    tie.close
+    (tie.spec
+    Inv-loop
+    μ-loop
+    hold-requires
+    loop-holds
+    push-held-requires
+    add-to
+    loop-less
+    loop-again
+    release-requires
+    same-length
+    returns)

@@ -26,8 +26,11 @@ lowest-requires-2 c κs =
     let w = c .before .lowest in
     summary-some (s .args .pool .now) (summary-of (s .args .pool .now) (s .pre .1)) (w .result) (w .ensures .1)
 
-without-bit-requires : tie.Need-without-bit-requires
-without-bit-requires c κs = search needs
+without-lowest-requires : tie.Need-without-lowest-requires
+without-lowest-requires c κs =
+    let s = c .before .before .before .before .before .before in
+    let w = c .before .before .before .lowest in
+    summary-some (s .args .pool .now) (summary-of (s .args .pool .now) (s .pre .1)) (w .result) (w .ensures .1)
 
 change-free-requires : tie.Need-change-free-requires
 change-free-requires c κs =
@@ -49,9 +52,10 @@ returns c =
     let s = c .before .before .before .before .before .before .before .before .before .before in
     let w = c .before .before .before .before .before .before .before .lowest in
     let b = c .before .before .before .before .before .lowest2 in
-    let x = c .before .before .before .without-bit in
+    let x = c .before .before .before .without-lowest in
     let p = c .before .before .change-free in
-    take-is (s .args .pool .now) (p .last .0) (w .result) (b .result) (x .result) (s .pre .1) (w .ensures .1) (b .ensures .0) (b .ensures .1) (x .ensures) (p .ensures)
+    take-is (s .args .pool .now) (p .last .0) (w .result) (b .result) (x .result) (s .pre .1) (w .ensures .1)
+    (b .ensures .0) (b .ensures .1) (b .ensures .2) (x .ensures) (p .ensures)
 
 pub take-row-spec : {M : Type 1} → statement M
 take-row-spec =
@@ -62,7 +66,7 @@ take-row-spec =
     mul-word
     slice-read-word
     lowest-requires-2
-    without-bit-requires
+    without-lowest-requires
     change-free-requires
     mul-result
     add-result
