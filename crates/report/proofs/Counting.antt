@@ -9,7 +9,7 @@ use Rattle.protocol.proofs.Tests.{by-lt}
 use Rattle.protocol.specs.Printed.{digitChar, decimal}
 use Rattle.report.specs.declared.Index.{Index}
 use Rattle.report.specs.Lines.{written, Wrote, Shows, lastDigits}
-use Rattle.report.proofs.Octets.{wrote-all, written-halves}
+use Rattle.report.proofs.Octets.{wrote-all}
 use Rattle.report.proofs.Numbers.{digit-small, decimal-one, decimal-more, length-one, length-more, some-digit, length-last}
 
 -- ZEROS BEFORE THE DIGITS
@@ -224,26 +224,11 @@ carry-more (suc i) {number} {first} {l} w e =
 
 -- COPYING THE DIGITS
 
-module _ {d : List ℕ} {x : Index} (s : Shows d x) (l : List ℕ) (at : ℕ) (room : at + 20 ≤ length l) where
-  -- all of them
-  pub index-written : (l₁ : List ℕ) → l₁ ≡ written l at (drop (x .first) d) → Wrote 20 (decimal (x .number)) l l₁ at (at + (20 - x .first))
-  index-written l₁ q =
-      let e = shows-from s in
-      wrote-all l at (decimal (x .number)) (omega arith) (omega arith) (omega arith) (q ∙ ap (λ (k : List ℕ). written l at k) (s .printed))
-
-  -- the first four and the last four
-  pub fours-written : (l₁ l₂ : List ℕ) → 12 ≤ x .first → x .first ≤ 16 → l₁ ≡ written l at (take 4 (drop (x .first) d))
-      → l₂ ≡ written l₁ (at + (20 - x .first) - 4) (take 4 (drop 16 d)) → l₂ ≡ written l at (drop (x .first) d)
-  fours-written l₁ l₂ h k q r =
-      let z = s .size in
-      let y = length-drop (x .first) d in
-      r
-      ∙ ap₂ (λ (a : List ℕ) (n : ℕ). written a n (take 4 (drop 16 d))) q (let z : at + (20 - x .first) - 4 ≡ at + (16 - x .first) = omega arith in z)
-      ∙ ap (λ (b : List ℕ). written (written l at (take 4 (drop (x .first) d))) (at + (16 - x .first)) b) tail
-      ∙ written-halves l at (drop (x .first) d) (16 - x .first) 4 (omega arith) (omega arith) (omega arith)
-    where
-      tail : take 4 (drop 16 d) ≡ drop (16 - x .first) (drop (x .first) d)
-      tail =
-          take-all 4 (drop 16 d) (let z = s .size in let y = length-drop 16 d in omega arith)
-          ∙ ap (λ (n : ℕ). drop n d) (let z : 16 ≡ x .first + (16 - x .first) = omega arith in z)
-          ∙ sym (drop-drop (16 - x .first) (x .first) d)
+pub index-written : {d : List ℕ} {x : Index} → Shows d x → (l l₁ : List ℕ) (at : ℕ) → at + 20 ≤ length l
+    → l₁ ≡ written l at (take (20 - x .first) (drop (x .first) d)) → Wrote 20 (decimal (x .number)) l l₁ at (at + (20 - x .first))
+index-written {d} {x} s l l₁ at room q =
+    let e = shows-from s in
+    let z = s .size in
+    let y = length-drop (x .first) d in
+    wrote-all l at (decimal (x .number)) (omega arith) (omega arith) (omega arith)
+    (q ∙ ap (λ (k : List ℕ). written l at k) (take-all (20 - x .first) (drop (x .first) d) (omega arith) ∙ s .printed))

@@ -2,15 +2,18 @@
 use mathlib.Core.Path.{_≡_, refl, sym, ap, ap₂, _∙_, subst}
 use mathlib.Core.Bool.{Bool, cond}
 use mathlib.Core.List.{List, [], _∷_, _++_, append-assoc, append-nil}
-use Prim.Native.Nat.{ℕ, _+_, _*_, _≤_, _<_}
+use Prim.Native.Nat.{ℕ, zero, suc, _+_, _*_, _/_, _%_, _≤_, _<_}
 use native.Mathlib.Omega.{arith}
-use lib.ListN.{length, set, length-set}
+use lib.ListN.{length, take, set, length-append, length-set}
+use lib.Seq.{length-take-le}
 use borrow.Author.Tests.{eq-eqb, ne-eqb}
+use Rattle.protocol.proofs.Tests.{by-lt}
 use Rattle.protocol.specs.Events.{Report, accepted, refused}
 use Rattle.protocol.specs.Printed.{digitChar, decimal, hexadecimal, field, textField, reportFields, lineOf}
-use Rattle.report.specs.Lines.{written, Wrote, octetsOf}
-use Rattle.report.proofs.Octets.{wrote-one, wrote-all, wrote-then, wrote-wider, pair-stored}
-use Rattle.report.proofs.Numbers.{digit-small, decimal-one, word-of, digit-written}
+use Rattle.report.specs.Lines.{written, Wrote, Began, octetsOf}
+use Rattle.report.proofs.Octets.{written-length, written-one, written-then}
+use Rattle.report.proofs.Octets.{wrote-one, wrote-all, wrote-then, wrote-wider, began-some, began-then, pair-stored}
+use Rattle.report.proofs.Numbers.{digit-small, decimal-one, some-digit, at-most-two, word-of, digit-written, hex-length, hex-front}
 
 pub field-written : (n : ℕ) (l : List ℕ) (at : ℕ) {l₁ : List ℕ} {next : ℕ} → at + 21 ≤ length l → Wrote 20 (decimal n) (set l at 32) l₁ (at + 1) next → Wrote 21 (field n) l l₁ at next
 field-written n l at h w = wrote-then (omega arith) (wrote-one l at 32 (at + 1) (omega arith) refl) w
@@ -35,16 +38,75 @@ fields-short x y l l₁ at h i j q =
         let b = digit-small y j in
         word-of _ 32 (digitChar x) 32 (digitChar y) (omega arith) (omega arith) (omega arith) (omega arith)
 
+-- KIND AND A
+
+short-more : (d : List ℕ) → 1 ≤ length d → length d ≤ 2 → (more : List ℕ) × (length more ≤ 1) × (take 2 (d ++ (32 ∷ [])) ≡ d ++ more)
+short-more [] h k = absurd (omega arith)
+short-more (x ∷ []) h k = (32 ∷ [], omega arith, refl)
+short-more (x ∷ y ∷ []) h k = ([], omega arith, refl)
+short-more (x ∷ y ∷ z ∷ d) h k = absurd (omega arith)
+
+pub head-written : (kind a w n : ℕ) (l l₁ : List ℕ) (at : ℕ) → at + 42 ≤ length l → kind < 10 → a < 100
+    → w % 256 ∷ w / 256 ∷ [] ≡ take 2 (decimal a ++ (32 ∷ [])) → n ≡ length (decimal a)
+    → l₁ ≡ written l at (octetsOf (2109472 + kind * 256 + w % 256 * 16777216))
+    → Began 42 (field kind ++ field a) l (set l₁ (at + 4) (w / 256)) at (at + 3 + n)
+head-written kind a w n l l₁ at h i j e m q =
+    let z = at-most-two a j in
+    let y = length-append (field kind) (field a) in
+    let x = ap (λ (d : List ℕ). length d) (decimal-one kind i) in
+    let v = length-append (field kind ++ field a) (rest .0) in
+    let u = rest .1 in
+    began-some 42 (field kind ++ field a) (rest .0) u (omega arith) (omega arith) (omega arith)
+    (written-one l₁ (at + 4) (w / 256) (let s = ap (λ (k : List ℕ). length k) four in let t = written-length l at front (omega arith) in omega arith)
+    ∙ ap (λ (k : List ℕ). written k (at + 4) (w / 256 ∷ [])) four
+    ∙ written-then l at front (w / 256 ∷ []) (omega arith)
+    ∙ ap (λ (k : List ℕ). written l at (32 ∷ digitChar kind ∷ 32 ∷ k)) (e ∙ rest .2)
+    ∙ ap (λ (k : List ℕ). written l at ((32 ∷ k) ++ field a ++ rest .0)) (sym (decimal-one kind i)))
+  where
+    rest : (more : List ℕ) × (length more ≤ 1) × (take 2 (decimal a ++ (32 ∷ [])) ≡ decimal a ++ more)
+    rest = short-more (decimal a) (some-digit a) (at-most-two a j)
+
+    front : List ℕ
+    front = 32 ∷ digitChar kind ∷ 32 ∷ w % 256 ∷ []
+
+    four : l₁ ≡ written l at front
+    four =
+        q
+        ∙ ap (λ (k : List ℕ). written l at k)
+        (let z = digit-small kind i in word-of _ 32 (digitChar kind) 32 (w % 256) (omega arith) (omega arith) (omega arith) (omega arith))
+
 -- A TEXT
 
-pub text-empty : (text l : List ℕ) (at : ℕ) → length text ≡ 0 → at + 65 ≤ length l → Wrote 65 (textField text) l (set (set l at 32) (at + 1) 45) at (at + 2)
-text-empty [] l at e h = wrote-wider (omega arith) (pair-stored l at 32 45 (omega arith))
-text-empty (x ∷ text) l at e h = absurd (omega arith)
+none-of : (room : List ℕ) (size : ℕ) → size ≡ 0 → take size room ≡ []
+none-of room zero e = refl
+none-of room (suc size) e = absurd (omega arith)
 
-pub text-some : (text l l₁ : List ℕ) (at next : ℕ) → (length text ≡ 0 → ⊥) → at + 65 ≤ length l → Wrote 64 (hexadecimal text) (set l at 32) l₁ (at + 1) next
+pub text-empty : (room l : List ℕ) (at size : ℕ) → size ≡ 0 → at + 65 ≤ length l
+    → Wrote 65 (textField (take size room)) l (set (set l at 32) (at + 1) 45) at (at + 2)
+text-empty room l at size e h = rw (none-of room size e) (wrote-wider (omega arith) (pair-stored l at 32 45 (omega arith)))
+
+some-text : (text l l₁ : List ℕ) (at next : ℕ) → 0 < length text → at + 65 ≤ length l → Wrote 64 (hexadecimal text) (set l at 32) l₁ (at + 1) next
     → Wrote 65 (textField text) l l₁ at next
-text-some [] l l₁ at next e h w = absurd (e refl)
-text-some (x ∷ text) l l₁ at next e h w = wrote-then (omega arith) (wrote-one l at 32 (at + 1) (omega arith) refl) w
+some-text [] l l₁ at next e h w = absurd (omega arith)
+some-text (x ∷ text) l l₁ at next e h w = wrote-then (omega arith) (wrote-one l at 32 (at + 1) (omega arith) refl) w
+
+-- the first digits of a room
+pub text-some : (room digits l l₁ : List ℕ) (at size : ℕ) → (size ≡ 0 → ⊥) → size ≤ 32 → length room ≡ 32 → at + 65 ≤ length l
+    → digits ≡ hexadecimal room → l₁ ≡ written (set l at 32) (at + 1) (take (2 * size) digits) → Wrote 65 (textField (take size room)) l l₁ at (at + 1 + 2 * size)
+text-some room digits l l₁ at size e k r h d q =
+    some-text (take size room) l l₁ at (at + 1 + 2 * size) (let z = few in let y = some in omega arith) h
+    (wrote-all (set l at 32) (at + 1) (hexadecimal (take size room))
+    (let z = long in let y = length-set l at 32 in omega arith) (let z = long in omega arith) (omega arith)
+    (q ∙ ap (λ (a : List ℕ). written (set l at 32) (at + 1) a) (ap (λ (a : List ℕ). take (2 * size) a) d ∙ hex-front size room)))
+  where
+    few : length (take size room) ≡ size
+    few = length-take-le size room (omega arith)
+
+    long : length (hexadecimal (take size room)) ≡ 2 * size
+    long = let z = hex-length (take size room) in let y = few in omega arith
+
+    some : 0 < size
+    some = by-lt 0 size (λ s. s) (λ s. absurd (e (omega arith)))
 
 -- A REPORT
 
@@ -52,13 +114,13 @@ abbrev numbers : Report → List ℕ
 numbers r = field (r .kind) ++ field (r .a) ++ field (r .b) ++ field (r .p) ++ field (r .w)
 
 module _ (r : Report) {l l₁ l₂ l₃ : List ℕ} {at p₁ p₂ p₃ : ℕ} (room : at + 170 ≤ length l)
-    (first : Wrote 42 (field (r .kind) ++ field (r .a)) l l₁ at p₁) (b : Wrote 21 (field (r .b)) l₁ l₂ p₁ p₂)
+    (first : Began 42 (field (r .kind) ++ field (r .a)) l l₁ at p₁) (b : Wrote 21 (field (r .b)) l₁ l₂ p₁ p₂)
     (last : Wrote 42 (field (r .p) ++ field (r .w)) l₂ l₃ p₂ p₃) where
   numbers-written : Wrote 105 (numbers r) l l₃ at p₃
   numbers-written =
       subst (λ (x : List ℕ). Wrote 105 x l l₃ at p₃)
       (sym (append-assoc (field (r .kind) ++ field (r .a) ++ field (r .b)) (field (r .p)) (field (r .w))))
-      (wrote-then (omega arith) (wrote-then (omega arith) first b) last)
+      (wrote-then (omega arith) (began-then (omega arith) first b) last)
 
   pub with-text : {l₄ : List ℕ} {next : ℕ} → r .kind ≡ 4 → Wrote 65 (textField (r .text)) l₃ l₄ p₃ next → Wrote 170 (reportFields r) l l₄ at next
   with-text {l₄} {next} k t =

@@ -3,15 +3,14 @@ use mathlib.Core.Path.{_≡_, refl, sym, ap, ap₂, _∙_, subst}
 use mathlib.Core.List.{List, [], _∷_, _++_, append-assoc, append-nil}
 use Prim.Native.Nat.{ℕ, zero, suc, _+_, _-_, _*_, _/_, _%_, _^_, _≤_, _<_}
 use native.Mathlib.Numerals.{add-one}
-use native.Mathlib.Nat.{add-zero}
 use native.Mathlib.Omega.{arith}
 use lib.ListN.{length, getD, take, set, length-append, length-set}
-use lib.Seq.{take-suc, take-length}
+use lib.Seq.{take-suc, take-all, take-nil, take-at}
 use borrow.Author.Tests.{lt-ltb, le-ltb}
 use Rattle.protocol.proofs.Tests.{by-lt}
 use Rattle.protocol.specs.Printed.{digitChar, decimalDigits, decimal, hexadecimal}
 use Rattle.report.specs.Lines.{written, Wrote, lastDigits, octetsOf}
-use Rattle.report.proofs.Octets.{written-none, written-last, wrote-one, wrote-all, wrote-join, pair-stored, four-stored}
+use Rattle.report.proofs.Octets.{written-none, written-whole, written-last, wrote-one, wrote-all, wrote-join, pair-stored, four-stored}
 
 -- DIGITS
 
@@ -184,17 +183,37 @@ octet-high w x y h e = omega arith
 abbrev pub pairWord : ℕ → ℕ
 pairWord n = 12336 + n * 256 - n / 10 * 2559
 
-pub pair-written : (l : List ℕ) (at n : ℕ) → at + 2 ≤ length l → n < 100
-    → set (set l at (pairWord n % 256)) (at + 1) (pairWord n / 256) ≡ written l at (lastDigits 2 n)
+pair-octets : (n : ℕ) → n < 100 → pairWord n % 256 ∷ pairWord n / 256 ∷ [] ≡ lastDigits 2 n
 unfolding lastDigits
-pair-written l at n h k =
-    pair-stored l at (pairWord n % 256) (pairWord n / 256) h .octets
-    ∙ ap₂ (λ (x y : ℕ). written l at (x ∷ y ∷ []))
+pair-octets n k =
+    ap₂ (λ (x y : ℕ). x ∷ y ∷ [])
     (octet-low (pairWord n) (48 + n / 10 % 10) (48 + n % 10) (omega arith) made ∙ sym (digit-small (n / 10 % 10) (omega arith)))
     (octet-high (pairWord n) (48 + n / 10 % 10) (48 + n % 10) (omega arith) made ∙ sym (digit-small (n % 10) (omega arith)))
   where
     made : pairWord n ≡ 48 + n / 10 % 10 + 256 * (48 + n % 10)
     made = omega arith
+
+pub pair-written : (l : List ℕ) (at n : ℕ) → at + 2 ≤ length l → n < 100
+    → set (set l at (pairWord n % 256)) (at + 1) (pairWord n / 256) ≡ written l at (lastDigits 2 n)
+pair-written l at n h k =
+    pair-stored l at (pairWord n % 256) (pairWord n / 256) h .octets ∙ ap (λ (a : List ℕ). written l at a) (pair-octets n k)
+
+-- the digits of a number below 100, and a blank behind a single one
+pub few-one : (n : ℕ) → n < 10 → (8240 + n) % 256 ∷ (8240 + n) / 256 ∷ [] ≡ take 2 (decimal n ++ (32 ∷ []))
+few-one n h =
+    ap₂ (λ (x y : ℕ). x ∷ y ∷ []) (octet-low (8240 + n) (48 + n) 32 (omega arith) (omega arith) ∙ sym (digit-small n h))
+    (octet-high (8240 + n) (48 + n) 32 (omega arith) (omega arith))
+    ∙ ap (λ (a : List ℕ). take 2 (a ++ (32 ∷ []))) (sym (decimal-one n h))
+
+pub few-two : (n : ℕ) → 10 ≤ n → n < 100 → pairWord n % 256 ∷ pairWord n / 256 ∷ [] ≡ take 2 (decimal n ++ (32 ∷ []))
+few-two n h k =
+    pair-octets n k
+    ∙ ap (λ (w : ℕ). lastDigits w n) (sym (length-two n h k))
+    ∙ sym (all-digits n)
+    ∙ sym (take-at (decimal n) (32 ∷ []) 2 (length-two n h k))
+
+pub at-most-two : (n : ℕ) → n < 100 → length (decimal n) ≤ 2
+at-most-two n h = few-digits 1 n h
 
 pub word-written : (l : List ℕ) (at w : ℕ) → at + 4 ≤ length l
     → set (set (set (set l at (w % 256)) (at + 1) (w / 256 % 256)) (at + 2) (w / 65536 % 256)) (at + 3) (w / 16777216) ≡ written l at (octetsOf w)
@@ -305,24 +324,45 @@ hex-more text i x h e =
     ∙ sym (hex-append (take i text) (getD text i 0 ∷ []))
     ∙ ap (λ (k : List ℕ). hexadecimal k) (sym (take-suc text i 0 h) ∙ ap (λ (n : ℕ). take n text) (sym (add-one i)))
 
-pub hex-stored : (text l l₁ : List ℕ) (at next i x u v : ℕ) → i < length text → length text ≤ 32 → at + 64 ≤ length l → next ≡ at + 2 * i
+pub hex-stored : (text l l₁ : List ℕ) (i x u v : ℕ) → i < 32 → length text ≡ 32 → length l ≡ 64
     → x ≡ getD text i 0 → u ≡ digitChar (x / 16) → v ≡ digitChar (x % 16)
-    → Wrote 64 (hexadecimal (take i text)) l l₁ at next
-    → Wrote 64 (hexadecimal (take (i + 1) text)) l (set (set l₁ next u) (next + 1) v) at (next + 2)
-hex-stored text l l₁ at next i x u v h t r n e eu ev w =
-    subst (λ (a : List ℕ). Wrote 64 a l (set (set l₁ next u) (next + 1) v) at (next + 2)) line
+    → Wrote 64 (hexadecimal (take i text)) l l₁ 0 (2 * i)
+    → Wrote 64 (hexadecimal (take (i + 1) text)) l (set (set l₁ (2 * i) u) (2 * i + 1) v) 0 (2 * (i + 1))
+hex-stored text l l₁ i x u v h t r e eu ev w =
+    subst (λ (a : List ℕ). Wrote 64 a l (set (set l₁ (2 * i) u) (2 * i + 1) v) 0 (2 * (i + 1))) line
     (wrote-join 64 (omega arith) (omega arith) w two)
   where
     line : hexadecimal (take i text) ++ (u ∷ v ∷ []) ≡ hexadecimal (take (i + 1) text)
-    line = ap₂ (λ (y z : ℕ). hexadecimal (take i text) ++ (y ∷ z ∷ [])) eu ev ∙ hex-more text i x h e
+    line = ap₂ (λ (y z : ℕ). hexadecimal (take i text) ++ (y ∷ z ∷ [])) eu ev ∙ hex-more text i x (omega arith) e
 
-    two : Wrote 2 (u ∷ v ∷ []) l₁ (set (set l₁ next u) (next + 1) v) next (next + 2)
-    two = pair-stored l₁ next u v (let k = w .kept in omega arith)
+    two : Wrote 2 (u ∷ v ∷ []) l₁ (set (set l₁ (2 * i) u) (2 * i + 1) v) (2 * i) (2 * (i + 1))
+    two =
+        subst (λ (n : ℕ). Wrote 2 (u ∷ v ∷ []) l₁ (set (set l₁ (2 * i) u) (2 * i + 1) v) (2 * i) n)
+        (let z : 2 * i + 2 ≡ 2 * (i + 1) = omega arith in z)
+        (pair-stored l₁ (2 * i) u v (let k = w .kept in omega arith))
 
-pub hex-none : (text l : List ℕ) (at : ℕ) → Wrote 64 (hexadecimal (take 0 text)) l l at at
+pub hex-none : (text l : List ℕ) → Wrote 64 (hexadecimal (take 0 text)) l l 0 0
 unfolding hexadecimal
-hex-none text l at = record { octets = sym (written-none l at); behind = sym (add-zero at); few = omega arith; kept = refl }
+hex-none text l = record { octets = sym (written-none l 0); behind = refl; few = omega arith; kept = refl }
 
-pub hex-done : (text l l₁ : List ℕ) (at next i : ℕ) → i ≡ length text → Wrote 64 (hexadecimal (take i text)) l l₁ at next → Wrote 64 (hexadecimal text) l l₁ at next
-hex-done text l l₁ at next i e w =
-    subst (λ (a : List ℕ). Wrote 64 (hexadecimal a) l l₁ at next) (ap (λ (n : ℕ). take n text) e ∙ take-length text) w
+pub hex-length : (text : List ℕ) → length (hexadecimal text) ≡ 2 * length text
+unfolding hexadecimal
+hex-length [] = refl
+hex-length (x ∷ text) = let z = hex-length text in omega arith
+
+pub hex-done : (text l l₁ : List ℕ) (i : ℕ) → i ≡ 32 → length text ≡ 32 → length l ≡ 64 → Wrote 64 (hexadecimal (take i text)) l l₁ 0 (2 * i)
+    → l₁ ≡ hexadecimal text
+hex-done text l l₁ i e t r w =
+    w .octets
+    ∙ ap (λ (a : List ℕ). written l 0 (hexadecimal a)) (take-all i text (omega arith))
+    ∙ written-whole l (hexadecimal text) (let z = hex-length text in omega arith)
+
+-- the first octets have the first digits
+pub hex-front : (size : ℕ) (text : List ℕ) → take (2 * size) (hexadecimal text) ≡ hexadecimal (take size text)
+unfolding hexadecimal
+hex-front zero text = refl
+hex-front (suc size) [] = take-nil (2 * suc size)
+hex-front (suc size) (x ∷ text) =
+    ap (λ (n : ℕ). take n (digitChar (x / 16) ∷ digitChar (x % 16) ∷ hexadecimal text))
+    (let z : 2 * suc size ≡ suc (suc (2 * size)) = omega arith in z)
+    ∙ ap (λ (a : List ℕ). digitChar (x / 16) ∷ digitChar (x % 16) ∷ a) (hex-front size text)

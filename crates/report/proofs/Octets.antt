@@ -1,14 +1,14 @@
 -- Laws of octets written one after the other.
 use mathlib.Core.Path.{_≡_, refl, sym, ap, ap₂, _∙_}
 use mathlib.Core.List.{List, [], _∷_, _++_, append-assoc, append-nil}
-use Prim.Native.Nat.{ℕ, suc, _+_, _-_, _≤_, _<_}
+use Prim.Native.Nat.{ℕ, suc, _+_, _-_, _*_, _≤_, _<_}
 use native.Mathlib.Numerals.{add-one}
 use native.Mathlib.Nat.{add-zero}
 use native.Mathlib.Omega.{arith}
-use lib.ListN.{length, getD, take, drop, set, length-append, length-drop, length-set, take-append-drop}
+use lib.ListN.{length, getD, take, drop, set, length-append, length-drop, length-set, take-append-drop, drop-of-length-le}
 use lib.Seq.{length-take-le, append-snoc, set-split, take-set-le, take-length, take-take, take-append-le, take-append-add}
-use lib.Seq.{drop-cons, drop-at, drop-append-add, drop-drop, getD-drop, paste, paste-suc}
-use Rattle.report.specs.Lines.{written, Wrote}
+use lib.Seq.{take-add, take-append-seam, drop-at, drop-append-add, drop-drop, getD-drop, paste, paste-suc}
+use Rattle.report.specs.Lines.{written, Wrote, Began}
 
 -- what is written first ends at at + length a
 head-length : (l : List ℕ) (at : ℕ) (a : List ℕ) → at ≤ length l → length (take at l ++ a) ≡ at + length a
@@ -68,15 +68,10 @@ pub written-then : (l : List ℕ) (at : ℕ) (a b : List ℕ) → at + length a 
 written-then l at a b h =
     written-over l at a b (length a) h (omega arith) (omega arith) ∙ ap (λ (x : List ℕ). written l at (x ++ b)) (take-length a)
 
--- a front and an end that overlap
-pub written-halves : (l : List ℕ) (at : ℕ) (a : List ℕ) (j k : ℕ) → j ≤ k → k ≤ length a → at + length a ≤ length l
-    → written (written l at (take k a)) (at + j) (drop j a) ≡ written l at a
-written-halves l at a j k h m r =
-    let z = length-take-le k a m in
-    let y = length-drop j a in
-    written-over l at (take k a) (drop j a) j (omega arith) (omega arith) (omega arith)
-    ∙ ap (λ (x : List ℕ). written l at (x ++ drop j a)) (take-take j k a h)
-    ∙ ap (λ (x : List ℕ). written l at x) (take-append-drop j a)
+-- written over all there is
+pub written-whole : (l a : List ℕ) → length a ≡ length l → written l 0 a ≡ a
+unfolding written
+written-whole l a e = ap (λ (b : List ℕ). a ++ b) (drop-of-length-le l {i = 0 + length a} (omega arith)) ∙ append-nil a
 
 -- the last octet stored first
 pub written-last : (l : List ℕ) (at : ℕ) (a : List ℕ) (x : ℕ) → at + length a < length l → written (set l (at + length a) x) at a ≡ written l at (a ++ (x ∷ []))
@@ -116,6 +111,39 @@ wrote-join n {m} {k} {at} {p} {q} {a} {b} {l} {l₁} {l₂} h f u v =
 pub wrote-then : {m k at p q : ℕ} {a b l l₁ l₂ : List ℕ} → at + m ≤ length l → Wrote m a l l₁ at p → Wrote k b l₁ l₂ p q → Wrote (m + k) (a ++ b) l l₂ at q
 wrote-then {m} {k} h u v = wrote-join (m + k) (let z = u .few in omega arith) (let z = u .few in let w = v .few in omega arith) u v
 
+-- a line, with an octet behind it or none, and what is written over that
+pub began-some : (most : ℕ) {l l₁ : List ℕ} {at next : ℕ} (line more : List ℕ) → length more ≤ 1 → at + length (line ++ more) ≤ length l
+    → next ≡ at + length line → next ≤ at + most → l₁ ≡ written l at (line ++ more) → Began most line l l₁ at next
+began-some most {l} {l₁} {at} {next} line more s h e f q =
+    record {
+      octets = λ b some.
+          ap₂ (λ (x : List ℕ) (n : ℕ). written x n b) q e
+          ∙ written-over l at (line ++ more) b (length line) h
+          (let z = length-append line more in omega arith) (let z = length-append line more in omega arith)
+          ∙ ap (λ (x : List ℕ). written l at (x ++ b)) (take-append-seam line more);
+      behind = e;
+      few = f;
+      kept = ap (λ (k : List ℕ). length k) q ∙ written-length l at (line ++ more) h;
+    }
+
+pub began-all : {m at p : ℕ} {a l l₁ : List ℕ} → p ≤ length l → Wrote m a l l₁ at p → Began m a l l₁ at p
+began-all {m} {at} {p} {a} {l} {l₁} h u =
+    record {
+      octets = λ b some. ap₂ (λ (x : List ℕ) (i : ℕ). written x i b) (u .octets) (u .behind) ∙ written-then l at a b (let z = u .behind in omega arith);
+      behind = u .behind;
+      few = u .few;
+      kept = u .kept;
+    }
+
+pub began-then : {m k at p q : ℕ} {a b l l₁ l₂ : List ℕ} → 0 < length b → Began m a l l₁ at p → Wrote k b l₁ l₂ p q → Wrote (m + k) (a ++ b) l l₂ at q
+began-then {m} {k} {at} {p} {q} {a} {b} h u v =
+    record {
+      octets = v .octets ∙ u .octets b h;
+      behind = let z = u .behind in let w = v .behind in let y = length-append a b in omega arith;
+      few = let z = u .few in let w = v .few in omega arith;
+      kept = v .kept ∙ u .kept;
+    }
+
 -- more room than it takes
 pub wrote-wider : {m k at p : ℕ} {a l l₁ : List ℕ} → m ≤ k → Wrote m a l l₁ at p → Wrote k a l l₁ at p
 wrote-wider h u = record { octets = u .octets; behind = u .behind; few = let z = u .few in omega arith; kept = u .kept }
@@ -148,38 +176,58 @@ four-stored l at x y z u h =
 
 -- COPIES
 
-octet-read : (d : List ℕ) (i j n : ℕ) → i < length d → suc i ≡ j → take (suc n) (drop i d) ≡ getD d i 0 ∷ take n (drop j d)
-octet-read d i j n h e =
-    ap (λ (k : List ℕ). take (suc n) k) (drop-cons d i 0 h) ∙ ap (λ (k : ℕ). getD d i 0 ∷ take n (drop k d)) e
-
-four-read : (d : List ℕ) (i : ℕ) → i + 4 ≤ length d → getD d i 0 ∷ getD d (i + 1) 0 ∷ getD d (i + 2) 0 ∷ getD d (i + 3) 0 ∷ [] ≡ take 4 (drop i d)
-four-read d i h =
-    sym
-    (octet-read d i (i + 1) 3 (omega arith) (omega arith)
-    ∙ ap (λ (k : List ℕ). getD d i 0 ∷ k)
-    (octet-read d (i + 1) (i + 2) 2 (omega arith) (omega arith)
-    ∙ ap (λ (k : List ℕ). getD d (i + 1) 0 ∷ k)
-    (octet-read d (i + 2) (i + 3) 1 (omega arith) (omega arith)
-    ∙ ap (λ (k : List ℕ). getD d (i + 2) 0 ∷ k) (octet-read d (i + 3) (i + 4) 0 (omega arith) (omega arith)))))
-
-pub four-copied : (l d : List ℕ) (at i : ℕ) → at + 4 ≤ length l → i + 4 ≤ length d
-    → set (set (set (set l at (getD d i 0)) (at + 1) (getD d (i + 1) 0)) (at + 2) (getD d (i + 2) 0)) (at + 3) (getD d (i + 3) 0)
-    ≡ written l at (take 4 (drop i d))
-four-copied l d at i h k =
-    four-stored l at (getD d i 0) (getD d (i + 1) 0) (getD d (i + 2) 0) (getD d (i + 3) 0) h .octets
-    ∙ ap (λ (a : List ℕ). written l at a) (four-read d i k)
-
--- one octet more of those from a position on, and all of them
-pub rest-more : (l l₁ d : List ℕ) (at first k : ℕ) → at + k < length l → first + k < length d → l₁ ≡ paste l at (drop first d) k
+-- one octet more of those from a position on, and so many of them
+pub part-more : (l l₁ d : List ℕ) (at first k : ℕ) → at + k < length l → first + k < length d → l₁ ≡ paste l at (drop first d) k
     → set l₁ (at + k) (getD d (first + k) 0) ≡ paste l at (drop first d) (k + 1)
-rest-more l l₁ d at first k h i q =
+part-more l l₁ d at first k h i q =
     ap₂ (λ (a : List ℕ) (x : ℕ). set a (at + k) x) q (sym (getD-drop first d k 0))
     ∙ paste-suc l at (drop first d) k 0 h (let z = length-drop first d in omega arith)
     ∙ ap (λ (n : ℕ). paste l at (drop first d) n) (sym (add-one k))
 
-pub rest-copied : (l l₁ d : List ℕ) (at first k : ℕ) → k ≡ length d - first → l₁ ≡ paste l at (drop first d) k → l₁ ≡ written l at (drop first d)
+pub part-copied : (l l₁ d : List ℕ) (at first k count : ℕ) → k ≡ count → first + count ≤ length d → l₁ ≡ paste l at (drop first d) k
+    → l₁ ≡ written l at (take count (drop first d))
 unfolding written
-rest-copied l l₁ d at first k e q =
+part-copied l l₁ d at first k count e h q =
     q
-    ∙ ap (λ (n : ℕ). paste l at (drop first d) n) (e ∙ sym (length-drop first d))
-    ∙ ap (λ (a : List ℕ). take at l ++ a ++ drop (at + length (drop first d)) l) (take-length (drop first d))
+    ∙ ap (λ (n : ℕ). paste l at (drop first d) n) e
+    ∙ ap (λ (n : ℕ). take at l ++ take count (drop first d) ++ drop (at + n) l)
+    (sym (length-take-le count (drop first d) (let z = length-drop first d in omega arith)))
+
+-- two parts of one length, from the front and up to the end, which overlap
+pub halves-copied : (l l₁ l₂ d : List ℕ) (at first count half : ℕ) → half ≤ count → count ≤ 2 * half → at + count ≤ length l
+    → first + count ≤ length d → l₁ ≡ written l at (take half (drop first d))
+    → l₂ ≡ written l₁ (at + count - half) (take half (drop (first + count - half) d))
+    → l₂ ≡ written l at (take count (drop first d))
+halves-copied l l₁ l₂ d at first count half h k r i q w =
+    w
+    ∙ ap₂ (λ (a : List ℕ) (n : ℕ). written a n (take half (drop (first + count - half) d))) q place
+    ∙ ap (λ (b : List ℕ). written (written l at (take half x)) (at + j) (take half b)) behind
+    ∙ written-over l at (take half x) (take half (drop j x)) j (let z = front in omega arith)
+    (let z = front in omega arith) (let z = front in let y = back in omega arith)
+    ∙ ap (λ (a : List ℕ). written l at (a ++ take half (drop j x))) (take-take j half x (omega arith))
+    ∙ ap (λ (a : List ℕ). written l at a) (sym (take-add j half x) ∙ ap (λ (n : ℕ). take n x) whole)
+  where
+    j : ℕ
+    j = count - half
+
+    x : List ℕ
+    x = drop first d
+
+    place : at + count - half ≡ at + (count - half)
+    place = omega arith
+
+    whole : count - half + half ≡ count
+    whole = omega arith
+
+    front : length (take half (drop first d)) ≡ half
+    front = length-take-le half (drop first d) (let z = length-drop first d in omega arith)
+
+    behind : drop (first + count - half) d ≡ drop (count - half) (drop first d)
+    behind =
+        ap (λ (n : ℕ). drop n d) (let z : first + count - half ≡ first + (count - half) = omega arith in z)
+        ∙ sym (drop-drop (count - half) first d)
+
+    back : length (take half (drop (count - half) (drop first d))) ≡ half
+    back =
+        length-take-le half (drop (count - half) (drop first d))
+        (let z = length-drop first d in let y = length-drop (count - half) (drop first d) in omega arith)

@@ -22,6 +22,13 @@ pub record Wrote (most : ℕ) (line l l′ : List ℕ) (at next : ℕ) : Type 0 
   pub few : next ≤ at + most
   pub kept : length l′ ≡ length l
 
+-- the same, where octets behind the line may have changed: whatever is written there next covers them
+pub record Began (most : ℕ) (line l l′ : List ℕ) (at next : ℕ) : Type 0 where
+  pub octets : (b : List ℕ) → 0 < length b → written l′ next b ≡ written l at (line ++ b)
+  pub behind : next ≡ at + length line
+  pub few : next ≤ at + most
+  pub kept : length l′ ≡ length l
+
 -- LINES
 
 -- what an event reports, with the text of a radio step: "index from 0, kind, a, b, p, w"

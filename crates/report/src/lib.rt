@@ -2,11 +2,11 @@
 // the caller lends; everything before it and behind it stays.
 ghost use mathlib.Core.Path.{_≡_};
 ghost use mathlib.Core.List.{[], _∷_, _++_};
-ghost use Prim.Native.Nat.{_+_, _<_, _≤_};
+ghost use Prim.Native.Nat.{_+_, _*_, _/_, _%_, _<_, _≤_};
 ghost use lib.ListN.{length, take, drop};
 ghost use Rattle.protocol.specs.Events.{refused};
 ghost use Rattle.protocol.specs.Printed.{digitChar, decimal, hexadecimal, field, textField, reportFields, lineOf};
-ghost use Rattle.report.specs.Lines.{written, Wrote, Shows, lastDigits, octetsOf, reportIn, acceptedIn, longestLine, longestRefusal};
+ghost use Rattle.report.specs.Lines.{written, Wrote, Began, Shows, lastDigits, octetsOf, reportIn, acceptedIn, longestLine, longestRefusal};
 
 // What an accepted event reports.
 pub struct Report {
@@ -192,30 +192,30 @@ pub fn count_up(digits: &mut [u8], index: Index) -> Index
     Index { number, first }
 }
 
-// Four octets, which the compiler moves as one word.
-fn copy_four(out: &mut [u8], at: usize, from: &[u8], i: usize)
-    requires { ⌜ (at + 4 ≤ length (now out)) × (i + 4 ≤ length (now from)) ⌝ }
-    ensures { λ r. ⌜ now (out .exit) ≡ written (now (out .entry)) at (take 4 (drop i (now (from .entry)))) ⌝ }
-{
-    out[at] = from[i];
-    out[at + 1] = from[i + 1];
-    out[at + 2] = from[i + 2];
-    out[at + 3] = from[i + 3];
-}
-
-// All octets from a position on, one after the other.
-fn copy_rest(out: &mut [u8], at: usize, from: &[u8], first: usize)
-    requires { ⌜ (first ≤ length (now from)) × (at + length (now from) ≤ length (now out) + first) ⌝ }
-    ensures { λ r. ⌜ now (out .exit) ≡ written (now (out .entry)) at (drop first (now (from .entry))) ⌝ }
+// Octets from a position on, so many. Where that is a constant, the compiler moves them as a word or two.
+fn copy_part(out: &mut [u8], at: usize, from: &[u8], first: usize, count: usize)
+    requires { ⌜ (at + count ≤ length (now out)) × (first + count ≤ length (now from)) ⌝ }
+    ensures { λ r. ⌜ now (out .exit) ≡ written (now (out .entry)) at (take count (drop first (now (from .entry)))) ⌝ }
 {
     let mut k: usize = 0;
-    while k < from.len() - first {
+    while k < count {
         out[at + k] = from[first + k];
         k += 1;
     }
 }
 
-// The index. Of four to eight digits, which most have, the first four and the last four are moved, and may overlap.
+// The same by two parts of one length, which is a constant: one from the front, and one that ends at the end. They may overlap, so that no
+// branch asks how many octets there are.
+fn copy_halves(out: &mut [u8], at: usize, from: &[u8], first: usize, count: usize, half: usize)
+    requires { ⌜ (at + count ≤ length (now out)) × (first + count ≤ length (now from)) ⌝ }
+    requires { ⌜ (half ≤ count) × (count ≤ 2 * half) ⌝ }
+    ensures { λ r. ⌜ now (out .exit) ≡ written (now (out .entry)) at (take count (drop first (now (from .entry)))) ⌝ }
+{
+    copy_part(out, at, from, first, half);
+    copy_part(out, at + count - half, from, first + count - half, half);
+}
+
+// The index. Most have four to eight digits.
 fn put_index(out: &mut [u8], at: usize, digits: &[u8], index: Index) -> usize
     requires { ⌜ (at + 20 ≤ length (now out)) × Shows (now digits) index ⌝ }
     ensures { λ r. ⌜ Wrote 20 (decimal (index .number)) (now (out .entry)) (now (out .exit)) at r ⌝ }
@@ -223,15 +223,14 @@ fn put_index(out: &mut [u8], at: usize, digits: &[u8], index: Index) -> usize
     let first = index.first;
     let count = 20 - first;
     if count < 4 {
-        copy_rest(out, at, digits, first);
+        copy_part(out, at, digits, first, count);
         return at + count;
     }
     if 8 < count {
-        copy_rest(out, at, digits, first);
+        copy_part(out, at, digits, first, count);
         return at + count;
     }
-    copy_four(out, at, digits, first);
-    copy_four(out, at + count - 4, digits, 16);
+    copy_halves(out, at, digits, first, count, 4);
     at + count
 }
 
@@ -263,64 +262,111 @@ fn put_two_fields(out: &mut [u8], at: usize, x: u64, y: u64) -> usize
     put_field(out, next, y)
 }
 
-// Octets in lower-case hexadecimal.
-fn put_hexadecimal(out: &mut [u8], at: usize, text: &[u8]) -> usize
-    requires { ⌜ (at + 64 ≤ length (now out)) × (length (now text) ≤ 32) ⌝ }
-    ensures { λ r. ⌜ Wrote 64 (hexadecimal (now (text .entry))) (now (out .entry)) (now (out .exit)) at r ⌝ }
+// The digits of a number below 100 side by side in a word; behind a single one stands a blank.
+fn few_word(n: u64) -> u64
+    requires { ⌜ n < 100 ⌝ }
+    ensures { λ r. ⌜ (r < 65536) × (r % 256 ∷ r / 256 ∷ [] ≡ take 2 (decimal n ++ (32 ∷ []))) ⌝ }
 {
-    let mut next = at;
-    let mut i: usize = 0;
-    while i < text.len() {
-        let x = wide(text[i]);
-        out[next] = digit(x / 16);
-        out[next + 1] = digit(x % 16);
-        next += 2;
-        i += 1;
+    if n < 10 {
+        return 8240 + n;
     }
-    next
+    12336 + n * 256 - n / 10 * 2559
 }
 
-// A blank and a text: "in lower-case hexadecimal, - if empty".
-fn put_text(out: &mut [u8], at: usize, text: &[u8]) -> usize
-    requires { ⌜ (at + 65 ≤ length (now out)) × (length (now text) ≤ 32) ⌝ }
-    ensures { λ r. ⌜ Wrote 65 (textField (now (text .entry))) (now (out .entry)) (now (out .exit)) at r ⌝ }
+// Kind and a, of which no branch asks how many digits it has: where it has one, the blank of the field behind it is written too.
+fn put_head(out: &mut [u8], at: usize, kind: u64, a: u64) -> usize
+    requires { ⌜ at + 42 ≤ length (now out) ⌝ }
+    ensures { λ r. ⌜ Began 42 (field kind ++ field a) (now (out .entry)) (now (out .exit)) at r ⌝ }
+{
+    if 9 < kind {
+        return put_two_fields(out, at, kind, a);
+    }
+    if 99 < a {
+        return put_two_fields(out, at, kind, a);
+    }
+    let word = few_word(a);
+    put_word(out, at, 2109472 + kind * 256 + word % 256 * 16777216);
+    out[at + 4] = (word / 256) as u8;
+    at + 3 + digits_of(a)
+}
+
+// A room's octets in lower-case hexadecimal, all of them: the loop has a constant length, so the compiler makes straight code of it.
+fn room_digits(digits: &mut [u8], room: &[u8])
+    requires { ⌜ (length (now digits) ≡ 64) × (length (now room) ≡ 32) ⌝ }
+    ensures { λ r. ⌜ now (digits .exit) ≡ hexadecimal (now (room .entry)) ⌝ }
+{
+    let mut i: usize = 0;
+    while i < 32 {
+        let x = wide(room[i]);
+        digits[2 * i] = digit(x / 16);
+        digits[2 * i + 1] = digit(x % 16);
+        i += 1;
+    }
+}
+
+// The first digits of a room, so many. How many is not to be guessed, so only the few of a short text are moved one by one.
+fn copy_digits(out: &mut [u8], at: usize, digits: &[u8], count: usize)
+    requires { ⌜ (at + count ≤ length (now out)) × (length (now digits) ≡ 64) × (count ≤ 64) ⌝ }
+    ensures { λ r. ⌜ now (out .exit) ≡ written (now (out .entry)) at (take count (now (digits .entry))) ⌝ }
+{
+    if 32 <= count {
+        return copy_halves(out, at, digits, 0, count, 32);
+    }
+    if 16 <= count {
+        return copy_halves(out, at, digits, 0, count, 16);
+    }
+    if 8 <= count {
+        return copy_halves(out, at, digits, 0, count, 8);
+    }
+    copy_part(out, at, digits, 0, count);
+}
+
+// A blank and a text, the first octets of its room: "in lower-case hexadecimal, - if empty".
+fn put_text(out: &mut [u8], at: usize, room: &[u8], size: usize) -> usize
+    requires { ⌜ (at + 65 ≤ length (now out)) × (length (now room) ≡ 32) × (size ≤ 32) ⌝ }
+    ensures { λ r. ⌜ Wrote 65 (textField (take size (now (room .entry)))) (now (out .entry)) (now (out .exit)) at r ⌝ }
 {
     out[at] = b' ';
-    if text.len() == 0 {
+    if size == 0 {
         out[at + 1] = b'-';
         return at + 2;
     }
-    put_hexadecimal(out, at + 1, text)
+    let mut digits = [0u8; 64];
+    room_digits(&mut digits, room);
+    copy_digits(out, at + 1, &digits, 2 * size);
+    at + 1 + 2 * size
 }
 
 // "kind, a, b, p, w", and "Radio adds the text".
-fn put_fields(out: &mut [u8], at: usize, r: Report, text: &[u8]) -> usize
-    requires { ⌜ (at + 170 ≤ length (now out)) × (length (now text) ≤ 32) ⌝ }
-    ensures { λ n. ⌜ Wrote 170 (reportFields (reportIn r (now (text .entry)))) (now (out .entry)) (now (out .exit)) at n ⌝ }
+fn put_fields(out: &mut [u8], at: usize, r: Report, room: &[u8], size: usize) -> usize
+    requires { ⌜ (at + 170 ≤ length (now out)) × (length (now room) ≡ 32) × (size ≤ 32) ⌝ }
+    ensures { λ n. ⌜ Wrote 170 (reportFields (reportIn r (take size (now (room .entry))))) (now (out .entry)) (now (out .exit)) at n ⌝ }
 {
-    let a = put_two_fields(out, at, r.kind, r.a);
+    let a = put_head(out, at, r.kind, r.a);
     let b = put_field(out, a, r.b);
     let w = put_two_fields(out, b, r.p, r.w);
     if r.kind == 4 {
-        return put_text(out, w, text);
+        return put_text(out, w, room, size);
     }
     w
 }
 
-// The line of an accepted event; of a radio step with the text that was handed over. The position behind the line is returned.
+// The line of an accepted event; of a radio step with the text that was handed over, which is lent with all its room. The position behind the
+// line is returned.
 pub fn put_line(
     out: &mut [u8],
     at: usize,
     digits: &[u8],
     index: Index,
     r: Report,
-    text: &[u8],
+    room: &[u8],
+    size: usize,
 ) -> usize
-    requires { ⌜ (at + longestLine ≤ length (now out)) × (length (now text) ≤ 32) × Shows (now digits) index ⌝ }
-    ensures { λ n. ⌜ Wrote longestLine (lineOf (index .number) (acceptedIn r (now (text .entry)))) (now (out .entry)) (now (out .exit)) at n ⌝ }
+    requires { ⌜ (at + longestLine ≤ length (now out)) × (length (now room) ≡ 32) × (size ≤ 32) × Shows (now digits) index ⌝ }
+    ensures { λ n. ⌜ Wrote longestLine (lineOf (index .number) (acceptedIn r (take size (now (room .entry))))) (now (out .entry)) (now (out .exit)) at n ⌝ }
 {
     let number = put_index(out, at, digits, index);
-    let fields = put_fields(out, number, r, text);
+    let fields = put_fields(out, number, r, room, size);
     out[fields] = b'\n';
     fields + 1
 }

@@ -7,7 +7,7 @@ use Prim.Native.Nat.{ℕ, _+_, _-_, _*_, _≤_}
 use native.Mathlib.Omega.{arith}
 use lib.Dec.{eqb, ltb}
 use lib.ListN.{length, take, drop, length-take}
-use lib.Seq.{drop-drop}
+use lib.Seq.{take-take, drop-drop}
 use borrow.Author.Tests.{eqb-true, ne-eqb}
 use denote.Enum.Declared.{tagOf}
 use types.Run.{OneOf, miss}
@@ -129,12 +129,12 @@ module _ (T : List ℕ) (r : Told) (index : ℕ) (out out′ : List ℕ) (at nex
       rw q
       (let few = w .few in record { octets = w .octets; behind = w .behind; few = omega arith; kept = w .kept })
 
-  -- and the text of a report is that part of the texts
-  pub told-line : r .«is_refused» ≡ false
-      → Line (accepted (reportIn (r .report) (take (r .room * 32 + r .size - r .room * 32) (drop (r .room * 32) T)))) → Line (toldIn T r)
-  told-line q w =
-      let size : r .room * 32 + r .size - r .room * 32 ≡ r .size = omega arith in
-      rw q (subst (λ (k : ℕ). Line (accepted (reportIn (r .report) (take k (drop (r .room * 32) T))))) size w)
+  -- and the text of a report is the front of its room
+  pub told-line : r .«is_refused» ≡ false → r .size ≤ 32
+      → Line (accepted (reportIn (r .report) (take (r .size) (take (r .room * 32 + 32 - r .room * 32) (drop (r .room * 32) T))))) → Line (toldIn T r)
+  told-line q h w =
+      let text = take-take (r .size) (r .room * 32 + 32 - r .room * 32) (drop (r .room * 32) T) (omega arith) in
+      rw q (subst (λ (a : List ℕ). Line (accepted (reportIn (r .report) a))) text w)
 
 -- "not started"
 pub before-any : (L : Lent) → floorIn L .started ≡ false → (l : List ℕ) (e : Event) → sizeOf e ≤ 48 → OneOf (1 ∷ 2 ∷ 3 ∷ 4 ∷ 5 ∷ []) (tagOf event-type e) → Met L L (eventIn l e) (refused 5)

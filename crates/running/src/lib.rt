@@ -197,7 +197,8 @@ fn happen(
     on_floor(stations, carts, messages, lines, texts, input, at, e)
 }
 
-// The line of what an event came to, with the index that the digits show.
+// The line of what an event came to, with the index that the digits show. All the room of its text is lent, so that no loop runs as often as
+// the text is long.
 fn print(out: &mut [u8], texts: &[u8], at: usize, digits: &[u8], index: Index, told: Told) -> usize
     requires { ⌜ (at + longestLine ≤ length (now out)) × (length (now texts) ≡ 1024) × Within told ⌝ }
     requires { ⌜ Shows (now digits) index ⌝ }
@@ -207,8 +208,16 @@ fn print(out: &mut [u8], texts: &[u8], at: usize, digits: &[u8], index: Index, t
         return report::put_refusal(out, at, digits, index, told.refusal);
     }
     let from = told.room * TEXT;
-    let end = from + told.size;
-    report::put_line(out, at, digits, index, told.report, &texts[from..end])
+    let end = from + TEXT;
+    report::put_line(
+        out,
+        at,
+        digits,
+        index,
+        told.report,
+        &texts[from..end],
+        told.size,
+    )
 }
 
 // How far a piece of input was run: the octets read from its front, the octets written to the front of the output, the frames, and why it

@@ -1,18 +1,19 @@
 -- `report::put_fields` meets its contract.
+use lib.ListN.{take}
 use Rattle.report.specs.Lines.{reportIn}
 use Rattle.report.proofs.Fields.{with-text, without-text}
 use borrow.Author.Needs.{needs}
 use Rattle.report.proofs.put_fields.Statement.{statement}
 use Rattle.report.proofs.put_fields.Tie as tie
 
-put-two-fields-requires : tie.Need-put-two-fields-requires
-put-two-fields-requires c κs = search needs
+put-head-requires : tie.Need-put-head-requires
+put-head-requires c κs = search needs
 
 put-field-requires : tie.Need-put-field-requires
 put-field-requires c κs = search needs
 
-put-two-fields-requires-2 : tie.Need-put-two-fields-requires-2
-put-two-fields-requires-2 c κs = search needs
+put-two-fields-requires : tie.Need-put-two-fields-requires
+put-two-fields-requires c κs = search needs
 
 put-text-requires : tie.Need-put-text-requires
 put-text-requires c κs = search needs
@@ -28,8 +29,8 @@ returns c =
     let b = w .before .before .before .before in
     let a = b .before .before .before .before in
     let s = a .before .before .before .before in
-    with-text (reportIn (s .args .r) (s .args .text .now)) (s .pre .0) (a .put-two-fields .ensures) (b .put-field .ensures)
-    (w .put-two-fields2 .ensures) (k .if1 .taken) (t .put-text .ensures)
+    with-text (reportIn (s .args .r) (take (s .args .size) (s .args .room .now))) (s .pre .0) (a .put-head .ensures) (b .put-field .ensures)
+    (w .put-two-fields .ensures) (k .if1 .taken) (t .put-text .ensures)
 
 same-length-2 : tie.Need-same-length-2
 same-length-2 c = search needs
@@ -40,16 +41,16 @@ returns-2 c =
     let b = w .before .before .before .before in
     let a = b .before .before .before .before in
     let s = a .before .before .before .before in
-    without-text (reportIn (s .args .r) (s .args .text .now)) (s .pre .0) (a .put-two-fields .ensures) (b .put-field .ensures)
-    (w .put-two-fields2 .ensures) (c .if1 .left)
+    without-text (reportIn (s .args .r) (take (s .args .size) (s .args .room .now))) (s .pre .0) (a .put-head .ensures) (b .put-field .ensures)
+    (w .put-two-fields .ensures) (c .if1 .left)
 
 pub put-fields-spec : {M : Type 1} → statement M
 put-fields-spec =
     tie.close
     (tie.spec
-    put-two-fields-requires
+    put-head-requires
     put-field-requires
-    put-two-fields-requires-2
+    put-two-fields-requires
     put-text-requires
     same-length
     returns

@@ -1,4 +1,5 @@
 -- `report::put_line` meets its contract.
+use lib.ListN.{take}
 use Rattle.report.specs.Lines.{reportIn}
 use Rattle.report.proofs.Fields.{line-written}
 use borrow.Author.Needs.{needs}
@@ -22,7 +23,8 @@ returns c =
     let f = c .before .before in
     let d = f .before .before .before .before in
     let s = d .before .before .before .before .before in
-    line-written (s .args .index .number) (reportIn (s .args .r) (s .args .text .now)) (s .pre .0) (d .put-index .ensures) (f .put-fields .ensures)
+    line-written (s .args .index .number) (reportIn (s .args .r) (take (s .args .size) (s .args .room .now))) (s .pre .0) (d .put-index .ensures)
+    (f .put-fields .ensures)
 
 same-length : tie.Need-same-length
 same-length c = returns c .kept

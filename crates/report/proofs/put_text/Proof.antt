@@ -22,20 +22,45 @@ same-length : tie.Need-same-length
 same-length c = search needs
 
 returns : tie.Need-returns
-returns c = let a = c .before .before .before .args in text-empty (a .text .now) (a .out .now) (a .at) (c .if1 .taken) (c .before .before .before .pre .0)
+returns c =
+    let s = c .before .before .before in
+    text-empty (s .args .room .now) (s .args .out .now) (s .args .at) (s .args .size) (c .if1 .taken) (s .pre .0)
 
-add-put-hexadecimal : tie.Need-add-put-hexadecimal
-add-put-hexadecimal c = search needs
+slice-aggregate-room-digits : tie.Need-slice-aggregate-room-digits
+slice-aggregate-room-digits c = search needs
 
-put-hexadecimal-requires : tie.Need-put-hexadecimal-requires
-put-hexadecimal-requires c κs = simp length-set (omega arith, omega arith)
+room-digits-requires : tie.Need-room-digits-requires
+room-digits-requires c κs = search needs
+
+add-copy-digits : tie.Need-add-copy-digits
+add-copy-digits c = search needs
+
+slice-aggregate-copy-digits : tie.Need-slice-aggregate-copy-digits
+slice-aggregate-copy-digits c = search needs
+
+mul-copy-digits : tie.Need-mul-copy-digits
+mul-copy-digits c = search needs
+
+copy-digits-requires : tie.Need-copy-digits-requires
+copy-digits-requires c κs = simp length-set (omega arith, omega arith, omega arith)
+
+add-result-2 : tie.Need-add-result-2
+add-result-2 c = search needs
+
+mul-result : tie.Need-mul-result
+mul-result c = search needs
+
+add-result-3 : tie.Need-add-result-3
+add-result-3 c = search needs
 
 returns-2 : tie.Need-returns-2
 returns-2 c =
-    let h = c .before .before in
-    let e = h .before .before in
+    let w = c .before .before in
+    let d = w .before .before .before .before in
+    let e = d .before .before in
     let s = e .before .before .before in
-    text-some (s .args .text .now) (s .args .out .now) _ (s .args .at) _ (e .if1 .left) (s .pre .0) (h .put-hexadecimal .ensures)
+    text-some (s .args .room .now) _ (s .args .out .now) _ (s .args .at) (s .args .size) (e .if1 .left) (s .pre .2) (s .pre .1) (s .pre .0)
+    (d .room-digits .ensures) (w .copy-digits .ensures)
 
 same-length-2 : tie.Need-same-length-2
 same-length-2 c = returns-2 c .kept
@@ -50,7 +75,14 @@ put-text-spec =
     add-result
     same-length
     returns
-    add-put-hexadecimal
-    put-hexadecimal-requires
+    slice-aggregate-room-digits
+    room-digits-requires
+    add-copy-digits
+    slice-aggregate-copy-digits
+    mul-copy-digits
+    copy-digits-requires
+    add-result-2
+    mul-result
+    add-result-3
     same-length-2
     returns-2)

@@ -36,7 +36,11 @@ same-length-2 : tie.Need-same-length-2
 same-length-2 c = search needs
 
 returns-2 : tie.Need-returns-2
-returns-2 c = let a = c .before .before .before .before .before .before .before .before .before .before .before .args in told-line (now (a .texts)) (a .told) (a .index .number) _ _ (a .at) _ (c .before .before .before .before .before .before .before .if1 .left) (c .before .before .put-line .ensures)
+returns-2 c =
+    let e = c .before .before .before .before .before .before in
+    let s = e .before .before .before .before in
+    let a = s .args in
+    told-line (now (a .texts)) (a .told) (a .index .number) _ _ (a .at) _ (e .if1 .left) (s .pre .0 .2 .size) (c .before .before .put-line .ensures)
 
 pub print-spec : {M : Type 1} → statement M
 print-spec =
