@@ -129,7 +129,9 @@ began-some most {l} {l₁} {at} {next} line more s h e f q =
 pub began-all : {m at p : ℕ} {a l l₁ : List ℕ} → p ≤ length l → Wrote m a l l₁ at p → Began m a l l₁ at p
 began-all {m} {at} {p} {a} {l} {l₁} h u =
     record {
-      octets = λ b some. ap₂ (λ (x : List ℕ) (i : ℕ). written x i b) (u .octets) (u .behind) ∙ written-then l at a b (let z = u .behind in omega arith);
+      octets = λ b some.
+          ap₂ (λ (x : List ℕ) (i : ℕ). written x i b) (u .octets) (u .behind)
+          ∙ written-then l at a b (let z = u .behind in omega arith);
       behind = u .behind;
       few = u .few;
       kept = u .kept;

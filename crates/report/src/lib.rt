@@ -262,7 +262,7 @@ fn put_two_fields(out: &mut [u8], at: usize, x: u64, y: u64) -> usize
     put_field(out, next, y)
 }
 
-// The digits of a number below 100 side by side in a word; behind a single one stands a blank.
+// The digits of a number below 100 side by side in a word, as in put_pair; behind a single one stands a blank, which 8240 has.
 fn few_word(n: u64) -> u64
     requires { ⌜ n < 100 ⌝ }
     ensures { λ r. ⌜ (r < 65536) × (r % 256 ∷ r / 256 ∷ [] ≡ take 2 (decimal n ++ (32 ∷ []))) ⌝ }
@@ -273,7 +273,8 @@ fn few_word(n: u64) -> u64
     12336 + n * 256 - n / 10 * 2559
 }
 
-// Kind and a, of which no branch asks how many digits it has: where it has one, the blank of the field behind it is written too.
+// Kind and a. No branch asks how many digits a has: where it has one, the blank of the field behind it is written too, and that field
+// is then written over it. 2109472 is a blank, a 0 and a blank.
 fn put_head(out: &mut [u8], at: usize, kind: u64, a: u64) -> usize
     requires { ⌜ at + 42 ≤ length (now out) ⌝ }
     ensures { λ r. ⌜ Began 42 (field kind ++ field a) (now (out .entry)) (now (out .exit)) at r ⌝ }
