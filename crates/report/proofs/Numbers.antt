@@ -1,13 +1,15 @@
 -- Laws of numbers in decimal, and of octets in hexadecimal.
 use mathlib.Core.Path.{_≡_, refl, sym, ap, ap₂, _∙_, subst}
+use mathlib.Core.Bool.{cond}
 use mathlib.Core.List.{List, [], _∷_, _++_, append-assoc, append-nil}
 use Prim.Native.Nat.{ℕ, zero, suc, _+_, _-_, _*_, _/_, _%_, _^_, _≤_, _<_}
 use native.Mathlib.Numerals.{add-one}
 use native.Mathlib.Omega.{arith}
+use lib.Dec.{ltb}
 use lib.ListN.{length, getD, take, set, length-append, length-set}
 use lib.Seq.{take-suc, take-all, take-nil, take-at}
 use borrow.Author.Tests.{lt-ltb, le-ltb}
-use Rattle.protocol.proofs.Tests.{by-lt}
+use Rattle.protocol.proofs.Tests.{by-test, by-lt}
 use Rattle.protocol.specs.Printed.{digitChar, decimalDigits, decimal, hexadecimal}
 use Rattle.report.specs.Lines.{written, Wrote, lastDigits, octetsOf}
 use Rattle.report.proofs.Octets.{written-none, written-whole, written-last, wrote-one, wrote-all, wrote-join, pair-stored, four-stored}
@@ -17,8 +19,9 @@ use Rattle.report.proofs.Octets.{written-none, written-whole, written-l
 pub digit-small : (d : ℕ) → d < 10 → digitChar d ≡ 48 + d
 digit-small d h = rw (lt-ltb d 10 h) refl
 
-pub digit-large : (d : ℕ) → 10 ≤ d → digitChar d ≡ 87 + d
-digit-large d h = rw (le-ltb d 10 h) refl
+-- letters stand 39 further on
+pub digit-sum : (d l : ℕ) → l ≡ cond (ltb d 10) 0 39 → 48 + d + l ≡ digitChar d
+digit-sum d l e = rw e (by-test (ltb d 10) (λ y. rw y (omega arith)) (λ n. rw n (omega arith)))
 
 -- DECIMAL
 

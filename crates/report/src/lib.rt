@@ -1,8 +1,10 @@
 // The printed run: "prints one line each: index from 0, kind, a, b, p, w. Refused: index, no, refusal". A line is written into octets that
 // the caller lends; everything before it and behind it stays.
 ghost use mathlib.Core.Path.{_≡_};
+ghost use mathlib.Core.Bool.{cond};
 ghost use mathlib.Core.List.{[], _∷_, _++_};
 ghost use Prim.Native.Nat.{_+_, _*_, _/_, _%_, _<_, _≤_};
+ghost use lib.Dec.{ltb};
 ghost use lib.ListN.{length, take, drop};
 ghost use Rattle.protocol.specs.Events.{refused};
 ghost use Rattle.protocol.specs.Printed.{digitChar, decimal, hexadecimal, field, textField, reportFields, lineOf};
@@ -35,15 +37,19 @@ fn wide(x: u8) -> u64
     x as u64
 }
 
-// The character of a digit.
+// How much further on the character of a digit stands: from 10 on they are letters.
+fn letter(d: u64) -> u64
+    ensures { λ r. ⌜ (r ≡ cond (ltb d 10) 0 39) × (r ≤ 39) ⌝ }
+{
+    if d < 10 { 0 } else { 39 }
+}
+
+// The character of a digit. It is a sum and not a choice, so that many are made at once in few operations.
 fn digit(d: u64) -> u8
     requires { ⌜ d < 16 ⌝ }
     ensures { λ r. ⌜ r ≡ digitChar d ⌝ }
 {
-    if d < 10 {
-        return (48 + d) as u8;
-    }
-    (87 + d) as u8
+    (48 + d + letter(d)) as u8
 }
 
 // How many decimal digits a number has. A division takes off four of them.

@@ -1,29 +1,23 @@
 -- `report::digit` meets its contract.
-use mathlib.Core.Path.{sym}
-use native.Mathlib.Omega.{arith}
-use Rattle.report.proofs.Numbers.{digit-small, digit-large}
 use borrow.Author.Needs.{needs}
+use Rattle.report.proofs.Numbers.{digit-sum}
 use Rattle.report.proofs.digit.Statement.{statement}
 use Rattle.report.proofs.digit.Tie as tie
 
 add-result : tie.Need-add-result
 add-result c = search needs
 
-cast-result : tie.Need-cast-result
-cast-result c = search needs
-
-returns : tie.Need-returns
-returns c = sym (digit-small (c .before .args .d) (omega arith))
+letter-requires : tie.Need-letter-requires
+letter-requires c κs = search needs
 
 add-result-2 : tie.Need-add-result-2
 add-result-2 c = search needs
 
-cast-result-2 : tie.Need-cast-result-2
-cast-result-2 c = search needs
+cast-result : tie.Need-cast-result
+cast-result c = search needs
 
-returns-2 : tie.Need-returns-2
-returns-2 c = sym (digit-large (c .before .args .d) (omega arith))
+returns : tie.Need-returns
+returns c = digit-sum (c .before .args .d) (c .letter .result) (c .letter .ensures .0)
 
 pub digit-spec : {M : Type 1} → statement M
-digit-spec =
-    tie.close (tie.spec add-result cast-result returns add-result-2 cast-result-2 returns-2)
+digit-spec = tie.close (tie.spec add-result letter-requires add-result-2 cast-result returns)
