@@ -5,12 +5,12 @@ use mathlib.Core.List.{List}
 use Prim.Native.Nat.{ℕ, zero, suc, _+_, _≤_, _<_}
 use native.Mathlib.Omega.{arith}
 use lib.Dec.{eqb}
-use lib.ListN.{length, getD, set, List·getD-eq-default}
-use lib.Seq.{getD-set-same, getD-set-other}
-use borrow.Author.Tests.{eq-eqb, ne-eqb, eqb-true}
-use Rattle.protocol.specs.Folds.{every, listOf, update, update2}
+use lib.ListN.{length, getD, List·getD-eq-default}
+use lib.Seq.{getD-set-same}
+use borrow.Author.Tests.{eqb-true}
+use Rattle.protocol.specs.Folds.{every, listOf, update}
 use Rattle.protocol.specs.Floor.{outside, at, leaving, travelling, Carts}
-use Rattle.protocol.proofs.Tests.{by-test, by-lt, by-eq, and-left, and-right, every-at, every-all, on-update, length-listOf, listOf-at}
+use Rattle.protocol.proofs.Tests.{by-test, by-lt, and-left, and-right, every-at, every-all, on-update, length-listOf, listOf-at}
 use Rattle.protocol.specs.Floor as floor
 use Rattle.ids.specs.declared.Station.{Station}
 use Rattle.carts.specs.declared.Place.{Place}
@@ -18,7 +18,7 @@ use Rattle.carts.specs.declared.Place.the-variants.{Outside, At, Leaving
 use Rattle.carts.specs.declared.Cart.{Cart}
 use Rattle.carts.specs.Words.{placeIn, canonical}
 use Rattle.carts.specs.Records.{seen, greetedPlace, greeted, departedPlace, departed, received}
-use Rattle.carts.specs.View.{withPlace, withNext, withCart, IsCart}
+use Rattle.carts.specs.View.{withPlace, withCart, IsCart}
 
 -- THE WORDS OF A PLACE
 

@@ -1,15 +1,15 @@
 -- ROOMS WHOSE COPIES DO NOT NAME THE CART are skipped: none of them would stop it.
-use mathlib.Core.Path.{_≡_, refl, sym, ap, _∙_, fun-ext}
+use mathlib.Core.Path.{_≡_, refl, sym, ap, fun-ext}
 use mathlib.Core.Bool.{false}
 use mathlib.Core.List.{List}
-use Prim.Native.Nat.{ℕ, suc, _≤_, _<_}
+use Prim.Native.Nat.{ℕ, _≤_, _<_}
 use lib.ListN.{getD}
 use Rattle.protocol.specs.Folds.{listOf}
 use Rattle.protocol.specs.CartSets.{has}
 use Rattle.protocol.specs.Floor.{Floor}
 use Rattle.cartset.proofs.Walk.{nothing-between}
 use Rattle.queue.specs.Rooms.{roomCode}
-use Rattle.catchup.specs.Nearest.{wouldStop, nearestAmong}
+use Rattle.catchup.specs.Nearest.{nearestAmong}
 use Rattle.catchup.specs.Arrival.{nearestRow}
 use Rattle.catchup.proofs.StopLaws.{not-in-copy}
 use Rattle.catchup.proofs.RoomLaws.{passed-by}

@@ -8,7 +8,7 @@ use lib.Dec.{eqb}
 use lib.ListN.{length, getD}
 use borrow.Author.Tests.{eq-eqb, eqb-true, ne-eqb, not-true, not-false}
 use Rattle.protocol.specs.Folds.{update2}
-use Rattle.protocol.specs.CartSets.{has, minus, with, without, setOf}
+use Rattle.protocol.specs.CartSets.{has, minus, setOf}
 use Rattle.protocol.proofs.Tests.{same-test, by-test, by-lt, clash}
 use Rattle.protocol.proofs.SetLaws.{has-zero, has-minus, has-with, has-without, has-setOf, setOf-lt, minus-lt, member-below, same-members}
 use Rattle.rows.specs.Rows.{cell, column}

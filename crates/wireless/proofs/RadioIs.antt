@@ -13,13 +13,13 @@ use Rattle.protocol.specs.Floor.{Floor, limits, Carts, at, travelling, Record, 
 use Rattle.protocol.specs.Form.{handoffs}
 use Rattle.protocol.specs.Handoff.{catchUp, catchUpStop, enqueue, rowOf}
 use Rattle.protocol.specs.Wireless.{receive, allAcked, sendAcks, sendAcksIfAll, handOver, onRadio}
-use Rattle.protocol.proofs.Tests.{on-update, on-update2, on-cond, update2-at, by-test, both-differ, eqb-self}
+use Rattle.protocol.proofs.Tests.{on-update2, on-cond, update2-at, by-test, both-differ, eqb-self}
 use Rattle.protocol.proofs.FloorLaws.{at-is}
 use Rattle.protocol.proofs.Accepted.{MayRadio}
 use Rattle.protocol.proofs.Invariant.{Queued}
 use Rattle.protocol.proofs.Updates.{handoffs-append}
 use Rattle.stations.specs.View.{Stations, Head, headIn, stationsIn, withQueue}
-use Rattle.carts.specs.View.{cartsIn, canonicalIn, withNext}
+use Rattle.carts.specs.View.{cartsIn, withNext}
 use Rattle.messages.specs.View.{roomsIn}
 use Rattle.view.specs.Records.{linesIn, wordsOf, isIn}
 use Rattle.view.specs.View.{Lent, lent, lengthsIn, wordsIn, localRight, textsIn, floorOf, floorIn}

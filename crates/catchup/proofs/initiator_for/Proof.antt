@@ -1,5 +1,5 @@
 -- `catchup::initiator_for` meets its contract.
-use mathlib.Core.Path.{sym, _∙_}
+use mathlib.Core.Path.{sym}
 use native.Mathlib.Omega.{arith}
 use borrow.Author.Needs.{needs}
 use Rattle.queue.specs.Rooms.{tablesFloor}

@@ -1,5 +1,4 @@
 -- `stations::counted_with` meets its contract.
-use mathlib.Core.Path.{_∙_, sym}
 use borrow.Author.Needs.{needs}
 use borrow.Author.Tests.{eq-eqb, ne-eqb}
 use Rattle.stations.proofs.counted_with.Statement.{statement}
