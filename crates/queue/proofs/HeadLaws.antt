@@ -29,13 +29,14 @@ module _ (F : Floor) (m k : ℕ) where
 module _ (F : Floor) (t : ℕ) where
   -- ONE ROOM MORE
 
+  -- without an entry it changes nothing
+  head-empty : (m : ℕ) (o : Option ℕ) → F .queue m t ≡ 0 → headWith F t m o ≡ o
+  head-empty m none e = rw (eq-eqb (F .queue m t) 0 e)
+  head-empty m (some k) e = rw (eq-eqb (F .queue m t) 0 e)
+
   module _ (m h : ℕ) where
     pub empty-entry : (q : ℕ) → h ≤ 32 → q ≡ F .queue m t → q ≡ 0 → h ≡ roomCode (headWith F t m (roomIn h))
-    empty-entry q l e z = encoded h l ∙ ap roomCode (sym (kept (roomIn h)))
-      where
-        kept : (o : Option ℕ) → headWith F t m o ≡ o
-        kept none = rw (eq-eqb (F .queue m t) 0 (omega arith))
-        kept (some k) = rw (eq-eqb (F .queue m t) 0 (omega arith))
+    empty-entry q l e z = encoded h l ∙ ap roomCode (sym (head-empty m (roomIn h) (sym e ∙ z)))
 
     pub first-entry : (q : ℕ) → q ≡ F .queue m t → (q ≡ 0 → ⊥) → h ≡ 32 → m ≡ roomCode (headWith F t m (roomIn h))
     first-entry q e d z = rw (no-room-in h (omega arith), ne-eqb (F .queue m t) 0 (λ w. d (omega arith)))
@@ -75,11 +76,7 @@ module _ (F : Floor) (t : ℕ) where
   unfolding queueHead
   head-all m h z e = e ∙ ap (λ (n : ℕ). roomCode (headAmong F t n)) z
 
-  -- WHERE THERE IS NO ENTRY
-  head-empty : (m : ℕ) (o : Option ℕ) → F .queue m t ≡ 0 → headWith F t m o ≡ o
-  head-empty m none e = rw (eq-eqb (F .queue m t) 0 e)
-  head-empty m (some k) e = rw (eq-eqb (F .queue m t) 0 e)
-
+  -- rooms without an entry
   pub head-skips : (a b : ℕ) → a ≤ b → ((m : ℕ) → a ≤ m → m < b → F .queue m t ≡ 0) → headAmong F t b ≡ headAmong F t a
   unfolding headAmong
   head-skips a b h empty = nothing-between (headAmong F t) a b h (λ m l k. head-empty m (headAmong F t m) (empty m l k))

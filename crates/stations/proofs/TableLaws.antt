@@ -66,14 +66,14 @@ head-put l l₁ l₂ l₃ x y z p q r =
 -- THE ROOMS THAT COUNT
 
 -- no room counts; an empty word
-pub counted-none : (m v : ℕ) → counted 0 m v ≡ 0
+counted-none : (m v : ℕ) → counted 0 m v ≡ 0
 counted-none m v = ap (λ (b : Bool). cond b v 0) (has-zero m)
 
 -- a set has no room beyond
 not-beyond : (n : ℕ) (f : ℕ → Bool) (c : ℕ) → n ≤ c → has (setOf n f) c ≡ false
 not-beyond n f c l = by-test (has (setOf n f) c) (λ e. let z = member-below n (setOf n f) c (setOf-lt n f) e in absurd (omega arith)) (λ e. e)
 
-pub counted-zero : (among m : ℕ) → counted among m 0 ≡ 0
+counted-zero : (among m : ℕ) → counted among m 0 ≡ 0
 counted-zero among m = by-test (has among m) (λ h. rw h) (λ h. rw h)
 
 -- the rooms of a word
@@ -89,13 +89,13 @@ among-rooms word a b small p q =
     (λ l. rw (not-beyond rooms (λ c. true) c l, not-beyond rooms (has word) c l) (by-test (has word c) (λ e. rw e) (λ e. rw e)))))
 
 -- once a room has a word, that word is what counts, and for the other rooms nothing changed
-pub counted-same : (among m v : ℕ) → counted (countedWith among m v) m v ≡ v
+counted-same : (among m v : ℕ) → counted (countedWith among m v) m v ≡ v
 counted-same among m v =
     by-test (eqb v 0)
     (λ z. let e = eqb-true v 0 z in by-test (has (countedWith among m v) m) (λ h. rw h) (λ h. rw h (sym e)))
     (λ z. rw (z, has-with among m m, eq-eqb m m refl) (by-test (has among m) (λ h. rw h) (λ h. rw h)))
 
-pub counted-other : (among m n v : ℕ) → eqb n m ≡ false → has (countedWith among m v) n ≡ has among n
+counted-other : (among m n v : ℕ) → eqb n m ≡ false → has (countedWith among m v) n ≡ has among n
 counted-other among m n v d =
     let d′ = ne-eqb m n (λ e. clash (eqb n m) (eq-eqb n m (sym e)) d) in
     by-test (eqb v 0)
@@ -136,7 +136,7 @@ module _ (pos : ℕ → ℕ) (k : ℕ) (W : ℕ → ℕ → ℕ) (t v m : ℕ) (
       (λ q. rw (p, q, counted-other (W t k) m n v q, eqb-true u t p)))
       (λ p. by-test (eqb n m) (λ q. rw (p, q)) (λ q. rw (p, q)))
 
-  pub counted-put : (n u : ℕ) → counted (both u k) n (column rooms pos both u n) ≡ update2 (λ j r. counted (W r k) j (column rooms pos W r j)) m t v n u
+  counted-put : (n u : ℕ) → counted (both u k) n (column rooms pos both u n) ≡ update2 (λ j r. counted (W r k) j (column rooms pos W r j)) m t v n u
   counted-put n u = rw (rooms-put u, words-put n u) (merged n u (column rooms pos W u n))
 
 -- a word changes what stands there, and nothing else: the other positions are others

@@ -4,7 +4,7 @@ use Prim.Native.Nat.{ℕ, _+_}
 use native.Mathlib.Omega.{arith}
 use borrow.Author.Needs.{needs}
 use Rattle.protocol.specs.Wireless.{headAmong}
-use Rattle.cartset.proofs.Walk.{Ahead, ahead-start, ahead-next, ahead-inside, ahead-skips, ahead-step, ahead-less, ahead-end}
+use Rattle.cartset.proofs.Walk.{Ahead, ahead-start, ahead-turn, ahead-end}
 use Rattle.stations.specs.View.{entriesIn}
 use Rattle.stations.proofs.TableLaws.{entries-word, entries-inside, not-in-entries}
 use Rattle.queue.specs.Rooms.{tablesFloor, roomCode}
@@ -42,9 +42,11 @@ head-with-requires : tie.Need-head-with-requires Inv-loop μ-loop
 head-with-requires c κs =
     let a = c .before .before .before .before .before .before .before .args in
     let l = c .before .before .before .loop in
-    let A = l .inv .1 in
-    let i = ahead-inside 32 (entriesIn (a .stations .now) (a .station .0)) (l .left) (l .inv .0) (c .before .first .result) A (omega arith) (c .before .first .ensures) in
-    let low = head-fits (tablesFloor (a .stations .now) (a .messages .now)) (a .station .0) (l .inv .0) (l .head) (A .within) (l .inv .2) in
+    let f = c .before .first in
+    let w = c .without-first in
+    let turn = ahead-turn 32 (entriesIn (a .stations .now) (a .station .0)) (l .left) (l .inv .0) (f .result) (l .inv .1) (omega arith) (f .ensures) (w .result) (w .ensures (f .result) (f .ensures)) in
+    let i = turn .inside in
+    let low = head-fits (tablesFloor (a .stations .now) (a .messages .now)) (a .station .0) (l .inv .0) (l .head) (l .inv .1 .within) (l .inv .2) in
     search needs
 
 loop-less : tie.Need-loop-less Inv-loop μ-loop
@@ -53,8 +55,7 @@ loop-less c =
     let l = c .before .before .before .before .loop in
     let f = c .before .before .first in
     let w = c .before .without-first in
-    ahead-less 32 (entriesIn (a .stations .now) (a .station .0)) (l .left) (l .inv .0) (f .result) (l .inv .1) (omega arith) (f .ensures) (w .result)
-    (w .ensures (f .result) (f .ensures))
+    ahead-turn 32 (entriesIn (a .stations .now) (a .station .0)) (l .left) (l .inv .0) (f .result) (l .inv .1) (omega arith) (f .ensures) (w .result) (w .ensures (f .result) (f .ensures)) .less
 
 loop-again : tie.Need-loop-again Inv-loop μ-loop
 loop-again c =
@@ -62,18 +63,15 @@ loop-again c =
     let S = a .stations .now in
     let F = tablesFloor S (a .messages .now) in
     let t = a .station .0 in
-    let E = entriesIn S t in
     let l = c .before .before .before .before .loop in
-    let k = l .inv .0 in
-    let A = l .inv .1 in
     let f = c .before .before .first in
     let w = c .before .without-first in
     let m = f .result in
-    let next = ahead-next 32 E (l .left) k m A (omega arith) (f .ensures) in
-    let inside = ahead-inside 32 E (l .left) k m A (omega arith) (f .ensures) in
-    let skipped = head-skips F t k m next (λ r h n. not-in-entries S r t (ahead-skips 32 E (l .left) k m A (omega arith) (f .ensures) r h n)) in (
+    let turn = ahead-turn 32 (entriesIn S t) (l .left) (l .inv .0) m (l .inv .1) (omega arith) (f .ensures) (w .result) (w .ensures m (f .ensures)) in
+    let inside = turn .inside in
+    let skipped = head-skips F t (l .inv .0) m (turn .next) (λ r h n. not-in-entries S r t (turn .skips r h n)) in (
       m + 1,
-      ahead-step 32 E (l .left) k m A (omega arith) (f .ensures) (w .result) (w .ensures m (f .ensures)),
+      turn .ahead,
       head-again F t m (l .head) (c .head-with .result) (omega arith) (l .inv .2 ∙ ap roomCode (sym skipped)) (c .head-with .ensures),
     )
 
