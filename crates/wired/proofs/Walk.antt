@@ -11,7 +11,7 @@ use borrow.Author.Tests.{eqb-true, ne-eqb}
 use Rattle.protocol.specs.CartSets.{has, minus, with, without, setOf}
 use Rattle.protocol.specs.Floor.{Carts}
 use Rattle.protocol.specs.Form.{bit}
-use Rattle.protocol.proofs.Tests.{by-test, by-eq, on-cond, and-left, eqb-self}
+use Rattle.protocol.proofs.Tests.{by-eq, and-left, eqb-self}
 use Rattle.protocol.proofs.Counting.{count-le, count-ext, count-off, count-none}
 use Rattle.protocol.proofs.SetLaws.{has-zero, has-minus, has-with, has-without, has-setOf, setOf-lt, with-lt, without-lt, zero-below, same-members}
 use Rattle.carts.specs.View.{cartsIn, canonicalIn, withNext}
@@ -149,26 +149,20 @@ module _ (over over′ c : ℕ) (passes : Bool) (more : (d : ℕ) → has over�
           (at-raised x n (C .next c u) (C .next c s) (eqb u s) passes (λ z. ap (C .next c) (eqb-true u s z)) e))
           (λ q. rw (ne-eqb d c q, elsewhere d q) refl)
 
--- a is gathered, j joins, v is named, as is w of the cart at hand; e is whether it is this one
-not-named : (a j w v e : Bool) → (e ≡ true → w ≡ v) → ((a || (j && e)) && not v) ≡ ((a && not v) || ((j && not w) && e))
-not-named a j w v true p = rw (p refl, and-true j, and-true (j && not v)) (split a j v)
+-- a is gathered, v is named, as is w of the cart at hand; e is whether it is this one
+not-named : (a w v e : Bool) → (e ≡ true → w ≡ v) → ((a || e) && not v) ≡ ((a && not v) || (not w && e))
+not-named a w v true p = rw (p refl, and-true (not v)) (split a v)
   where
-    split : (a j v : Bool) → ((a || j) && not v) ≡ ((a && not v) || (j && not v))
-    split true j true = sym (and-false j)
-    split true j false = refl
-    split false j v = refl
-not-named a j w v false p = rw (and-false j, and-false (j && not w), or-false a, or-false (a && not v)) refl
+    split : (a v : Bool) → ((a || true) && not v) ≡ ((a && not v) || not v)
+    split true true = refl
+    split true false = refl
+    split false v = refl
+not-named a w v false p = rw (and-false (not w), or-false a, or-false (a && not v)) refl
 
--- the number that is put back: one more for a cart that is due and not named
-put-back : (z n : ℕ) (named : Bool) → z + cond (eqb z n && not named) 1 0 ≡ cond (eqb z n && not named) (n + 1) z
-put-back z n named =
-    by-test (eqb z n && not named)
-    (λ e. rw e (ap (λ (x : ℕ). x + 1) (eqb-true z n (and-left (eqb z n) (not named) e))))
-    (λ e. rw e (omega arith))
-
--- which fits a word
-pub rise-fits : (z n rises : ℕ) (named : Bool) → rises ≡ cond (eqb z n && not named) 1 0 → z < 2 ^ 64 → n < 65536 → z + rises < 2 ^ 64
-rise-fits z n rises named e lz ln = rw (e, put-back z n named) (on-cond (λ (x : ℕ). x < 2 ^ 64) (eqb z n && not named) (λ q. omega arith) (λ q. lz))
+-- the number that is put back: one more for a cart that is not named
+put-back : (z n : ℕ) (rises : Bool) → z ≡ n → z + cond rises 1 0 ≡ cond rises (n + 1) z
+put-back z n true e = omega arith
+put-back z n false e = omega arith
 
 module _ (C₀ : List ℕ) (named s n : ℕ) where
   -- none yet
@@ -190,35 +184,34 @@ module _ (C₀ : List ℕ) (named s n : ℕ) where
     pub next-kept : cartsIn C .next c s ≡ cartsIn C₀ .next c s
     next-kept = ap (λ (K : Carts). K .next c s) (R .carts) ∙ rw (fresh-over, and-false (eqb s s)) refl
 
-    -- the turn of a loop: the number read, whether the cart is named, and by how much its number rises
-    module _ (C′ : List ℕ) (due′ next rises : ℕ) (is-named : Bool) (read : next ≡ cartsIn C .next c s) (asked : is-named ≡ has named c)
-        (rise : rises ≡ cond (eqb next n && not is-named) 1 0) (joined : due′ ≡ cond (eqb next n) (with due c) due) where
-      more-over : (d : ℕ) → has (minus due′ named) d ≡ (has (minus due named) d || ((eqb next n && not is-named) && eqb c d))
+    -- the turn of a loop at a cart that is due: the number read, whether the cart is named, and by how much its number rises
+    module _ (C′ : List ℕ) (due′ next rises : ℕ) (is-named : Bool) (read : next ≡ cartsIn C .next c s) (equal : next ≡ n) (asked : is-named ≡ has named c)
+        (rise : rises ≡ cond (not is-named) 1 0) (joined : due′ ≡ with due c) where
+      more-over : (d : ℕ) → has (minus due′ named) d ≡ (has (minus due named) d || (not is-named && eqb c d))
       more-over d =
           has-minus due′ named d
-          ∙ ap (λ (b : Bool). b && not (has named d)) (ap (λ (x : ℕ). has x d) joined ∙ has-joined due c (eqb next n) d)
-          ∙ not-named (has due d) (eqb next n) is-named (has named d) (eqb c d) (λ e. asked ∙ ap (has named) (eqb-true c d e))
-          ∙ ap (λ (b : Bool). b || ((eqb next n && not is-named) && eqb c d)) (sym (has-minus due named d))
+          ∙ ap (λ (b : Bool). b && not (has named d)) (ap (λ (x : ℕ). has x d) joined ∙ has-with due c d)
+          ∙ not-named (has due d) is-named (has named d) (eqb c d) (λ e. asked ∙ ap (has named) (eqb-true c d e))
+          ∙ ap (λ (b : Bool). b || (not is-named && eqb c d)) (sym (has-minus due named d))
 
       pub raise-turn : (cartsIn C′ ≡ withNext (cartsIn C) c s (next + rises)) × ((canonicalIn C′ ≡ canonicalIn C) × (length C′ ≡ length C))
           → Raised C₀ C′ (minus due′ named) s (n + 1)
       raise-turn put =
           record {
             carts = put .0 ∙ ap (λ (K : Carts). withNext K c s (next + rises)) (R .carts)
-                ∙ raise-one (minus due named) (minus due′ named) c (eqb next n && not is-named) more-over fresh-over
-                (cartsIn C₀) s (n + 1) (next + rises) is-put;
+                ∙ raise-one (minus due named) (minus due′ named) c (not is-named) more-over fresh-over (cartsIn C₀) s (n + 1) (next + rises) is-put;
             canonical = put .1 .0 ∙ R .canonical;
             length = put .1 .1 ∙ R .length;
           }
         where
-          is-put : next + rises ≡ cond (eqb next n && not is-named) (n + 1) (cartsIn C₀ .next c s)
+          is-put : next + rises ≡ cond (not is-named) (n + 1) (cartsIn C₀ .next c s)
           is-put =
-              ap (λ (x : ℕ). next + x) rise ∙ put-back next n is-named
-              ∙ ap (λ (x : ℕ). cond (eqb next n && not is-named) (n + 1) x) (read ∙ next-kept)
+              ap (λ (x : ℕ). next + x) rise ∙ put-back next n (not is-named) equal
+              ∙ ap (λ (x : ℕ). cond (not is-named) (n + 1) x) (read ∙ next-kept)
 
       pub size-turn : (passed : ℕ) → c < 64 → passed ≡ size 64 (minus due named) → passed + rises ≡ size 64 (minus due′ named)
       size-turn passed lc e =
-          let a = size-one (minus due named) (minus due′ named) c (eqb next n && not is-named) more-over fresh-over lc in
+          let a = size-one (minus due named) (minus due′ named) c (not is-named) more-over fresh-over lc in
           omega arith
 
 -- so few that the count fits

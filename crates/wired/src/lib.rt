@@ -4,7 +4,7 @@ use ids::MessageNumber;
 use ids::Station;
 use lines::Record;
 ghost use mathlib.Core.Path.{_≡_};
-ghost use mathlib.Core.Bool.{true, cond, not, _&&_};
+ghost use mathlib.Core.Bool.{true, cond, not};
 ghost use Prim.Native.Nat.{_+_, _<_, _≤_};
 ghost use lib.ListN.{length};
 ghost use Rattle.protocol.specs.CartSets.{union, minus};
@@ -26,14 +26,14 @@ struct Met {
 }
 
 // "equal and not named, its next number rises": by one, or by none.
-fn rise(due: bool, named: bool) -> u64
-    ensures { λ r. ⌜ r ≡ cond (due && not named) 1 0 ⌝ }
+fn rise(named: bool) -> u64
+    ensures { λ r. ⌜ r ≡ cond (not named) 1 0 ⌝ }
 {
-    if due { if named { 0 } else { 1 } } else { 0 }
+    if named { 0 } else { 1 }
 }
 
-// "For each local cart: next number equal ..; greater ..". Each is read once, and its number, risen or not, is put back in the same turn,
-// so that there is no branch on what the numbers are, which no processor could guess.
+// "For each local cart: next number equal ..; greater ..". Nearly all are equal, so that is asked first; whether such a cart is named cannot be
+// guessed, so its number is put back risen or not, without a branch.
 fn meet(carts: &mut [u64], local: u64, named: u64, initiator: Station, number: u64) -> Met
     requires { ⌜ (length (now carts) ≡ 1216) × (initiator .0 < initiators) × (number < 65536) ⌝ }
     ensures { λ r. ⌜ r .due ≡ dueAmong (cartsIn (now (carts .entry))) local (initiator .0) number ⌝ }
@@ -49,11 +49,14 @@ fn meet(carts: &mut [u64], local: u64, named: u64, initiator: Station, number: u
         let cart = cartset::first(left);
         left = cartset::without_first(left);
         let next = carts::next_of(carts, CartNumber(cart), initiator);
-        let rises = rise(next == number, cartset::has(named, cart));
-        due = cartset::with_if(due, cart, next == number);
-        past = cartset::with_if(past, cart, number < next);
-        carts::put_next(carts, CartNumber(cart), initiator, next + rises);
-        passed += rises;
+        if next == number {
+            let rises = rise(cartset::has(named, cart));
+            due = cartset::with_cart(due, cart);
+            carts::put_next(carts, CartNumber(cart), initiator, next + rises);
+            passed += rises;
+        } else {
+            past = cartset::with_if(past, cart, number < next);
+        }
     }
     Met { due, past, passed }
 }
