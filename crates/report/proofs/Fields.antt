@@ -2,18 +2,18 @@
 use mathlib.Core.Path.{_≡_, refl, sym, ap, ap₂, _∙_, subst}
 use mathlib.Core.Bool.{Bool, cond}
 use mathlib.Core.List.{List, [], _∷_, _++_, append-assoc, append-nil}
-use Prim.Native.Nat.{ℕ, zero, suc, _+_, _*_, _/_, _%_, _≤_, _<_}
+use Prim.Native.Nat.{ℕ, zero, suc, _+_, _*_, _≤_, _<_}
 use native.Mathlib.Omega.{arith}
 use lib.ListN.{length, take, set, length-append, length-set}
 use lib.Seq.{length-take-le}
+use lib.Dec.{eqb}
 use borrow.Author.Tests.{eq-eqb, ne-eqb}
 use Rattle.protocol.proofs.Tests.{by-lt}
 use Rattle.protocol.specs.Events.{Report, accepted, refused}
 use Rattle.protocol.specs.Printed.{digitChar, decimal, hexadecimal, field, textField, reportFields, lineOf}
 use Rattle.report.specs.Lines.{written, Wrote, Began, octetsOf}
-use Rattle.report.proofs.Octets.{written-length, written-one, written-then}
-use Rattle.report.proofs.Octets.{wrote-one, wrote-all, wrote-then, wrote-wider, began-some, began-then, pair-stored}
-use Rattle.report.proofs.Numbers.{digit-small, decimal-one, some-digit, at-most-two, word-of, digit-written, hex-length, hex-front}
+use Rattle.report.proofs.Octets.{wrote-one, wrote-all, wrote-then, wrote-wider, began-all, began-then, began-more, pair-stored}
+use Rattle.report.proofs.Numbers.{digit-small, decimal-one, some-digit, word-of, digit-written, hex-length, hex-front}
 
 pub field-written : (n : ℕ) (l : List ℕ) (at : ℕ) {l₁ : List ℕ} {next : ℕ} → at + 21 ≤ length l → Wrote 20 (decimal n) (set l at 32) l₁ (at + 1) next → Wrote 21 (field n) l l₁ at next
 field-written n l at h w = wrote-then (omega arith) (wrote-one l at 32 (at + 1) (omega arith) refl) w
@@ -24,6 +24,11 @@ pub field-short : (n x : ℕ) (l : List ℕ) (at : ℕ) → at + 21 ≤ length l
 field-short n x l at h i e =
     field-written n l at h
     (wrote-wider (omega arith) (digit-written (set l at 32) (at + 1) n x (at + 2) i (simp length-set (omega arith)) e (omega arith)))
+
+-- a number by the table
+pub field-spelled : (n : ℕ) (l : List ℕ) (at : ℕ) {l₁ : List ℕ} {next : ℕ} → at + 5 ≤ length l → Began 3 4 (decimal n) (set l at 32) l₁ (at + 1) next
+    → Began 3 5 (field n) l l₁ at next
+field-spelled n l at h w = began-more (began-all 3 (omega arith) (wrote-one l at 32 (at + 1) (omega arith) refl)) w
 
 -- two of them, in a word
 pub fields-short : (x y : ℕ) (l l₁ : List ℕ) (at : ℕ) → at + 42 ≤ length l → x < 10 → y < 10
@@ -37,43 +42,6 @@ fields-short x y l l₁ at h i j q =
         let a = digit-small x i in
         let b = digit-small y j in
         word-of _ 32 (digitChar x) 32 (digitChar y) (omega arith) (omega arith) (omega arith) (omega arith)
-
--- KIND AND A
-
-short-more : (d : List ℕ) → 1 ≤ length d → length d ≤ 2 → (more : List ℕ) × (length more ≤ 1) × (take 2 (d ++ (32 ∷ [])) ≡ d ++ more)
-short-more [] h k = absurd (omega arith)
-short-more (x ∷ []) h k = (32 ∷ [], omega arith, refl)
-short-more (x ∷ y ∷ []) h k = ([], omega arith, refl)
-short-more (x ∷ y ∷ z ∷ d) h k = absurd (omega arith)
-
-pub head-written : (kind a w n : ℕ) (l l₁ : List ℕ) (at : ℕ) → at + 42 ≤ length l → kind < 10 → a < 100
-    → w % 256 ∷ w / 256 ∷ [] ≡ take 2 (decimal a ++ (32 ∷ [])) → n ≡ length (decimal a)
-    → l₁ ≡ written l at (octetsOf (2109472 + kind * 256 + w % 256 * 16777216))
-    → Began 42 (field kind ++ field a) l (set l₁ (at + 4) (w / 256)) at (at + 3 + n)
-head-written kind a w n l l₁ at h i j e m q =
-    let z = at-most-two a j in
-    let y = length-append (field kind) (field a) in
-    let x = ap (λ (d : List ℕ). length d) (decimal-one kind i) in
-    let v = length-append (field kind ++ field a) (rest .0) in
-    let u = rest .1 in
-    began-some 42 (field kind ++ field a) (rest .0) u (omega arith) (omega arith) (omega arith)
-    (written-one l₁ (at + 4) (w / 256) (let s = ap (λ (k : List ℕ). length k) four in let t = written-length l at front (omega arith) in omega arith)
-    ∙ ap (λ (k : List ℕ). written k (at + 4) (w / 256 ∷ [])) four
-    ∙ written-then l at front (w / 256 ∷ []) (omega arith)
-    ∙ ap (λ (k : List ℕ). written l at (32 ∷ digitChar kind ∷ 32 ∷ k)) (e ∙ rest .2)
-    ∙ ap (λ (k : List ℕ). written l at ((32 ∷ k) ++ field a ++ rest .0)) (sym (decimal-one kind i)))
-  where
-    rest : (more : List ℕ) × (length more ≤ 1) × (take 2 (decimal a ++ (32 ∷ [])) ≡ decimal a ++ more)
-    rest = short-more (decimal a) (some-digit a) (at-most-two a j)
-
-    front : List ℕ
-    front = 32 ∷ digitChar kind ∷ 32 ∷ w % 256 ∷ []
-
-    four : l₁ ≡ written l at front
-    four =
-        q
-        ∙ ap (λ (k : List ℕ). written l at k)
-        (let z = digit-small kind i in word-of _ 32 (digitChar kind) 32 (w % 256) (omega arith) (omega arith) (omega arith) (omega arith))
 
 -- A TEXT
 
@@ -113,32 +81,45 @@ text-some room digits l l₁ at size e k r h d q =
 abbrev numbers : Report → List ℕ
 numbers r = field (r .kind) ++ field (r .a) ++ field (r .b) ++ field (r .p) ++ field (r .w)
 
-module _ (r : Report) {l l₁ l₂ l₃ : List ℕ} {at p₁ p₂ p₃ : ℕ} (room : at + 170 ≤ length l)
-    (first : Began 42 (field (r .kind) ++ field (r .a)) l l₁ at p₁) (b : Wrote 21 (field (r .b)) l₁ l₂ p₁ p₂)
-    (last : Wrote 42 (field (r .p) ++ field (r .w)) l₂ l₃ p₂ p₃) where
-  numbers-written : Wrote 105 (numbers r) l l₃ at p₃
-  numbers-written =
-      subst (λ (x : List ℕ). Wrote 105 x l l₃ at p₃)
-      (sym (append-assoc (field (r .kind) ++ field (r .a) ++ field (r .b)) (field (r .p)) (field (r .w))))
-      (wrote-then (omega arith) (began-then (omega arith) first b) last)
+-- two fields cover three octets, and so do all
+fields-long : (x y : ℕ) → 3 ≤ length (field x ++ field y)
+fields-long x y = let z = length-append (field x) (field y) in let a = some-digit x in let b = some-digit y in omega arith
 
-  pub with-text : {l₄ : List ℕ} {next : ℕ} → r .kind ≡ 4 → Wrote 65 (textField (r .text)) l₃ l₄ p₃ next → Wrote 170 (reportFields r) l l₄ at next
-  with-text {l₄} {next} k t =
-      subst (λ (x : Bool). Wrote 170 (numbers r ++ cond x (textField (r .text)) []) l l₄ at next) (sym (eq-eqb (r .kind) 4 k))
+report-long : (r : Report) → 3 ≤ length (reportFields r)
+report-long r =
+    let z = fields-long (r .kind) (r .a) in
+    let y = length-append (field (r .kind) ++ field (r .a)) (field (r .b)) in
+    let x = length-append (field (r .kind) ++ field (r .a) ++ field (r .b)) (field (r .p)) in
+    let w = length-append (field (r .kind) ++ field (r .a) ++ field (r .b) ++ field (r .p)) (field (r .w)) in
+    let v = length-append (numbers r) (cond (eqb (r .kind) 4) (textField (r .text)) []) in
+    omega arith
+
+module _ (r : Report) {l l₁ l₂ : List ℕ} {at p₁ p₂ : ℕ} (room : at + 170 ≤ length l)
+    (head : Began 3 63 (field (r .kind) ++ field (r .a) ++ field (r .b)) l l₁ at p₁)
+    (last : Wrote 42 (field (r .p) ++ field (r .w)) l₁ l₂ p₁ p₂) where
+  numbers-written : Wrote 105 (numbers r) l l₂ at p₂
+  numbers-written =
+      subst (λ (x : List ℕ). Wrote 105 x l l₂ at p₂)
+      (sym (append-assoc (field (r .kind) ++ field (r .a) ++ field (r .b)) (field (r .p)) (field (r .w))))
+      (began-then (fields-long (r .p) (r .w)) head last)
+
+  pub with-text : {l₃ : List ℕ} {next : ℕ} → r .kind ≡ 4 → Wrote 65 (textField (r .text)) l₂ l₃ p₂ next → Wrote 170 (reportFields r) l l₃ at next
+  with-text {l₃} {next} k t =
+      subst (λ (x : Bool). Wrote 170 (numbers r ++ cond x (textField (r .text)) []) l l₃ at next) (sym (eq-eqb (r .kind) 4 k))
       (wrote-then (omega arith) numbers-written t)
 
-  pub without-text : (r .kind ≡ 4 → ⊥) → Wrote 170 (reportFields r) l l₃ at p₃
+  pub without-text : (r .kind ≡ 4 → ⊥) → Wrote 170 (reportFields r) l l₂ at p₂
   without-text k =
-      subst (λ (x : Bool). Wrote 170 (numbers r ++ cond x (textField (r .text)) []) l l₃ at p₃) (sym (ne-eqb (r .kind) 4 k))
-      (subst (λ (x : List ℕ). Wrote 170 x l l₃ at p₃) (sym (append-nil (numbers r))) (wrote-wider (omega arith) numbers-written))
+      subst (λ (x : Bool). Wrote 170 (numbers r ++ cond x (textField (r .text)) []) l l₂ at p₂) (sym (ne-eqb (r .kind) 4 k))
+      (subst (λ (x : List ℕ). Wrote 170 x l l₂ at p₂) (sym (append-nil (numbers r))) (wrote-wider (omega arith) numbers-written))
 
 -- LINES
 
-pub line-written : (index : ℕ) (r : Report) {l l₁ l₂ : List ℕ} {at p q : ℕ} → at + 191 ≤ length l → Wrote 20 (decimal index) l l₁ at p → Wrote 170 (reportFields r) l₁ l₂ p q
+pub line-written : (index : ℕ) (r : Report) {l l₁ l₂ : List ℕ} {at p q : ℕ} → at + 191 ≤ length l → Began 3 20 (decimal index) l l₁ at p → Wrote 170 (reportFields r) l₁ l₂ p q
     → Wrote 191 (lineOf index (accepted r)) l (set l₂ q 10) at (q + 1)
 unfolding lineOf
 line-written index r {l} {l₁} {l₂} {at} {p} {q} h u v =
-    wrote-then (omega arith) (wrote-then (omega arith) u v)
+    wrote-then (omega arith) (began-then (report-long r) u v)
     (wrote-one l₂ q 10 (q + 1) (omega arith) refl)
 
 pub refusal-written : (index number : ℕ) {l l₁ l₂ l₃ : List ℕ} {at p q s : ℕ} → at + 45 ≤ length l → Wrote 20 (decimal index) l l₁ at p → Wrote 3 (32 ∷ 110 ∷ 111 ∷ []) l₁ l₂ p q

@@ -6,13 +6,13 @@ use Prim.Native.Nat.{ℕ, zero, suc, _+_, _-_, _*_, _/_, _%_, _^_, _≤_, _<_}
 use native.Mathlib.Numerals.{add-one}
 use native.Mathlib.Omega.{arith}
 use lib.Dec.{ltb}
-use lib.ListN.{length, getD, take, set, length-append, length-set}
-use lib.Seq.{take-suc, take-all, take-nil, take-at}
+use lib.ListN.{length, getD, take, drop, set, length-append, length-drop, length-set}
+use lib.Seq.{take-suc, take-all, take-nil, take-at, getD-set-same, getD-set-other}
 use borrow.Author.Tests.{lt-ltb, le-ltb}
 use Rattle.protocol.proofs.Tests.{by-test, by-lt}
 use Rattle.protocol.specs.Printed.{digitChar, decimalDigits, decimal, hexadecimal}
-use Rattle.report.specs.Lines.{written, Wrote, lastDigits, octetsOf}
-use Rattle.report.proofs.Octets.{written-none, written-whole, written-last, wrote-one, wrote-all, wrote-join, pair-stored, four-stored}
+use Rattle.report.specs.Lines.{written, Wrote, Began, Spells, lastDigits, octetsOf}
+use Rattle.report.proofs.Octets.{written-none, written-whole, written-last, wrote-one, wrote-all, wrote-join, began-some, began-then, pair-stored, four-stored}
 
 -- DIGITS
 
@@ -46,14 +46,14 @@ pub decimal-one : (n : ℕ) → n < 10 → decimal n ≡ digitChar n ∷ []
 unfolding decimal
 decimal-one n h = one-digit n n h
 
-pub decimal-more : (n : ℕ) → 10 ≤ n → decimal n ≡ decimal (n / 10) ++ (digitChar (n % 10) ∷ [])
+decimal-more : (n : ℕ) → 10 ≤ n → decimal n ≡ decimal (n / 10) ++ (digitChar (n % 10) ∷ [])
 unfolding decimal
 decimal-more n h = more-digits n n h ∙ ap (λ (d : List ℕ). d ++ (digitChar (n % 10) ∷ [])) (enough n (suc (n / 10)) (n / 10) (omega arith) (omega arith))
 
 pub length-one : (n : ℕ) → n < 10 → length (decimal n) ≡ 1
 length-one n h = ap (λ (d : List ℕ). length d) (decimal-one n h)
 
-pub length-more : (n : ℕ) → 10 ≤ n → length (decimal n) ≡ length (decimal (n / 10)) + 1
+length-more : (n : ℕ) → 10 ≤ n → length (decimal n) ≡ length (decimal (n / 10)) + 1
 length-more n h = ap (λ (d : List ℕ). length d) (decimal-more n h) ∙ length-append (decimal (n / 10)) (digitChar (n % 10) ∷ [])
 
 -- two, three and four digits, and four more than the number without its last four
@@ -66,7 +66,7 @@ length-three n h l = let a = length-more n (omega arith) in let b = length-two (
 pub length-four : (n : ℕ) → 1000 ≤ n → n < 10000 → length (decimal n) ≡ 4
 length-four n h l = let a = length-more n (omega arith) in let b = length-three (n / 10) (omega arith) (omega arith) in omega arith
 
-pub length-last : (k n : ℕ) → length (lastDigits k n) ≡ k
+length-last : (k n : ℕ) → length (lastDigits k n) ≡ k
 unfolding lastDigits
 length-last zero n = refl
 length-last (suc k) n = length-append (lastDigits k (n / 10)) (digitChar (n % 10) ∷ []) ∙ ap (λ (w : ℕ). w + 1) (length-last k (n / 10)) ∙ add-one k
@@ -139,7 +139,7 @@ last-step l at k n h =
     ap (λ (w : ℕ). written (set l (at + w) (digitChar (n % 10))) at (lastDigits k (n / 10))) (sym (length-last k (n / 10)))
     ∙ written-last l at (lastDigits k (n / 10)) (digitChar (n % 10)) (let z = length-last k (n / 10) in omega arith)
 
-pub digit-stored : (l : List ℕ) (at i x n : ℕ) (d : List ℕ) → at < i → i ≤ length l → x ≡ digitChar (n % 10) → written l at (lastDigits (i - at) n) ≡ d
+digit-stored : (l : List ℕ) (at i x n : ℕ) (d : List ℕ) → at < i → i ≤ length l → x ≡ digitChar (n % 10) → written l at (lastDigits (i - at) n) ≡ d
     → written (set l (i - 1) x) at (lastDigits (i - 1 - at) (n / 10)) ≡ d
 digit-stored l at i x n d h m e q =
     ap₂ (λ (w y : ℕ). written (set l w y) at (lastDigits (i - 1 - at) (n / 10))) place e
@@ -200,23 +200,6 @@ pub pair-written : (l : List ℕ) (at n : ℕ) → at + 2 ≤ length l → n < 1
     → set (set l at (pairWord n % 256)) (at + 1) (pairWord n / 256) ≡ written l at (lastDigits 2 n)
 pair-written l at n h k =
     pair-stored l at (pairWord n % 256) (pairWord n / 256) h .octets ∙ ap (λ (a : List ℕ). written l at a) (pair-octets n k)
-
--- the digits of a number below 100, and a blank behind a single one
-pub few-one : (n : ℕ) → n < 10 → (8240 + n) % 256 ∷ (8240 + n) / 256 ∷ [] ≡ take 2 (decimal n ++ (32 ∷ []))
-few-one n h =
-    ap₂ (λ (x y : ℕ). x ∷ y ∷ []) (octet-low (8240 + n) (48 + n) 32 (omega arith) (omega arith) ∙ sym (digit-small n h))
-    (octet-high (8240 + n) (48 + n) 32 (omega arith) (omega arith))
-    ∙ ap (λ (a : List ℕ). take 2 (a ++ (32 ∷ []))) (sym (decimal-one n h))
-
-pub few-two : (n : ℕ) → 10 ≤ n → n < 100 → pairWord n % 256 ∷ pairWord n / 256 ∷ [] ≡ take 2 (decimal n ++ (32 ∷ []))
-few-two n h k =
-    pair-octets n k
-    ∙ ap (λ (w : ℕ). lastDigits w n) (sym (length-two n h k))
-    ∙ sym (all-digits n)
-    ∙ sym (take-at (decimal n) (32 ∷ []) 2 (length-two n h k))
-
-pub at-most-two : (n : ℕ) → n < 100 → length (decimal n) ≤ 2
-at-most-two n h = few-digits 1 n h
 
 pub word-written : (l : List ℕ) (at w : ℕ) → at + 4 ≤ length l
     → set (set (set (set l at (w % 256)) (at + 1) (w / 256 % 256)) (at + 2) (w / 65536 % 256)) (at + 3) (w / 16777216) ≡ written l at (octetsOf w)
@@ -311,6 +294,134 @@ split-written most k n q m {few} {l} {l₁} {l₂} {at} {p} {next} e h i f r g w
         let x = w .kept in
         wrote-all l₁ p (lastDigits k m) (omega arith) (omega arith) (omega arith) b
 
+-- A NUMBER IS SPELLED IN A WORD
+
+pub at-most-four : (n : ℕ) → n < 10000 → length (decimal n) ≤ 4
+at-most-four n h = few-digits 3 n h
+
+-- four octets, and the word that they make
+four-octets : (l : List ℕ) → length l ≡ 4 → l ≡ getD l 0 0 ∷ getD l 1 0 ∷ getD l 2 0 ∷ getD l 3 0 ∷ []
+four-octets [] e = absurd (omega arith)
+four-octets (a ∷ []) e = absurd (omega arith)
+four-octets (a ∷ b ∷ []) e = absurd (omega arith)
+four-octets (a ∷ b ∷ c ∷ []) e = absurd (omega arith)
+four-octets (a ∷ b ∷ c ∷ d ∷ []) e = refl
+four-octets (a ∷ b ∷ c ∷ d ∷ x ∷ l) e = absurd (omega arith)
+
+pub word-made : (l : List ℕ) (w : ℕ) → length l ≡ 4 → getD l 0 0 < 256 → getD l 1 0 < 256 → getD l 2 0 < 256
+    → w ≡ getD l 0 0 + 256 * getD l 1 0 + 65536 * getD l 2 0 + 16777216 * getD l 3 0 → octetsOf w ≡ l
+word-made l w e ha hb hc q =
+    word-of w (getD l 0 0) (getD l 1 0) (getD l 2 0) (getD l 3 0) ha hb hc q ∙ sym (four-octets l e)
+
+-- one to four digits, and what is left of four blanks
+blanks-behind : (d : List ℕ) → 1 ≤ length d → length d ≤ 4 → take 4 (d ++ (32 ∷ 32 ∷ 32 ∷ [])) ≡ d ++ drop (length d) (32 ∷ 32 ∷ 32 ∷ 32 ∷ [])
+blanks-behind [] h k = absurd (omega arith)
+blanks-behind (x ∷ []) h k = refl
+blanks-behind (x ∷ y ∷ []) h k = refl
+blanks-behind (x ∷ y ∷ z ∷ []) h k = refl
+blanks-behind (x ∷ y ∷ z ∷ u ∷ []) h k = refl
+blanks-behind (x ∷ y ∷ z ∷ u ∷ v ∷ d) h k = absurd (omega arith)
+
+-- the word of the digits written over four blanks, and their count above it
+pub spelled : (n w count : ℕ) (l : List ℕ) → n < 10000 → Wrote 4 (decimal n) (32 ∷ 32 ∷ 32 ∷ 32 ∷ []) l 0 count → octetsOf w ≡ l → w < 4294967296
+    → Spells (w + count * 4294967296) n
+unfolding written
+spelled n w count l h u e f =
+    record {
+      octets =
+          ap (λ (x : ℕ). octetsOf x) (let z : (w + count * 4294967296) % 4294967296 ≡ w = omega arith in z)
+          ∙ e
+          ∙ u .octets
+          ∙ ap (λ (k : ℕ). decimal n ++ drop k (32 ∷ 32 ∷ 32 ∷ 32 ∷ [])) (let z : 0 + length (decimal n) ≡ length (decimal n) = omega arith in z)
+          ∙ sym (blanks-behind (decimal n) (some-digit n) (at-most-four n h));
+      count = let z = u .behind in omega arith;
+    }
+
+-- it is written, with blanks behind it
+pub spelled-written : (n w : ℕ) (l l₁ : List ℕ) (at next : ℕ) → n < 10000 → at + 4 ≤ length l → Spells w n → next ≡ at + w / 4294967296
+    → l₁ ≡ written l at (octetsOf (w % 4294967296)) → Began 3 4 (decimal n) l l₁ at next
+spelled-written n w l l₁ at next h room s e q =
+    let some = some-digit n in
+    let few = at-most-four n h in
+    let count = s .count in
+    let rest = length-drop (length (decimal n)) blanks in
+    let all = length-append (decimal n) (drop (length (decimal n)) blanks) in
+    began-some 3 4 (decimal n) (drop (length (decimal n)) blanks) (omega arith) (omega arith) (omega arith) (omega arith)
+    (q ∙ ap (λ (a : List ℕ). written l at a) (s .octets ∙ blanks-behind (decimal n) some few))
+  where
+    blanks : List ℕ
+    blanks = 32 ∷ 32 ∷ 32 ∷ 32 ∷ []
+
+-- four digits leave no blank
+pub spelled-four : (n w : ℕ) → 1000 ≤ n → n < 10000 → Spells w n → octetsOf (w % 4294967296) ≡ lastDigits 4 n
+spelled-four n w h k s =
+    s .octets
+    ∙ take-at (decimal n) (32 ∷ 32 ∷ 32 ∷ []) 4 (length-four n h k)
+    ∙ all-digits n
+    ∙ ap (λ (j : ℕ). lastDigits j n) (length-four n h k)
+
+-- a 1 stands first, and becomes a 0
+less-one : (w b c d : ℕ) → octetsOf w ≡ 49 ∷ b ∷ c ∷ d ∷ [] → octetsOf (w - 1) ≡ 48 ∷ b ∷ c ∷ d ∷ []
+unfolding octetsOf
+less-one w b c d e =
+    let low : w % 256 ≡ 49 = cc in
+    let one : (w - 1) % 256 ≡ 48 = omega arith in
+    let two : (w - 1) / 256 ≡ w / 256 = omega arith in
+    let three : (w - 1) / 65536 ≡ w / 65536 = omega arith in
+    let four : (w - 1) / 16777216 ≡ w / 16777216 = omega arith in
+    cc
+
+thousand-more : (n : ℕ) → n < 1000 → lastDigits 4 (n + 1000) ≡ 49 ∷ digitChar (n / 10 / 10 % 10) ∷ digitChar (n / 10 % 10) ∷ digitChar (n % 10) ∷ []
+unfolding lastDigits
+thousand-more n h =
+    let a : (n + 1000) / 10 / 10 / 10 % 10 ≡ 1 = omega arith in
+    let b : (n + 1000) / 10 / 10 % 10 ≡ n / 10 / 10 % 10 = omega arith in
+    let c : (n + 1000) / 10 % 10 ≡ n / 10 % 10 = omega arith in
+    let d : (n + 1000) % 10 ≡ n % 10 = omega arith in
+    rw (a, b, c, d) refl
+
+-- so the word of 1,000 more has something to lose
+pub spelled-first : (n w : ℕ) → n < 1000 → Spells w (n + 1000) → 1 ≤ w % 4294967296
+unfolding octetsOf
+spelled-first n w h s =
+    let e = spelled-four (n + 1000) w (omega arith) (omega arith) s ∙ thousand-more n h in
+    let low : w % 4294967296 % 256 ≡ 49 = cc in
+    omega arith
+
+pub spelled-low : (n w : ℕ) → n < 1000 → Spells w (n + 1000) → octetsOf (w % 4294967296 - 1) ≡ lastDigits 4 n
+unfolding lastDigits
+spelled-low n w h s =
+    less-one (w % 4294967296) (digitChar (n / 10 / 10 % 10)) (digitChar (n / 10 % 10)) (digitChar (n % 10))
+    (spelled-four (n + 1000) w (omega arith) (omega arith) s ∙ thousand-more n h)
+    ∙ ap (λ (x : ℕ). digitChar x ∷ digitChar (n / 10 / 10 % 10) ∷ digitChar (n / 10 % 10) ∷ digitChar (n % 10) ∷ [])
+    (let z : 0 ≡ n / 10 / 10 / 10 % 10 = omega arith in z)
+
+-- a number of five to eight digits: the spelled ones, and four of a word behind them
+pub eight-written : (n w : ℕ) {l l₁ l₂ : List ℕ} {at p : ℕ} → 10000 ≤ n → at + 8 ≤ length l → Began 3 4 (decimal (n / 10000)) l l₁ at p
+    → octetsOf w ≡ lastDigits 4 (n % 10000) → l₂ ≡ written l₁ p (octetsOf w) → Wrote 8 (decimal n) l l₂ at (p + 4)
+eight-written n w {l} {l₁} {l₂} {at} {p} h room b e q =
+    subst (λ (a : List ℕ). Wrote 8 a l l₂ at (p + 4))
+    (sym (decimal-split 4 n (n / 10000) (n % 10000) (omega arith) (omega arith) (omega arith)))
+    (let z = length-last 4 (n % 10000) in began-then (omega arith) b low)
+  where
+    low : Wrote 4 (lastDigits 4 (n % 10000)) l₁ l₂ p (p + 4)
+    low =
+        let z = length-last 4 (n % 10000) in
+        let y = b .few in
+        let x = b .kept in
+        wrote-all l₁ p (lastDigits 4 (n % 10000)) (omega arith) (omega arith) (omega arith) (q ∙ ap (λ (a : List ℕ). written l₁ p a) e)
+
+-- the table, one number further
+pub spelled-more : (numbers : List ℕ) (n word : ℕ) → n < length numbers → ((k : ℕ) → k < n → Spells (getD numbers k 0) k) → Spells word n
+    → (k : ℕ) → k < n + 1 → Spells (getD (set numbers n word) k 0) k
+spelled-more numbers n word h below s k i =
+    by-lt k n
+    (λ less. subst (λ (x : ℕ). Spells x k) (sym (getD-set-other numbers n k word 0 (omega arith))) (below k less))
+    (λ least.
+    let same : n ≡ k = omega arith in
+    subst (λ (j : ℕ). Spells (getD (set numbers n word) j 0) j) same
+    (subst (λ (x : ℕ). Spells x n) (sym (getD-set-same numbers n word 0 h)) s))
+
 -- HEXADECIMAL
 
 hex-append : (a b : List ℕ) → hexadecimal (a ++ b) ≡ hexadecimal a ++ hexadecimal b
@@ -319,7 +430,7 @@ hex-append [] b = refl
 hex-append (x ∷ a) b = ap (λ (h : List ℕ). digitChar (x / 16) ∷ digitChar (x % 16) ∷ h) (hex-append a b)
 
 -- one octet more
-pub hex-more : (text : List ℕ) (i x : ℕ) → i < length text → x ≡ getD text i 0
+hex-more : (text : List ℕ) (i x : ℕ) → i < length text → x ≡ getD text i 0
     → hexadecimal (take i text) ++ (digitChar (x / 16) ∷ digitChar (x % 16) ∷ []) ≡ hexadecimal (take (i + 1) text)
 unfolding hexadecimal
 hex-more text i x h e =

@@ -14,7 +14,7 @@ use Rattle.report.specs.Lines.{written, Wrote, Began}
 head-length : (l : List ℕ) (at : ℕ) (a : List ℕ) → at ≤ length l → length (take at l ++ a) ≡ at + length a
 head-length l at a h = length-append (take at l) a ∙ ap (λ (n : ℕ). n + length a) (length-take-le at l h)
 
-pub written-length : (l : List ℕ) (at : ℕ) (a : List ℕ) → at + length a ≤ length l → length (written l at a) ≡ length l
+written-length : (l : List ℕ) (at : ℕ) (a : List ℕ) → at + length a ≤ length l → length (written l at a) ≡ length l
 unfolding written
 written-length l at a h =
     let p = length-append (take at l ++ a) (drop (at + length a) l) in
@@ -28,7 +28,7 @@ unfolding written
 written-none l at = rw (append-nil, add-zero) (take-append-drop at l)
 
 -- one octet stored
-pub written-one : (l : List ℕ) (at x : ℕ) → at < length l → set l at x ≡ written l at (x ∷ [])
+written-one : (l : List ℕ) (at x : ℕ) → at < length l → set l at x ≡ written l at (x ∷ [])
 unfolding written
 written-one l at x h = set-split l at x h ∙ sym (append-snoc (take at l) x (drop (suc at) l)) ∙ ap (λ (n : ℕ). take at l ++ (x ∷ []) ++ drop n l) (sym (add-one at))
 
@@ -63,7 +63,7 @@ written-over l at a b j h i m =
         ∙ ap (λ (n : ℕ). drop n l) same
 
 -- written one after the other
-pub written-then : (l : List ℕ) (at : ℕ) (a b : List ℕ) → at + length a ≤ length l
+written-then : (l : List ℕ) (at : ℕ) (a b : List ℕ) → at + length a ≤ length l
     → written (written l at a) (at + length a) b ≡ written l at (a ++ b)
 written-then l at a b h =
     written-over l at a b (length a) h (omega arith) (omega arith) ∙ ap (λ (x : List ℕ). written l at (x ++ b)) (take-length a)
@@ -111,12 +111,12 @@ wrote-join n {m} {k} {at} {p} {q} {a} {b} {l} {l₁} {l₂} h f u v =
 pub wrote-then : {m k at p q : ℕ} {a b l l₁ l₂ : List ℕ} → at + m ≤ length l → Wrote m a l l₁ at p → Wrote k b l₁ l₂ p q → Wrote (m + k) (a ++ b) l l₂ at q
 wrote-then {m} {k} h u v = wrote-join (m + k) (let z = u .few in omega arith) (let z = u .few in let w = v .few in omega arith) u v
 
--- a line, with an octet behind it or none, and what is written over that
-pub began-some : (most : ℕ) {l l₁ : List ℕ} {at next : ℕ} (line more : List ℕ) → length more ≤ 1 → at + length (line ++ more) ≤ length l
-    → next ≡ at + length line → next ≤ at + most → l₁ ≡ written l at (line ++ more) → Began most line l l₁ at next
-began-some most {l} {l₁} {at} {next} line more s h e f q =
+-- a line with octets behind it, which what is written next covers if it is as long
+pub began-some : (over most : ℕ) {l l₁ : List ℕ} {at next : ℕ} (line more : List ℕ) → length more ≤ over → at + length (line ++ more) ≤ length l
+    → next ≡ at + length line → next ≤ at + most → l₁ ≡ written l at (line ++ more) → Began over most line l l₁ at next
+began-some over most {l} {l₁} {at} {next} line more s h e f q =
     record {
-      octets = λ b some.
+      octets = λ b long.
           ap₂ (λ (x : List ℕ) (n : ℕ). written x n b) q e
           ∙ written-over l at (line ++ more) b (length line) h
           (let z = length-append line more in omega arith) (let z = length-append line more in omega arith)
@@ -126,10 +126,11 @@ began-some most {l} {l₁} {at} {next} line more s h e f q =
       kept = ap (λ (k : List ℕ). length k) q ∙ written-length l at (line ++ more) h;
     }
 
-pub began-all : {m at p : ℕ} {a l l₁ : List ℕ} → p ≤ length l → Wrote m a l l₁ at p → Began m a l l₁ at p
-began-all {m} {at} {p} {a} {l} {l₁} h u =
+-- nothing behind it changed
+pub began-all : (over : ℕ) {m at p : ℕ} {a l l₁ : List ℕ} → p ≤ length l → Wrote m a l l₁ at p → Began over m a l l₁ at p
+began-all over {m} {at} {p} {a} {l} {l₁} h u =
     record {
-      octets = λ b some.
+      octets = λ b long.
           ap₂ (λ (x : List ℕ) (i : ℕ). written x i b) (u .octets) (u .behind)
           ∙ written-then l at a b (let z = u .behind in omega arith);
       behind = u .behind;
@@ -137,10 +138,25 @@ began-all {m} {at} {p} {a} {l} {l₁} h u =
       kept = u .kept;
     }
 
-pub began-then : {m k at p q : ℕ} {a b l l₁ l₂ : List ℕ} → 0 < length b → Began m a l l₁ at p → Wrote k b l₁ l₂ p q → Wrote (m + k) (a ++ b) l l₂ at q
-began-then {m} {k} {at} {p} {q} {a} {b} h u v =
+pub began-then : {over m k at p q : ℕ} {a b l l₁ l₂ : List ℕ} → over ≤ length b → Began over m a l l₁ at p → Wrote k b l₁ l₂ p q
+    → Wrote (m + k) (a ++ b) l l₂ at q
+began-then {over} {m} {k} {at} {p} {q} {a} {b} h u v =
     record {
       octets = v .octets ∙ u .octets b h;
+      behind = let z = u .behind in let w = v .behind in let y = length-append a b in omega arith;
+      few = let z = u .few in let w = v .few in omega arith;
+      kept = v .kept ∙ u .kept;
+    }
+
+-- the second one covers what the first one left, and leaves as much
+pub began-more : {over m k at p q : ℕ} {a b l l₁ l₂ : List ℕ} → Began over m a l l₁ at p → Began over k b l₁ l₂ p q
+    → Began over (m + k) (a ++ b) l l₂ at q
+began-more {over} {m} {k} {at} {p} {q} {a} {b} {l} u v =
+    record {
+      octets = λ d long.
+          v .octets d long
+          ∙ u .octets (b ++ d) (let z = length-append b d in omega arith)
+          ∙ ap (λ (x : List ℕ). written l at x) (sym (append-assoc a b d));
       behind = let z = u .behind in let w = v .behind in let y = length-append a b in omega arith;
       few = let z = u .few in let w = v .few in omega arith;
       kept = v .kept ∙ u .kept;
@@ -149,6 +165,9 @@ began-then {m} {k} {at} {p} {q} {a} {b} h u v =
 -- more room than it takes
 pub wrote-wider : {m k at p : ℕ} {a l l₁ : List ℕ} → m ≤ k → Wrote m a l l₁ at p → Wrote k a l l₁ at p
 wrote-wider h u = record { octets = u .octets; behind = u .behind; few = let z = u .few in omega arith; kept = u .kept }
+
+pub began-wider : {over m k at p : ℕ} {a l l₁ : List ℕ} → m ≤ k → Began over m a l l₁ at p → Began over k a l l₁ at p
+began-wider h u = record { octets = u .octets; behind = u .behind; few = let z = u .few in omega arith; kept = u .kept }
 
 -- two, three and four octets stored
 pub pair-stored : (l : List ℕ) (at x y : ℕ) → at + 2 ≤ length l → Wrote 2 (x ∷ y ∷ []) l (set (set l at x) (at + 1) y) at (at + 2)

@@ -6,7 +6,6 @@ use lib.ListN.{length, take, drop, getD}
 use Rattle.protocol.specs.Events as events
 use Rattle.protocol.specs.Printed.{digitChar, decimal}
 use Rattle.report.specs.declared.Report.{Report}
-use Rattle.report.specs.declared.Index.{Index}
 
 -- WRITING
 
@@ -22,9 +21,9 @@ pub record Wrote (most : ℕ) (line l l′ : List ℕ) (at next : ℕ) : Type 0 
   pub few : next ≤ at + most
   pub kept : length l′ ≡ length l
 
--- the same, where octets behind the line may have changed: whatever is written there next covers them
-pub record Began (most : ℕ) (line l l′ : List ℕ) (at next : ℕ) : Type 0 where
-  pub octets : (b : List ℕ) → 0 < length b → written l′ next b ≡ written l at (line ++ b)
+-- the same, where so many octets behind the line may have changed: whatever is written there next covers them, if it is as long
+pub record Began (over most : ℕ) (line l l′ : List ℕ) (at next : ℕ) : Type 0 where
+  pub octets : (b : List ℕ) → over ≤ length b → written l′ next b ≡ written l at (line ++ b)
   pub behind : next ≡ at + length line
   pub few : next ≤ at + most
   pub kept : length l′ ≡ length l
@@ -55,9 +54,13 @@ lastDigits (suc k) n = lastDigits k (n / 10) ++ (digitChar (n % 10) ∷ [])
 unfoldable pub octetsOf : ℕ → List ℕ
 octetsOf w = w % 256 ∷ w / 256 % 256 ∷ w / 65536 % 256 ∷ w / 16777216 ∷ []
 
--- twenty octets keep an index printed: from `first` on its digits, and before them only 0, so that a carry finds a digit there
-pub record Shows (digits : List ℕ) (i : Index) : Type 0 where
-  pub size : length digits ≡ 20
-  pub begins : i .first < 20
-  pub printed : drop (i .first) digits ≡ decimal (i .number)
-  pub zeros : (k : ℕ) → k < i .first → getD digits k 0 ≡ 48
+-- a word spells a number: its four lowest octets are the digits, from the first one on, and blanks behind them, and above these stands how
+-- many digits there are
+pub record Spells (word n : ℕ) : Type 0 where
+  pub octets : octetsOf (word % 4294967296) ≡ take 4 (decimal n ++ (32 ∷ 32 ∷ 32 ∷ []))
+  pub count : word / 4294967296 ≡ length (decimal n)
+
+-- the table of the numbers of at most four digits, each spelled in its word
+pub record Tabled (numbers : List ℕ) : Type 0 where
+  pub size : length numbers ≡ 10000
+  pub spelled : (n : ℕ) → n < 10000 → Spells (getD numbers n 0) n

@@ -1,14 +1,14 @@
 // The printed run: "prints one line each: index from 0, kind, a, b, p, w. Refused: index, no, refusal". A line is written into octets that
 // the caller lends; everything before it and behind it stays.
 ghost use mathlib.Core.Path.{_≡_};
-ghost use mathlib.Core.Bool.{cond};
+ghost use mathlib.Core.Bool.{true, cond};
 ghost use mathlib.Core.List.{[], _∷_, _++_};
 ghost use Prim.Native.Nat.{_+_, _*_, _/_, _%_, _<_, _≤_};
 ghost use lib.Dec.{ltb};
 ghost use lib.ListN.{length, take, drop};
 ghost use Rattle.protocol.specs.Events.{refused};
 ghost use Rattle.protocol.specs.Printed.{digitChar, decimal, hexadecimal, field, textField, reportFields, lineOf};
-ghost use Rattle.report.specs.Lines.{written, Wrote, Began, Shows, lastDigits, octetsOf, reportIn, acceptedIn, longestLine, longestRefusal};
+ghost use Rattle.report.specs.Lines.{written, Wrote, Began, Spells, Tabled, lastDigits, octetsOf, reportIn, acceptedIn, longestLine, longestRefusal};
 
 // What an accepted event reports.
 pub struct Report {
@@ -19,17 +19,14 @@ pub struct Report {
     pub w: u64,
 }
 
-// The index of a line, and where its digits begin in the twenty octets that keep it printed.
-pub struct Index {
-    pub number: u64,
-    pub first: usize,
-}
-
 // The longest line: six numbers of 20 digits, five blanks before them, a blank and a text of 32 octets, and the line end.
 pub const LINE: usize = 191;
 
 // The longest line of a refusal: two numbers of 20 digits, the word and two blanks, and the line end.
 pub const REFUSAL: usize = 45;
+
+// So many numbers are spelled in the lent table: those of at most four digits.
+const NUMBERS: usize = 10000;
 
 fn wide(x: u8) -> u64
     ensures { λ r. ⌜ (r ≡ x) × (r < 256) ⌝ }
@@ -166,36 +163,55 @@ fn put_decimal(out: &mut [u8], at: usize, n: u64) -> usize
     at + count
 }
 
-// An index is printed whole once, and then counted up: a line's index is one more than the last one's, and a division costs more than a store.
-pub fn show(digits: &mut [u8], number: u64) -> Index
-    requires { ⌜ length (now digits) ≡ 20 ⌝ }
-    ensures { λ r. ⌜ Shows (now (digits .exit)) r × (r .number ≡ number) ⌝ }
+// Four octets as a word, the first one lowest.
+fn word_of(octets: &[u8]) -> u64
+    requires { ⌜ length (now octets) ≡ 4 ⌝ }
+    ensures { λ r. ⌜ (octetsOf r ≡ now (octets .entry)) × (r < 4294967296) ⌝ }
 {
-    put_digits(digits, 0, 20, number);
-    let count = digits_of(number);
-    Index {
-        number,
-        first: 20 - count,
+    wide(octets[0]) + wide(octets[1]) * 256 + wide(octets[2]) * 65536 + wide(octets[3]) * 16777216
+}
+
+// A number in a word: its digits and blanks behind them in the four lowest octets, and above these how many digits it has.
+fn spell(n: u64) -> u64
+    requires { ⌜ n < 10000 ⌝ }
+    ensures { λ r. ⌜ Spells r n ⌝ }
+{
+    let mut octets = [b' '; 4];
+    let count = put_small(&mut octets, 0, n);
+    word_of(&octets) + count as u64 * 4294967296
+}
+
+// THE TABLE OF NUMBERS: all of at most four digits, spelled once. A line then looks its numbers up, and no branch asks how many digits they have.
+pub fn spell_all(numbers: &mut [u64])
+    requires { ⌜ length (now numbers) ≡ 10000 ⌝ }
+    ensures { λ _. ⌜ Tabled (now (numbers .exit)) ⌝ }
+{
+    let mut n: usize = 0;
+    while n < NUMBERS {
+        numbers[n] = spell(n as u64);
+        n += 1;
     }
 }
 
-// One more: from the right each 9 becomes 0, and the digit before them rises by one. It may be a 0 that was not printed before.
-pub fn count_up(digits: &mut [u8], index: Index) -> Index
-    requires { ⌜ Shows (now digits) index × (index .number + 1 < 18446744073709551616) ⌝ }
-    ensures { λ r. ⌜ Shows (now (digits .exit)) r × (r .number ≡ index .number + 1) ⌝ }
+// A number of at most four digits, by the table. Up to three octets behind it become blanks: whatever is written next covers them.
+fn put_spelled(out: &mut [u8], at: usize, numbers: &[u64], n: u64) -> usize
+    requires { ⌜ (at + 4 ≤ length (now out)) × Tabled (now numbers) × (n < 10000) ⌝ }
+    ensures { λ r. ⌜ Began 3 4 (decimal n) (now (out .entry)) (now (out .exit)) at r ⌝ }
 {
-    let mut i: usize = 19;
-    while digits[i] == b'9' {
-        digits[i] = b'0';
-        i -= 1;
+    let word = numbers[n as usize];
+    put_word(out, at, word % 4294967296);
+    at + (word / 4294967296) as usize
+}
+
+// The word of four digits, also where the first are 0: then it is that of 1,000 more, whose first digit is 1, less one.
+fn four_word(numbers: &[u64], n: u64) -> u64
+    requires { ⌜ Tabled (now numbers) × (n < 10000) ⌝ }
+    ensures { λ r. ⌜ (octetsOf r ≡ lastDigits 4 n) × (r < 4294967296) ⌝ }
+{
+    if n < 1000 {
+        return numbers[n as usize + 1000] % 4294967296 - 1;
     }
-    digits[i] = digits[i] + 1;
-    let number = index.number + 1;
-    let first = index.first;
-    if i < first {
-        return Index { number, first: i };
-    }
-    Index { number, first }
+    numbers[n as usize] % 4294967296
 }
 
 // Octets from a position on, so many. Where that is a constant, the compiler moves them as a word or two.
@@ -221,23 +237,20 @@ fn copy_halves(out: &mut [u8], at: usize, from: &[u8], first: usize, count: usiz
     copy_part(out, at + count - half, from, first + count - half, half);
 }
 
-// The index. Most have four to eight digits.
-fn put_index(out: &mut [u8], at: usize, digits: &[u8], index: Index) -> usize
-    requires { ⌜ (at + 20 ≤ length (now out)) × Shows (now digits) index ⌝ }
-    ensures { λ r. ⌜ Wrote 20 (decimal (index .number)) (now (out .entry)) (now (out .exit)) at r ⌝ }
+// The index. Few have more than eight digits.
+fn put_index(out: &mut [u8], at: usize, numbers: &[u64], n: u64) -> usize
+    requires { ⌜ (at + 20 ≤ length (now out)) × Tabled (now numbers) ⌝ }
+    ensures { λ r. ⌜ Began 3 20 (decimal n) (now (out .entry)) (now (out .exit)) at r ⌝ }
 {
-    let first = index.first;
-    let count = 20 - first;
-    if count < 4 {
-        copy_part(out, at, digits, first, count);
-        return at + count;
+    if n < 10000 {
+        return put_spelled(out, at, numbers, n);
     }
-    if 8 < count {
-        copy_part(out, at, digits, first, count);
-        return at + count;
+    if n < 100000000 {
+        let next = put_spelled(out, at, numbers, n / 10000);
+        put_word(out, next, four_word(numbers, n % 10000));
+        return next + 4;
     }
-    copy_halves(out, at, digits, first, count, 4);
-    at + count
+    put_decimal(out, at, n)
 }
 
 // A blank and a number.
@@ -268,33 +281,40 @@ fn put_two_fields(out: &mut [u8], at: usize, x: u64, y: u64) -> usize
     put_field(out, next, y)
 }
 
-// The digits of a number below 100 side by side in a word, as in put_pair; behind a single one stands a blank, which 8240 has.
-fn few_word(n: u64) -> u64
-    requires { ⌜ n < 100 ⌝ }
-    ensures { λ r. ⌜ (r < 65536) × (r % 256 ∷ r / 256 ∷ [] ≡ take 2 (decimal n ++ (32 ∷ []))) ⌝ }
+// A blank and a number of at most four digits, by the table.
+fn put_short(out: &mut [u8], at: usize, numbers: &[u64], n: u64) -> usize
+    requires { ⌜ (at + 5 ≤ length (now out)) × Tabled (now numbers) × (n < 10000) ⌝ }
+    ensures { λ r. ⌜ Began 3 5 (field n) (now (out .entry)) (now (out .exit)) at r ⌝ }
 {
-    if n < 10 {
-        return 8240 + n;
-    }
-    12336 + n * 256 - n / 10 * 2559
+    out[at] = b' ';
+    put_spelled(out, at + 1, numbers, n)
 }
 
-// Kind and a. No branch asks how many digits a has: where it has one, the blank of the field behind it is written too, and that field
-// is then written over it. 2109472 is a blank, a 0 and a blank.
-fn put_head(out: &mut [u8], at: usize, kind: u64, a: u64) -> usize
-    requires { ⌜ at + 42 ≤ length (now out) ⌝ }
-    ensures { λ r. ⌜ Began 42 (field kind ++ field a) (now (out .entry)) (now (out .exit)) at r ⌝ }
+// Have kind, a and b at most four digits each?
+fn are_short(r: Report) -> bool
+    ensures { λ s. ⌜ (s ≡ true → (r .kind < 10000) × (r .a < 10000) × (r .b < 10000)) ⌝ }
 {
-    if 9 < kind {
-        return put_two_fields(out, at, kind, a);
+    if 9999 < r.kind {
+        return false;
     }
-    if 99 < a {
-        return put_two_fields(out, at, kind, a);
+    if 9999 < r.a {
+        return false;
     }
-    let word = few_word(a);
-    put_word(out, at, 2109472 + kind * 256 + word % 256 * 16777216);
-    out[at + 4] = (word / 256) as u8;
-    at + 3 + digits_of(a)
+    r.b < 10000
+}
+
+// Kind, a and b.
+fn put_head(out: &mut [u8], at: usize, numbers: &[u64], r: Report) -> usize
+    requires { ⌜ (at + 63 ≤ length (now out)) × Tabled (now numbers) ⌝ }
+    ensures { λ n. ⌜ Began 3 63 (field (r .kind) ++ field (r .a) ++ field (r .b)) (now (out .entry)) (now (out .exit)) at n ⌝ }
+{
+    if !are_short(r) {
+        let a = put_two_fields(out, at, r.kind, r.a);
+        return put_field(out, a, r.b);
+    }
+    let kind = put_short(out, at, numbers, r.kind);
+    let a = put_short(out, kind, numbers, r.a);
+    put_short(out, a, numbers, r.b)
 }
 
 // A room's octets in lower-case hexadecimal, all of them: the loop has a constant length, so the compiler makes straight code of it.
@@ -345,12 +365,18 @@ fn put_text(out: &mut [u8], at: usize, room: &[u8], size: usize) -> usize
 }
 
 // "kind, a, b, p, w", and "Radio adds the text".
-fn put_fields(out: &mut [u8], at: usize, r: Report, room: &[u8], size: usize) -> usize
-    requires { ⌜ (at + 170 ≤ length (now out)) × (length (now room) ≡ 32) × (size ≤ 32) ⌝ }
+fn put_fields(
+    out: &mut [u8],
+    at: usize,
+    numbers: &[u64],
+    r: Report,
+    room: &[u8],
+    size: usize,
+) -> usize
+    requires { ⌜ (at + 170 ≤ length (now out)) × Tabled (now numbers) × (length (now room) ≡ 32) × (size ≤ 32) ⌝ }
     ensures { λ n. ⌜ Wrote 170 (reportFields (reportIn r (take size (now (room .entry))))) (now (out .entry)) (now (out .exit)) at n ⌝ }
 {
-    let a = put_head(out, at, r.kind, r.a);
-    let b = put_field(out, a, r.b);
+    let b = put_head(out, at, numbers, r);
     let w = put_two_fields(out, b, r.p, r.w);
     if r.kind == 4 {
         return put_text(out, w, room, size);
@@ -363,17 +389,17 @@ fn put_fields(out: &mut [u8], at: usize, r: Report, room: &[u8], size: usize) ->
 pub fn put_line(
     out: &mut [u8],
     at: usize,
-    digits: &[u8],
-    index: Index,
+    numbers: &[u64],
+    index: u64,
     r: Report,
     room: &[u8],
     size: usize,
 ) -> usize
-    requires { ⌜ (at + longestLine ≤ length (now out)) × (length (now room) ≡ 32) × (size ≤ 32) × Shows (now digits) index ⌝ }
-    ensures { λ n. ⌜ Wrote longestLine (lineOf (index .number) (acceptedIn r (take size (now (room .entry))))) (now (out .entry)) (now (out .exit)) at n ⌝ }
+    requires { ⌜ (at + longestLine ≤ length (now out)) × Tabled (now numbers) × (length (now room) ≡ 32) × (size ≤ 32) ⌝ }
+    ensures { λ n. ⌜ Wrote longestLine (lineOf index (acceptedIn r (take size (now (room .entry))))) (now (out .entry)) (now (out .exit)) at n ⌝ }
 {
-    let number = put_index(out, at, digits, index);
-    let fields = put_fields(out, number, r, room, size);
+    let number = put_index(out, at, numbers, index);
+    let fields = put_fields(out, number, numbers, r, room, size);
     out[fields] = b'\n';
     fields + 1
 }
@@ -390,11 +416,11 @@ fn put_no(out: &mut [u8], at: usize) -> usize
 }
 
 // The line of a refused one.
-pub fn put_refusal(out: &mut [u8], at: usize, digits: &[u8], index: Index, number: u64) -> usize
-    requires { ⌜ (at + longestRefusal ≤ length (now out)) × Shows (now digits) index ⌝ }
-    ensures { λ r. ⌜ Wrote longestRefusal (lineOf (index .number) (refused number)) (now (out .entry)) (now (out .exit)) at r ⌝ }
+pub fn put_refusal(out: &mut [u8], at: usize, index: u64, number: u64) -> usize
+    requires { ⌜ at + longestRefusal ≤ length (now out) ⌝ }
+    ensures { λ r. ⌜ Wrote longestRefusal (lineOf index (refused number)) (now (out .entry)) (now (out .exit)) at r ⌝ }
 {
-    let head = put_index(out, at, digits, index);
+    let head = put_decimal(out, at, index);
     let word = put_no(out, head);
     let refusal = put_field(out, word, number);
     out[refusal] = b'\n';

@@ -9,9 +9,6 @@ use Rattle.report.proofs.put_fields.Tie as tie
 put-head-requires : tie.Need-put-head-requires
 put-head-requires c κs = search needs
 
-put-field-requires : tie.Need-put-field-requires
-put-field-requires c κs = search needs
-
 put-two-fields-requires : tie.Need-put-two-fields-requires
 put-two-fields-requires c κs = search needs
 
@@ -26,11 +23,10 @@ returns c =
     let t = c .before .before in
     let k = t .before .before in
     let w = k .before .before .before .before in
-    let b = w .before .before .before .before in
-    let a = b .before .before .before .before in
-    let s = a .before .before .before .before in
-    with-text (reportIn (s .args .r) (take (s .args .size) (s .args .room .now))) (s .pre .0) (a .put-head .ensures) (b .put-field .ensures)
-    (w .put-two-fields .ensures) (k .if1 .taken) (t .put-text .ensures)
+    let h = w .before .before .before .before in
+    let s = h .before .before .before .before .before in
+    with-text (reportIn (s .args .r) (take (s .args .size) (s .args .room .now))) (s .pre .0) (h .put-head .ensures) (w .put-two-fields .ensures)
+    (k .if1 .taken) (t .put-text .ensures)
 
 same-length-2 : tie.Need-same-length-2
 same-length-2 c = search needs
@@ -38,18 +34,16 @@ same-length-2 c = search needs
 returns-2 : tie.Need-returns-2
 returns-2 c =
     let w = c .before .before .before .before in
-    let b = w .before .before .before .before in
-    let a = b .before .before .before .before in
-    let s = a .before .before .before .before in
-    without-text (reportIn (s .args .r) (take (s .args .size) (s .args .room .now))) (s .pre .0) (a .put-head .ensures) (b .put-field .ensures)
-    (w .put-two-fields .ensures) (c .if1 .left)
+    let h = w .before .before .before .before in
+    let s = h .before .before .before .before .before in
+    without-text (reportIn (s .args .r) (take (s .args .size) (s .args .room .now))) (s .pre .0) (h .put-head .ensures) (w .put-two-fields .ensures)
+    (c .if1 .left)
 
 pub put-fields-spec : {M : Type 1} → statement M
 put-fields-spec =
     tie.close
     (tie.spec
     put-head-requires
-    put-field-requires
     put-two-fields-requires
     put-text-requires
     same-length

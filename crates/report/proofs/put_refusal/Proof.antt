@@ -4,8 +4,8 @@ use borrow.Author.Needs.{needs}
 use Rattle.report.proofs.put_refusal.Statement.{statement}
 use Rattle.report.proofs.put_refusal.Tie as tie
 
-put-index-requires : tie.Need-put-index-requires
-put-index-requires c κs = search needs
+put-decimal-requires : tie.Need-put-decimal-requires
+put-decimal-requires c κs = search needs
 
 put-no-requires : tie.Need-put-no-requires
 put-no-requires c κs = search needs
@@ -24,8 +24,8 @@ returns c =
     let f = c .before .before in
     let n = f .before .before .before .before in
     let d = n .before .before .before .before in
-    let s = d .before .before .before .before in
-    refusal-written (s .args .index .number) (s .args .number) (s .pre .0) (d .put-index .ensures) (n .put-no .ensures) (f .put-field .ensures)
+    let s = d .before .before .before in
+    refusal-written (s .args .index) (s .args .number) (s .pre) (d .put-decimal .ensures) (n .put-no .ensures) (f .put-field .ensures)
 
 same-length : tie.Need-same-length
 same-length c = returns c .kept
@@ -34,7 +34,7 @@ pub put-refusal-spec : {M : Type 1} → statement M
 put-refusal-spec =
     tie.close
     (tie.spec
-    put-index-requires
+    put-decimal-requires
     put-no-requires
     put-field-requires
     slice-write-out
