@@ -14,7 +14,7 @@ use Rattle.report.specs.Lines.{written, Wrote, Began}
 head-length : (l : List ℕ) (at : ℕ) (a : List ℕ) → at ≤ length l → length (take at l ++ a) ≡ at + length a
 head-length l at a h = length-append (take at l) a ∙ ap (λ (n : ℕ). n + length a) (length-take-le at l h)
 
-written-length : (l : List ℕ) (at : ℕ) (a : List ℕ) → at + length a ≤ length l → length (written l at a) ≡ length l
+pub written-length : (l : List ℕ) (at : ℕ) (a : List ℕ) → at + length a ≤ length l → length (written l at a) ≡ length l
 unfolding written
 written-length l at a h =
     let p = length-append (take at l ++ a) (drop (at + length a) l) in
@@ -28,7 +28,7 @@ unfolding written
 written-none l at = rw (append-nil, add-zero) (take-append-drop at l)
 
 -- one octet stored
-written-one : (l : List ℕ) (at x : ℕ) → at < length l → set l at x ≡ written l at (x ∷ [])
+pub written-one : (l : List ℕ) (at x : ℕ) → at < length l → set l at x ≡ written l at (x ∷ [])
 unfolding written
 written-one l at x h = set-split l at x h ∙ sym (append-snoc (take at l) x (drop (suc at) l)) ∙ ap (λ (n : ℕ). take at l ++ (x ∷ []) ++ drop n l) (sym (add-one at))
 
@@ -63,7 +63,7 @@ written-over l at a b j h i m =
         ∙ ap (λ (n : ℕ). drop n l) same
 
 -- written one after the other
-written-then : (l : List ℕ) (at : ℕ) (a b : List ℕ) → at + length a ≤ length l
+pub written-then : (l : List ℕ) (at : ℕ) (a b : List ℕ) → at + length a ≤ length l
     → written (written l at a) (at + length a) b ≡ written l at (a ++ b)
 written-then l at a b h =
     written-over l at a b (length a) h (omega arith) (omega arith) ∙ ap (λ (x : List ℕ). written l at (x ++ b)) (take-length a)

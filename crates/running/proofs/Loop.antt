@@ -12,8 +12,7 @@ use Rattle.protocol.specs.Frames.{readAt}
 use Rattle.protocol.proofs.Tests.{and-left, and-right, by-eq, by-lt}
 use Rattle.view.specs.View.{Lent, floorIn}
 use Rattle.view.proofs.Lengths.{Lengths, lengths-of}
-use Rattle.report.specs.declared.Index.{Index}
-use Rattle.report.specs.Lines.{Shows, longestLine}
+use Rattle.report.specs.Lines.{longestLine}
 use Rattle.report.proofs.Octets.{written-none}
 use Rattle.running.specs.declared.Progress.{Progress}
 use Rattle.running.specs.Piece.{runFrom}
@@ -37,11 +36,6 @@ pub record Going (input : List ℕ) (index : ℕ) (last : Bool) (L₀ L : Lent) 
   pub waits : p .state ≡ 1 → NoneWhole last (readAt limits input (p .read))
   pub ends : p .state ≡ 2 → EndsRun last (readAt limits input (p .read))
 
--- and the digits show the index of the next frame, as long as the run goes on
-pub record Counting (index : ℕ) (digits : List ℕ) (shown : Index) (p : Progress) : Type 0 where
-  pub shows : Shows digits shown
-  pub next : p .state ≡ 0 → shown .number ≡ index + p .frames
-
 -- what falls with each frame: the octets left, and that the run goes on
 abbrev pub left : List ℕ → Progress → ℕ
 left input p = length input - p .read + cond (eqb (p .state) 0) 1 0
@@ -64,12 +58,11 @@ module _ (input : List ℕ) (index : ℕ) (last : Bool) (L₀ : Lent) (out₀ : 
       }
 
   module _ (L : Lent) (out : List ℕ) (p : Progress) (g : Going input index last L₀ L out₀ out p) where
-    pub going-next : (n : ℕ) (L′ : Lent) (out′ : List ℕ) (r : Progress) → n ≡ index + p .frames → Turned input n last L L′ out out′ p r
-        → Going input index last L₀ L′ out₀ out′ r
-    going-next n L′ out′ r e t =
+    pub going-next : (L′ : Lent) (out′ : List ℕ) (r : Progress) → Turned input (index + p .frames) last L L′ out out′ p r → Going input index last L₀ L′ out₀ out′ r
+    going-next L′ out′ r t =
         record {
           ready = t .ready;
-          run = t .runs (floorIn L₀) index out₀ e (g .run);
+          run = t .runs (floorIn L₀) index out₀ refl (g .run);
           inside = t .inside;
           within = let a = t .within in let b = t .kept in omega arith;
           kept = t .kept ∙ g .kept;
@@ -80,19 +73,14 @@ module _ (input : List ℕ) (index : ℕ) (last : Bool) (L₀ : Lent) (out₀ : 
           ends = t .ends;
         }
 
-    pub going-less : (n : ℕ) (L′ : Lent) (out′ : List ℕ) (r : Progress) → p .state ≡ 0 → Turned input n last L L′ out out′ p r → left input r < left input p
-    going-less n L′ out′ r e t =
+    pub going-less : (L′ : Lent) (out′ : List ℕ) (r : Progress) → p .state ≡ 0 → Turned input (index + p .frames) last L L′ out out′ p r → left input r < left input p
+    going-less L′ out′ r e t =
         let a = g .inside in
         let b = t .inside in
         let c = t .stays in
         by-eq (r .state) 0
         (λ z. let d = t .onward z in rw (eq-eqb (r .state) 0 z, eq-eqb (p .state) 0 e) (omega arith))
         (λ z. rw (ne-eqb (r .state) 0 z, eq-eqb (p .state) 0 e) (omega arith))
-
-    pub counting-next : (L′ : Lent) (out′ : List ℕ) (r : Progress) (digits digits′ : List ℕ) (shown shown′ : Index) → p .state ≡ 0 → Counting index digits shown p
-        → Turned input (shown .number) last L L′ out out′ p r → Shows digits′ shown′ × (shown′ .number ≡ shown .number + 1) → Counting index digits′ shown′ r
-    counting-next L′ out′ r digits digits′ shown shown′ e k t up =
-        record { shows = up .0; next = λ z. let a = t .next z in let b = k .next e in let d = up .1 in omega arith }
 
     -- the test of the loop
     module _ (b : Bool) (test : b ≡ (eqb (p .state) 0 && leb (p .written + longestLine) (length out))) where

@@ -124,7 +124,6 @@ module _ (input : List ℕ) (index : ℕ) (last : Bool) (L : Lent) (out : List �
             few = λ z. absurd (omega arith);
             counted = omega arith;
             onward = λ z. absurd (omega arith);
-            next = λ z. absurd (omega arith);
             stays = omega arith;
             why = omega arith;
             waits = λ z. none;
@@ -148,7 +147,6 @@ module _ (input : List ℕ) (index : ℕ) (last : Bool) (L : Lent) (out : List �
         few = λ z. absurd (let a = is .2 in omega arith);
         counted = let a = is .0 in let b = is .1 in omega arith;
         onward = λ z. absurd (let a = is .2 in omega arith);
-        next = λ z. absurd (let a = is .2 in omega arith);
         stays = let a = is .0 in omega arith;
         why = let a = is .2 in omega arith;
         waits = λ z. absurd (let a = is .2 in omega arith);
@@ -174,7 +172,6 @@ module _ (input : List ℕ) (index : ℕ) (last : Bool) (L : Lent) (out : List �
         few = λ z. let a = t .read in let b = t .frames in omega arith;
         counted = let a = t .read in let b = t .frames in omega arith;
         onward = λ z. let a = t .read in omega arith;
-        next = λ z. t .frames;
         stays = let a = t .read in omega arith;
         why = let a = t .state in omega arith;
         waits = λ z. absurd (let a = t .state in omega arith);

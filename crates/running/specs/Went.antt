@@ -72,7 +72,6 @@ pub record Turned (input : List ℕ) (index : ℕ) (last : Bool) (L L′ : Lent)
   pub few : r .state ≡ 0 → r .frames ≤ r .read
   pub counted : r .frames ≤ r .read + 1
   pub onward : r .state ≡ 0 → p .read < r .read
-  pub next : r .state ≡ 0 → r .frames ≡ p .frames + 1
   pub stays : p .read ≤ r .read
   pub why : r .state ≤ 2
   pub waits : r .state ≡ 1 → NoneWhole last (readAt limits input (r .read))

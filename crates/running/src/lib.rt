@@ -6,7 +6,6 @@ use frames::Reading;
 use ids::CartNumber;
 use ids::Station;
 use receiving::Handing;
-use report::Index;
 use report::Report;
 ghost use mathlib.Core.Path.{_≡_};
 ghost use mathlib.Core.Bool.{true, false, not, _&&_};
@@ -24,7 +23,7 @@ ghost use Rattle.answers.specs.Answers.{answerIn};
 ghost use Rattle.answers.specs.Met.{Met};
 ghost use Rattle.receiving.specs.Handing.{handingIn, Fits};
 ghost use Rattle.frames.specs.Decoded.{eventIn, sizeOf};
-ghost use Rattle.report.specs.Lines.{Shows, Wrote, longestLine, longestRefusal};
+ghost use Rattle.report.specs.Lines.{Tabled, Wrote, longestLine, longestRefusal};
 ghost use Rattle.running.specs.Ready.{Ready};
 ghost use Rattle.running.specs.Told.{toldIn, Within};
 ghost use Rattle.running.specs.Went.{Took, Turned, Went};
@@ -197,22 +196,20 @@ fn happen(
     on_floor(stations, carts, messages, lines, texts, input, at, e)
 }
 
-// The line of what an event came to, with the index that the digits show. All the room of its text is lent, so that no loop runs as often as
-// the text is long.
-fn print(out: &mut [u8], texts: &[u8], at: usize, digits: &[u8], index: Index, told: Told) -> usize
-    requires { ⌜ (at + longestLine ≤ length (now out)) × (length (now texts) ≡ 1024) × Within told ⌝ }
-    requires { ⌜ Shows (now digits) index ⌝ }
-    ensures { λ n. ⌜ Wrote longestLine (lineOf (index .number) (toldIn (now (texts .entry)) told)) (now (out .entry)) (now (out .exit)) at n ⌝ }
+// The line of what an event came to. All the room of its text is lent, so that no loop runs as often as the text is long.
+fn print(out: &mut [u8], texts: &[u8], at: usize, numbers: &[u64], index: u64, told: Told) -> usize
+    requires { ⌜ (at + longestLine ≤ length (now out)) × (length (now texts) ≡ 1024) × Tabled (now numbers) × Within told ⌝ }
+    ensures { λ n. ⌜ Wrote longestLine (lineOf index (toldIn (now (texts .entry)) told)) (now (out .entry)) (now (out .exit)) at n ⌝ }
 {
     if told.is_refused {
-        return report::put_refusal(out, at, digits, index, told.refusal);
+        return report::put_refusal(out, at, index, told.refusal);
     }
     let from = told.room * TEXT;
     let end = from + TEXT;
     report::put_line(
         out,
         at,
-        digits,
+        numbers,
         index,
         told.report,
         &texts[from..end],
@@ -272,18 +269,18 @@ fn take_event(
     messages: &mut [u64],
     lines: &mut [u64],
     texts: &mut [u8],
-    digits: &[u8],
-    index: Index,
+    numbers: &[u64],
+    index: u64,
     p: Progress,
     e: Event,
 ) -> Progress
     requires { ⌜ Ready (lent (now stations) (now carts) (now messages) (now lines) (now texts)) ⌝ }
     requires { ⌜ (p .read + sizeOf e ≤ length (now input)) × (sizeOf e ≤ 48) × (p .written + longestLine ≤ length (now output)) ⌝ }
-    requires { ⌜ (p .frames ≤ p .read) × (length (now input) + 1 < 18446744073709551616) × Shows (now digits) index ⌝ }
-    ensures { λ r. ⌜ Took (index .number) (lent (now (stations .entry)) (now (carts .entry)) (now (messages .entry)) (now (lines .entry)) (now (texts .entry))) (lent (now (stations .exit)) (now (carts .exit)) (now (messages .exit)) (now (lines .exit)) (now (texts .exit))) (now (output .entry)) (now (output .exit)) p r (eventIn (drop (p .read) (now (input .entry))) e) (sizeOf e) ⌝ }
+    requires { ⌜ (p .frames ≤ p .read) × (length (now input) + 1 < 18446744073709551616) × Tabled (now numbers) ⌝ }
+    ensures { λ r. ⌜ Took index (lent (now (stations .entry)) (now (carts .entry)) (now (messages .entry)) (now (lines .entry)) (now (texts .entry))) (lent (now (stations .exit)) (now (carts .exit)) (now (messages .exit)) (now (lines .exit)) (now (texts .exit))) (now (output .entry)) (now (output .exit)) p r (eventIn (drop (p .read) (now (input .entry))) e) (sizeOf e) ⌝ }
 {
     let told = happen(stations, carts, messages, lines, texts, input, p.read, e);
-    let written = print(output, texts, p.written, digits, index, told);
+    let written = print(output, texts, p.written, numbers, index, told);
     Progress {
         read: p.read + frames::size_of(e),
         written,
@@ -293,12 +290,12 @@ fn take_event(
 }
 
 // The line of a frame that is refused, which ends the run.
-fn refuse(output: &mut [u8], digits: &[u8], index: Index, p: Progress, number: u64) -> Progress
-    requires { ⌜ (p .written + longestLine ≤ length (now output)) × (p .frames + 1 < 18446744073709551616) × Shows (now digits) index ⌝ }
-    ensures { λ r. ⌜ Wrote longestRefusal (lineOf (index .number) (refused number)) (now (output .entry)) (now (output .exit)) (p .written) (r .written) ⌝ }
+fn refuse(output: &mut [u8], index: u64, p: Progress, number: u64) -> Progress
+    requires { ⌜ (p .written + longestLine ≤ length (now output)) × (p .frames + 1 < 18446744073709551616) ⌝ }
+    ensures { λ r. ⌜ Wrote longestRefusal (lineOf index (refused number)) (now (output .entry)) (now (output .exit)) (p .written) (r .written) ⌝ }
     ensures { λ r. ⌜ (r .read ≡ p .read) × (r .frames ≡ p .frames + 1) × (r .state ≡ 2) ⌝ }
 {
-    let written = report::put_refusal(output, p.written, digits, index, number);
+    let written = report::put_refusal(output, p.written, index, number);
     Progress {
         read: p.read,
         written,
@@ -316,15 +313,15 @@ fn take_frame(
     messages: &mut [u64],
     lines: &mut [u64],
     texts: &mut [u8],
-    digits: &[u8],
-    index: Index,
+    numbers: &[u64],
+    index: u64,
     p: Progress,
     last: bool,
 ) -> Progress
     requires { ⌜ Ready (lent (now stations) (now carts) (now messages) (now lines) (now texts)) ⌝ }
     requires { ⌜ (p .state ≡ 0) × (p .read ≤ length (now input)) × (p .written + longestLine ≤ length (now output)) ⌝ }
-    requires { ⌜ (p .frames ≤ p .read) × (length (now input) + 1 < 18446744073709551616) × Shows (now digits) index ⌝ }
-    ensures { λ r. ⌜ Turned (now (input .entry)) (index .number) last (lent (now (stations .entry)) (now (carts .entry)) (now (messages .entry)) (now (lines .entry)) (now (texts .entry))) (lent (now (stations .exit)) (now (carts .exit)) (now (messages .exit)) (now (lines .exit)) (now (texts .exit))) (now (output .entry)) (now (output .exit)) p r ⌝ }
+    requires { ⌜ (p .frames ≤ p .read) × (length (now input) + 1 < 18446744073709551616) × Tabled (now numbers) ⌝ }
+    ensures { λ r. ⌜ Turned (now (input .entry)) index last (lent (now (stations .entry)) (now (carts .entry)) (now (messages .entry)) (now (lines .entry)) (now (texts .entry))) (lent (now (stations .exit)) (now (carts .exit)) (now (messages .exit)) (now (lines .exit)) (now (texts .exit))) (now (output .entry)) (now (output .exit)) p r ⌝ }
 {
     let reading = frames::frame_at(input, p.read);
     match reading {
@@ -333,7 +330,7 @@ fn take_frame(
             if may_come(number, last) {
                 waiting(p)
             } else {
-                refuse(output, digits, index, p, number)
+                refuse(output, index, p, number)
             }
         }
         Reading::Taken(e) => take_event(
@@ -344,7 +341,7 @@ fn take_frame(
             messages,
             lines,
             texts,
-            digits,
+            numbers,
             index,
             p,
             e,
@@ -365,7 +362,7 @@ fn goes_on(output: &[u8], p: Progress) -> bool
 
 // THE RUN OVER A PIECE: whole frames are taken from the front of the input while the output has room for their lines, from the frame with this
 // index on. What it writes is, octet for octet, the printed lines of the written run over those frames, and the floor that it leaves is that
-// run's. The index is kept printed and counted up with each turn; a turn that takes no frame is the last, and nothing asks for the index behind it.
+// run's. The table of numbers is lent too, so that it is made once and not for each piece.
 pub fn take_frames(
     input: &[u8],
     output: &mut [u8],
@@ -374,15 +371,14 @@ pub fn take_frames(
     messages: &mut [u64],
     lines: &mut [u64],
     texts: &mut [u8],
+    numbers: &[u64],
     index: u64,
     last: bool,
 ) -> Progress
-    requires { ⌜ Ready (lent (now stations) (now carts) (now messages) (now lines) (now texts)) ⌝ }
+    requires { ⌜ Ready (lent (now stations) (now carts) (now messages) (now lines) (now texts)) × Tabled (now numbers) ⌝ }
     requires { ⌜ index + length (now input) + 1 < 18446744073709551616 ⌝ }
     ensures { λ p. ⌜ Went (now (input .entry)) index last (lent (now (stations .entry)) (now (carts .entry)) (now (messages .entry)) (now (lines .entry)) (now (texts .entry))) (lent (now (stations .exit)) (now (carts .exit)) (now (messages .exit)) (now (lines .exit)) (now (texts .exit))) (now (output .entry)) (now (output .exit)) p ⌝ }
 {
-    let mut digits = [b'0'; 20];
-    let mut shown = report::show(&mut digits, index);
     let mut p = Progress {
         read: 0,
         written: 0,
@@ -398,12 +394,11 @@ pub fn take_frames(
             messages,
             lines,
             texts,
-            &digits,
-            shown,
+            numbers,
+            index + p.frames,
             p,
             last,
         );
-        shown = report::count_up(&mut digits, shown);
     }
     p
 }

@@ -12,7 +12,7 @@ same-length : tie.Need-same-length
 same-length c = search needs
 
 returns : tie.Need-returns
-returns c = let a = c .before .before .before .before .before .before .before .before .args in told-refusal (now (a .texts)) (a .told) (a .index .number) _ _ (a .at) _ (c .before .before .before .before .if1 .taken) (c .before .before .put-refusal .ensures)
+returns c = let a = c .before .before .before .before .before .before .before .before .args in told-refusal (now (a .texts)) (a .told) (a .index) _ _ (a .at) _ (c .before .before .before .before .if1 .taken) (c .before .before .put-refusal .ensures)
 
 mul-from : tie.Need-mul-from
 mul-from c = search needs
@@ -40,7 +40,7 @@ returns-2 c =
     let e = c .before .before .before .before .before .before in
     let s = e .before .before .before .before in
     let a = s .args in
-    told-line (now (a .texts)) (a .told) (a .index .number) _ _ (a .at) _ (e .if1 .left) (s .pre .0 .2 .size) (c .before .before .put-line .ensures)
+    told-line (now (a .texts)) (a .told) (a .index) _ _ (a .at) _ (e .if1 .left) (s .pre .3 .size) (c .before .before .put-line .ensures)
 
 pub print-spec : {M : Type 1} → statement M
 print-spec =

@@ -14,7 +14,11 @@ happen-requires : tie.Need-happen-requires
 happen-requires c κs = search needs
 
 print-requires : tie.Need-print-requires
-print-requires c κs = let a = c .before .before .before .before .before .before .before .before .before .before .before .before .before .before .before .before .before .before .before .before .before .before .before .before .before .before .args in let h = c .before .before .before .before .before .before .before .before .before .before .before .before .happen .ensures in ((c .before .before .before .before .before .before .before .before .before .before .before .before .before .before .before .before .before .before .before .before .before .before .before .before .before .before .pre .1 .0 .2, texts-long _ (goes-on (lent (now (a .stations)) (now (a .carts)) (now (a .messages)) (now (a .lines)) (now (a .texts))) _ _ _ (c .before .before .before .before .before .before .before .before .before .before .before .before .before .before .before .before .before .before .before .before .before .before .before .before .before .before .pre .0) (h .1)), h .0), c .before .before .before .before .before .before .before .before .before .before .before .before .before .before .before .before .before .before .before .before .before .before .before .before .before .before .pre .1 .1 .2)
+print-requires c κs =
+    let s = c .before .before .before .before .before .before .before .before .before .before .before .before .before .before .before .before .before .before .before .before .before .before .before .before .before .before in
+    let a = s .args in
+    let h = c .before .before .before .before .before .before .before .before .before .before .before .before .happen .ensures in
+    (s .pre .1 .0 .2, texts-long _ (goes-on (lent (now (a .stations)) (now (a .carts)) (now (a .messages)) (now (a .lines)) (now (a .texts))) _ _ _ (s .pre .0) (h .1)), s .pre .1 .1 .2, h .0)
 
 size-of-requires : tie.Need-size-of-requires
 size-of-requires c κs = omega (arith, c .before .before .before .before .before .before .before .before .before .before .before .before .before .before .before .before .before .before .before .before .before .before .before .before .before .before .before .before .before .pre .1 .0)
@@ -44,7 +48,7 @@ same-length-6 : tie.Need-same-length-6
 same-length-6 c = search needs
 
 returns : tie.Need-returns
-returns c = let a = c .before .before .before .before .before .before .before .before .before .before .before .before .before .before .before .before .before .before .before .before .before .before .before .before .before .before .before .before .before .before .before .before .args in let h = c .before .before .before .before .before .before .before .before .before .before .before .before .before .before .before .before .before .before .happen .ensures in took (a .index .number) (lent (now (a .stations)) (now (a .carts)) (now (a .messages)) (now (a .lines)) (now (a .texts))) _ (now (a .output)) _ (a .p) _ _ _ _ (c .before .before .before .before .before .before .before .before .before .before .before .before .before .before .before .before .before .before .before .before .before .before .before .before .before .before .before .before .before .before .before .before .pre .0) (h .1) (c .before .before .before .before .before .print .ensures) (ap (λ (k : ℕ). a .p .read + k) (c .before .before .size-of .ensures)) refl refl
+returns c = let a = c .before .before .before .before .before .before .before .before .before .before .before .before .before .before .before .before .before .before .before .before .before .before .before .before .before .before .before .before .before .before .before .before .args in let h = c .before .before .before .before .before .before .before .before .before .before .before .before .before .before .before .before .before .before .happen .ensures in took (a .index) (lent (now (a .stations)) (now (a .carts)) (now (a .messages)) (now (a .lines)) (now (a .texts))) _ (now (a .output)) _ (a .p) _ _ _ _ (c .before .before .before .before .before .before .before .before .before .before .before .before .before .before .before .before .before .before .before .before .before .before .before .before .before .before .before .before .before .before .before .before .pre .0) (h .1) (c .before .before .before .before .before .print .ensures) (ap (λ (k : ℕ). a .p .read + k) (c .before .before .size-of .ensures)) refl refl
 
 pub take-event-spec : {M : Type 1} → statement M
 take-event-spec =
