@@ -6,7 +6,7 @@ ghost use mathlib.Core.Bool.{true};
 ghost use Prim.Native.Nat.{_+_, _-_, _≤_, _<_};
 ghost use lib.ListN.{length, take, drop};
 ghost use Rattle.stations.specs.View.{headIn};
-ghost use Rattle.report.specs.Lines.{written};
+ghost use Rattle.report.specs.Lines.{written, Tabled};
 ghost use Rattle.running.specs.Ready.{Ready};
 ghost use Rattle.view.specs.View.{lent};
 ghost use Rattle.feeding.specs.Feed.{Inside};
@@ -62,6 +62,15 @@ fn no_texts() -> [u8; 1024]
     ensures { λ r. ⌜ length r ≡ 1024 ⌝ }
 {
     [0; 1024]
+}
+
+// The table of numbers, spelled once for the whole run.
+fn all_numbers() -> [u64; 10000]
+    ensures { λ r. ⌜ Tabled r ⌝ }
+{
+    let mut numbers = [0u64; 10000];
+    report::spell_all(&mut numbers);
+    numbers
 }
 
 // The octets from `at` up to `have`, to the front of the piece. A frame that is not whole yet has at most 47.
@@ -143,9 +152,10 @@ fn run_piece(
     messages: &mut [u64],
     lines: &mut [u64],
     texts: &mut [u8],
+    numbers: &[u64],
     f: Feed,
 ) -> Feed
-    requires { ⌜ Ready (lent (now stations) (now carts) (now messages) (now lines) (now texts)) ⌝ }
+    requires { ⌜ Ready (lent (now stations) (now carts) (now messages) (now lines) (now texts)) × Tabled (now numbers) ⌝ }
     requires { ⌜ Inside (length (now input)) f × (length (now input) ≡ 65536) × (f .index < 9223372036854775808) ⌝ }
     ensures { λ r. ⌜ Ready (lent (now (stations .exit)) (now (carts .exit)) (now (messages .exit)) (now (lines .exit)) (now (texts .exit))) × Inside (length (now (input .entry))) r ⌝ }
     ensures { λ r. ⌜ length (now (output .exit)) ≡ length (now (output .entry)) ⌝ }
@@ -160,6 +170,7 @@ fn run_piece(
         messages,
         lines,
         texts,
+        numbers,
         f.index,
         f.last,
     );
@@ -197,9 +208,10 @@ fn turn(
     messages: &mut [u64],
     lines: &mut [u64],
     texts: &mut [u8],
+    numbers: &[u64],
     f: Feed,
 ) -> Feed
-    requires { ⌜ Ready (lent (now stations) (now carts) (now messages) (now lines) (now texts)) ⌝ }
+    requires { ⌜ Ready (lent (now stations) (now carts) (now messages) (now lines) (now texts)) × Tabled (now numbers) ⌝ }
     requires { ⌜ Inside (length (now input)) f × (length (now input) ≡ 65536) × (f .index < 9223372036854775808) ⌝ }
     ensures { λ r. ⌜ Ready (lent (now (stations .exit)) (now (carts .exit)) (now (messages .exit)) (now (lines .exit)) (now (texts .exit))) × Inside (length (now (input .exit))) r ⌝ }
     ensures { λ r. ⌜ (length (now (input .exit)) ≡ length (now (input .entry))) × (length (now (output .exit)) ≡ length (now (output .entry))) ⌝ }
@@ -217,6 +229,7 @@ fn turn(
         messages,
         lines,
         texts,
+        numbers,
         g,
     )
 }
@@ -246,8 +259,9 @@ fn run_all(
     messages: &mut [u64],
     lines: &mut [u64],
     texts: &mut [u8],
+    numbers: &[u64],
 )
-    requires { ⌜ Ready (lent (now stations) (now carts) (now messages) (now lines) (now texts)) × (length (now input) ≡ 65536) ⌝ }
+    requires { ⌜ Ready (lent (now stations) (now carts) (now messages) (now lines) (now texts)) × Tabled (now numbers) × (length (now input) ≡ 65536) ⌝ }
 {
     let mut f = Feed {
         at: 0,
@@ -269,6 +283,7 @@ fn run_all(
             messages,
             lines,
             texts,
+            numbers,
             f,
         );
     }
@@ -283,6 +298,7 @@ pub fn run(from: i32, to: i32) {
     let mut messages = no_messages();
     let mut lines = no_lines();
     let mut texts = no_texts();
+    let numbers = all_numbers();
     run_all(
         from,
         to,
@@ -293,5 +309,6 @@ pub fn run(from: i32, to: i32) {
         &mut messages,
         &mut lines,
         &mut texts,
+        &numbers,
     );
 }

@@ -26,6 +26,9 @@ no-lines-requires c κs = search needs
 no-texts-requires : tie.Need-no-texts-requires
 no-texts-requires c κs = search needs
 
+all-numbers-requires : tie.Need-all-numbers-requires
+all-numbers-requires c κs = search needs
+
 slice-aggregate-run-all : tie.Need-slice-aggregate-run-all
 slice-aggregate-run-all c = search needs
 
@@ -47,8 +50,21 @@ slice-aggregate-run-all-6 c = search needs
 slice-aggregate-run-all-7 : tie.Need-slice-aggregate-run-all-7
 slice-aggregate-run-all-7 c = search needs
 
+slice-aggregate-run-all-8 : tie.Need-slice-aggregate-run-all-8
+slice-aggregate-run-all-8 c = search needs
+
 run-all-requires : tie.Need-run-all-requires
-run-all-requires c κs = (fresh-ready _ _ _ _ _ (c .before .before .before .before .before .before .before .before .before .before .before .no-stations .ensures) (c .before .before .before .before .before .before .before .before .before .before .no-carts .ensures) (c .before .before .before .before .before .before .before .before .before .no-messages .ensures) (c .before .before .before .before .before .before .before .before .no-lines .ensures) (c .before .before .before .before .before .before .before .no-texts .ensures), sym (c .before .before .before .before .before .before .before .before .before .before .before .before .before .large-buffer .ensures))
+run-all-requires c κs =
+    let n = c .before .before .before .before .before .before .before .before in
+    let t = n .before in
+    let l = t .before in
+    let m = l .before in
+    let k = m .before in
+    let s = k .before in (
+      fresh-ready _ _ _ _ _ (s .no-stations .ensures) (k .no-carts .ensures) (m .no-messages .ensures) (l .no-lines .ensures) (t .no-texts .ensures),
+      n .all-numbers .ensures,
+      sym (s .before .before .large-buffer .ensures),
+    )
 
 returns : tie.Need-returns
 returns c = search needs
@@ -64,6 +80,7 @@ run-spec =
     no-messages-requires
     no-lines-requires
     no-texts-requires
+    all-numbers-requires
     slice-aggregate-run-all
     slice-aggregate-run-all-2
     slice-aggregate-run-all-3
@@ -71,5 +88,6 @@ run-spec =
     slice-aggregate-run-all-5
     slice-aggregate-run-all-6
     slice-aggregate-run-all-7
+    slice-aggregate-run-all-8
     run-all-requires
     returns)

@@ -12,15 +12,17 @@ use Rattle.feeding.proofs.run_all.Statement.{statement}
 use Rattle.feeding.proofs.run_all.Tie as tie
 
 abbrev Inv-loop : tie.InvT-loop
-Inv-loop from to input₀ output₀ stations₀ carts₀ messages₀ lines₀ texts₀ f₀ turns₀ input output stations carts messages lines texts f turns =
+Inv-loop from to input₀ output₀ stations₀ carts₀ messages₀ lines₀ texts₀ numbers f₀ turns₀ input output stations carts messages lines texts f turns =
     Ready (lent stations carts messages lines texts) × Inside (length input) f × (length input ≡ 65536) × (length output ≡ length output₀)
 
 abbrev μ-loop : tie.MeasureT-loop
-μ-loop from to input₀ output₀ stations₀ carts₀ messages₀ lines₀ texts₀ f₀ turns₀ input output stations carts messages lines texts f turns =
+μ-loop from to input₀ output₀ stations₀ carts₀ messages₀ lines₀ texts₀ numbers f₀ turns₀ input output stations carts messages lines texts f turns =
     turns
 
 loop-holds : tie.Need-loop-holds Inv-loop μ-loop
-loop-holds c = (c .before .before .before .before .before .before .before .pre .0, record { run = omega arith; read = omega arith }, c .before .before .before .before .before .before .before .pre .1, refl)
+loop-holds c =
+    let s = c .before .before .before .before .before .before .before .before in
+    (s .pre .0, record { run = omega arith; read = omega arith }, s .pre .2, refl)
 
 goes-on-requires : tie.Need-goes-on-requires Inv-loop μ-loop
 goes-on-requires c κs = search needs
@@ -29,7 +31,12 @@ sub-turns : tie.Need-sub-turns Inv-loop μ-loop
 sub-turns c = omega (arith, c .before .goes-on .ensures (c .if1 .taken))
 
 turn-requires : tie.Need-turn-requires Inv-loop μ-loop
-turn-requires c κs = let l = c .before .before .before .before .before .before .before .before .before .loop .inv in let g = c .before .before .before .before .before .before .before .before .goes-on .ensures (c .before .before .before .before .before .before .before .if1 .taken) in (l .0, (l .1, l .2, g .1))
+turn-requires c κs =
+    let g = c .before .before .before .before .before .before .before .before in
+    let l = g .before in
+    let s = l .before .before .before .before .before .before .before .before .before in
+    let i = l .loop .inv in
+    ((i .0, s .pre .1), (i .1, i .2, g .goes-on .ensures (c .before .before .before .before .before .before .before .if1 .taken) .1))
 
 loop-less : tie.Need-loop-less Inv-loop μ-loop
 loop-less c = omega (arith, c .before .before .before .before .before .before .before .before .before .before .before .before .before .before .before .before .before .before .before .before .before .before .before .goes-on .ensures (c .before .before .before .before .before .before .before .before .before .before .before .before .before .before .before .before .before .before .before .before .before .before .if1 .taken))
@@ -38,25 +45,45 @@ loop-again : tie.Need-loop-again Inv-loop μ-loop
 loop-again c = let l = c .before .before .before .before .before .before .before .before .before .before .before .before .before .before .before .before .before .before .before .before .before .before .before .before .loop .inv in let t = c .before .before .before .before .before .before .before .before .before .before .before .before .before .before .turn .ensures in (t .0 .0, t .0 .1, t .1 .0 ∙ l .2, t .1 .1 ∙ l .3)
 
 same-length : tie.Need-same-length Inv-loop μ-loop
-same-length c = c .before .before .loop .inv .2 ∙ sym (c .before .before .before .before .before .before .before .before .before .before .pre .1)
+same-length c = c .before .before .loop .inv .2 ∙ sym (c .before .before .before .before .before .before .before .before .before .before .before .pre .2)
 
 same-length-2 : tie.Need-same-length-2 Inv-loop μ-loop
 same-length-2 c = c .before .before .loop .inv .3
 
 same-length-3 : tie.Need-same-length-3 Inv-loop μ-loop
-same-length-3 c = let a = c .before .before .before .before .before .before .before .before .before .before .args in same-stations (lent (now (a .stations)) (now (a .carts)) (now (a .messages)) (now (a .lines)) (now (a .texts))) _ (c .before .before .before .before .before .before .before .before .before .before .pre .0) (c .before .before .loop .inv .0)
+same-length-3 c =
+    let l = c .before .before in
+    let s = l .before .before .before .before .before .before .before .before .before in
+    let a = s .args in
+    same-stations (lent (now (a .stations)) (now (a .carts)) (now (a .messages)) (now (a .lines)) (now (a .texts))) _ (s .pre .0) (l .loop .inv .0)
 
 same-length-4 : tie.Need-same-length-4 Inv-loop μ-loop
-same-length-4 c = let a = c .before .before .before .before .before .before .before .before .before .before .args in same-carts (lent (now (a .stations)) (now (a .carts)) (now (a .messages)) (now (a .lines)) (now (a .texts))) _ (c .before .before .before .before .before .before .before .before .before .before .pre .0) (c .before .before .loop .inv .0)
+same-length-4 c =
+    let l = c .before .before in
+    let s = l .before .before .before .before .before .before .before .before .before in
+    let a = s .args in
+    same-carts (lent (now (a .stations)) (now (a .carts)) (now (a .messages)) (now (a .lines)) (now (a .texts))) _ (s .pre .0) (l .loop .inv .0)
 
 same-length-5 : tie.Need-same-length-5 Inv-loop μ-loop
-same-length-5 c = let a = c .before .before .before .before .before .before .before .before .before .before .args in same-messages (lent (now (a .stations)) (now (a .carts)) (now (a .messages)) (now (a .lines)) (now (a .texts))) _ (c .before .before .before .before .before .before .before .before .before .before .pre .0) (c .before .before .loop .inv .0)
+same-length-5 c =
+    let l = c .before .before in
+    let s = l .before .before .before .before .before .before .before .before .before in
+    let a = s .args in
+    same-messages (lent (now (a .stations)) (now (a .carts)) (now (a .messages)) (now (a .lines)) (now (a .texts))) _ (s .pre .0) (l .loop .inv .0)
 
 same-length-6 : tie.Need-same-length-6 Inv-loop μ-loop
-same-length-6 c = let a = c .before .before .before .before .before .before .before .before .before .before .args in same-lines (lent (now (a .stations)) (now (a .carts)) (now (a .messages)) (now (a .lines)) (now (a .texts))) _ (c .before .before .before .before .before .before .before .before .before .before .pre .0) (c .before .before .loop .inv .0)
+same-length-6 c =
+    let l = c .before .before in
+    let s = l .before .before .before .before .before .before .before .before .before in
+    let a = s .args in
+    same-lines (lent (now (a .stations)) (now (a .carts)) (now (a .messages)) (now (a .lines)) (now (a .texts))) _ (s .pre .0) (l .loop .inv .0)
 
 same-length-7 : tie.Need-same-length-7 Inv-loop μ-loop
-same-length-7 c = let a = c .before .before .before .before .before .before .before .before .before .before .args in same-texts (lent (now (a .stations)) (now (a .carts)) (now (a .messages)) (now (a .lines)) (now (a .texts))) _ (c .before .before .before .before .before .before .before .before .before .before .pre .0) (c .before .before .loop .inv .0)
+same-length-7 c =
+    let l = c .before .before in
+    let s = l .before .before .before .before .before .before .before .before .before in
+    let a = s .args in
+    same-texts (lent (now (a .stations)) (now (a .carts)) (now (a .messages)) (now (a .lines)) (now (a .texts))) _ (s .pre .0) (l .loop .inv .0)
 
 returns : tie.Need-returns Inv-loop μ-loop
 returns c = search needs

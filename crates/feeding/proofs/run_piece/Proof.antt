@@ -29,11 +29,21 @@ slice-aggregate-write-all c = let w = c .before .before .before .before .before 
 write-all-requires : tie.Need-write-all-requires
 write-all-requires c κs = search needs
 
-add-t16 : tie.Need-add-t16
-add-t16 c = let a = c .before .before .before .before .before .before .before .before .before .before .before .before .before .before .before .before .before .before .before .before .before .before .before .before .before .before .before .before .before .before .args in let w = c .before .before .before .before .before .before .before .before .before .before .before .before .before .before .before .take-frames .ensures in let part = part-length (now (a .input)) (a .f) (c .before .before .before .before .before .before .before .before .before .before .before .before .before .before .before .before .before .before .before .before .before .before .before .before .before .before .before .before .before .before .pre .1 .0) in omega (arith, part, w .inside, c .before .before .before .before .before .before .before .before .before .before .before .before .before .before .before .before .before .before .before .before .before .before .before .before .before .before .before .before .before .before .pre .1 .0, c .before .before .before .before .before .before .before .before .before .before .before .before .before .before .before .before .before .before .before .before .before .before .before .before .before .before .before .before .before .before .pre .1 .1)
+add-t17 : tie.Need-add-t17
+add-t17 c =
+    let s = c .before .before .before .before .before .before .before .before .before .before .before .before .before .before .before .before .before .before .before .before .before .before .before .before .before .before .before .before .before .before .before in
+    let a = s .args in
+    let w = c .before .before .before .before .before .before .before .before .before .before .before .before .before .before .before .take-frames .ensures in
+    let part = part-length (now (a .input)) (a .f) (s .pre .1 .0) in
+    omega (arith, part, w .inside, s .pre .1 .0, s .pre .1 .1)
 
-add-t33 : tie.Need-add-t33
-add-t33 c = let a = c .before .before .before .before .before .before .before .before .before .before .before .before .before .before .before .before .before .before .before .before .before .before .before .before .before .before .before .before .before .before .before .before .args in let w = c .before .before .before .before .before .before .before .before .before .before .before .before .before .before .before .before .before .take-frames .ensures in let part = part-length (now (a .input)) (a .f) (c .before .before .before .before .before .before .before .before .before .before .before .before .before .before .before .before .before .before .before .before .before .before .before .before .before .before .before .before .before .before .before .before .pre .1 .0) in omega (arith, part, w .inside, w .few, c .before .before .before .before .before .before .before .before .before .before .before .before .before .before .before .before .before .before .before .before .before .before .before .before .before .before .before .before .before .before .before .before .pre .1 .0, c .before .before .before .before .before .before .before .before .before .before .before .before .before .before .before .before .before .before .before .before .before .before .before .before .before .before .before .before .before .before .before .before .pre .1 .1, c .before .before .before .before .before .before .before .before .before .before .before .before .before .before .before .before .before .before .before .before .before .before .before .before .before .before .before .before .before .before .before .before .pre .1 .2)
+add-t34 : tie.Need-add-t34
+add-t34 c =
+    let s = c .before .before .before .before .before .before .before .before .before .before .before .before .before .before .before .before .before .before .before .before .before .before .before .before .before .before .before .before .before .before .before .before .before in
+    let a = s .args in
+    let w = c .before .before .before .before .before .before .before .before .before .before .before .before .before .before .before .before .before .take-frames .ensures in
+    let part = part-length (now (a .input)) (a .f) (s .pre .1 .0) in
+    omega (arith, part, w .inside, w .few, s .pre .1 .0, s .pre .1 .1, s .pre .1 .2)
 
 state-after-requires : tie.Need-state-after-requires
 state-after-requires c κs = search needs
@@ -57,7 +67,12 @@ same-length-6 : tie.Need-same-length-6
 same-length-6 c = search needs
 
 returns : tie.Need-returns
-returns c = let a = c .before .before .before .before .before .before .before .before .before .before .before .before .before .before .before .before .before .before .before .before .before .before .before .before .before .before .before .before .before .before .before .before .before .args in let w = c .before .before .before .before .before .before .before .before .before .before .before .before .before .before .before .before .before .before .take-frames .ensures in let part = part-length (now (a .input)) (a .f) (c .before .before .before .before .before .before .before .before .before .before .before .before .before .before .before .before .before .before .before .before .before .before .before .before .before .before .before .before .before .before .before .before .before .pre .1 .0) in ((w .ready, record { run = omega (arith, part, w .inside, c .before .before .before .before .before .before .before .before .before .before .before .before .before .before .before .before .before .before .before .before .before .before .before .before .before .before .before .before .before .before .before .before .before .pre .1 .0); read = c .before .before .before .before .before .before .before .before .before .before .before .before .before .before .before .before .before .before .before .before .before .before .before .before .before .before .before .before .before .before .before .before .before .pre .1 .0 .read }), w .kept)
+returns c =
+    let s = c .before .before .before .before .before .before .before .before .before .before .before .before .before .before .before .before .before .before .before .before .before .before .before .before .before .before .before .before .before .before .before .before .before .before in
+    let a = s .args in
+    let w = c .before .before .before .before .before .before .before .before .before .before .before .before .before .before .before .before .before .before .take-frames .ensures in
+    let part = part-length (now (a .input)) (a .f) (s .pre .1 .0) in
+    ((w .ready, record { run = omega (arith, part, w .inside, s .pre .1 .0); read = s .pre .1 .0 .read }), w .kept)
 
 pub run-piece-spec : {M : Type 1} → statement M
 run-piece-spec =
@@ -70,8 +85,8 @@ run-piece-spec =
     slice-reshare-prefix-write-all
     slice-aggregate-write-all
     write-all-requires
-    add-t16
-    add-t33
+    add-t17
+    add-t34
     state-after-requires
     same-length
     same-length-2

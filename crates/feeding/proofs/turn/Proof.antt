@@ -15,7 +15,10 @@ returns : tie.Need-returns
 returns c = search needs
 
 run-piece-requires : tie.Need-run-piece-requires
-run-piece-requires c κs = let g = c .before .before .before .before .before .before .before .before .before .before .before .fed .ensures in (c .before .before .before .before .before .before .before .before .before .before .before .before .before .before .before .before .before .before .before .before .pre .0, (g .0 .0, g .1 ∙ c .before .before .before .before .before .before .before .before .before .before .before .before .before .before .before .before .before .before .before .before .pre .1 .1, omega (arith, g .0 .1, c .before .before .before .before .before .before .before .before .before .before .before .before .before .before .before .before .before .before .before .before .pre .1 .2)))
+run-piece-requires c κs =
+    let g = c .before .before .before .before .before .before .before .before .before .before .before .fed .ensures in
+    let s = c .before .before .before .before .before .before .before .before .before .before .before .before .before .before .before .before .before .before .before .before .before in
+    (s .pre .0, (g .0 .0, g .1 ∙ s .pre .1 .1, omega (arith, g .0 .1, s .pre .1 .2)))
 
 same-length-2 : tie.Need-same-length-2
 same-length-2 c = search needs
