@@ -214,41 +214,47 @@ part-copied l l₁ d at first k count e h q =
     ∙ ap (λ (n : ℕ). take at l ++ take count (drop first d) ++ drop (at + n) l)
     (sym (length-take-le count (drop first d) (let z = length-drop first d in omega arith)))
 
--- two parts of one length, from the front and up to the end, which overlap
-pub halves-copied : (l l₁ l₂ d : List ℕ) (at first count half : ℕ) → half ≤ count → count ≤ 2 * half → at + count ≤ length l
-    → first + count ≤ length d → l₁ ≡ written l at (take half (drop first d))
-    → l₂ ≡ written l₁ (at + count - half) (take half (drop (first + count - half) d))
-    → l₂ ≡ written l at (take count (drop first d))
-halves-copied l l₁ l₂ d at first count half h k r i q w =
-    w
-    ∙ ap₂ (λ (a : List ℕ) (n : ℕ). written a n (take half (drop (first + count - half) d))) q place
-    ∙ ap (λ (b : List ℕ). written (written l at (take half x)) (at + j) (take half b)) behind
-    ∙ written-over l at (take half x) (take half (drop j x)) j (let z = front in omega arith)
-    (let z = front in omega arith) (let z = front in let y = back in omega arith)
-    ∙ ap (λ (a : List ℕ). written l at (a ++ take half (drop j x))) (take-take j half x (omega arith))
-    ∙ ap (λ (a : List ℕ). written l at a) (sym (take-add j half x) ∙ ap (λ (n : ℕ). take n x) whole)
+-- what stood behind is written again
+written-again : (l : List ℕ) (at : ℕ) (a : List ℕ) (k : ℕ) → at + length a + k ≤ length l
+    → written l at (a ++ take k (drop (at + length a) l)) ≡ written l at a
+unfolding written
+written-again l at a k h =
+    ap₂ (λ (x : List ℕ) (n : ℕ). x ++ drop n l) (sym (append-assoc (take at l) a (take k (drop (at + length a) l)))) ends
+    ∙ append-assoc (take at l ++ a) (take k (drop (at + length a) l)) (drop (at + length a + k) l)
+    ∙ ap (λ (x : List ℕ). take at l ++ a ++ x)
+    (ap (λ (x : List ℕ). take k (drop (at + length a) l) ++ x) (sym past) ∙ take-append-drop k (drop (at + length a) l))
   where
-    j : ℕ
-    j = count - half
+    ends : at + length (a ++ take k (drop (at + length a) l)) ≡ at + length a + k
+    ends =
+        let x = length-append a (take k (drop (at + length a) l)) in
+        let y = length-take-le k (drop (at + length a) l) (let z = length-drop (at + length a) l in omega arith) in
+        omega arith
 
-    x : List ℕ
-    x = drop first d
+    past : drop k (drop (at + length a) l) ≡ drop (at + length a + k) l
+    past = drop-drop k (at + length a) l
 
-    place : at + count - half ≡ at + (count - half)
-    place = omega arith
+-- all of d is written, and what stood behind the first of it is put back
+pub front-copied : (l l₁ l₂ d b b₁ : List ℕ) (at count : ℕ) → at + 128 ≤ length l → length d ≡ 64 → count ≤ 64 → length b ≡ 64
+    → b₁ ≡ written b 0 (take 64 (drop (at + count) l)) → l₁ ≡ written l at (take 64 (drop 0 d)) → l₂ ≡ written l₁ (at + count) (take 64 (drop 0 b₁))
+    → l₂ ≡ written l at (take count d)
+front-copied l l₁ l₂ d b b₁ at count h m i n p q r =
+    r
+    ∙ ap₂ (λ (x y : List ℕ). written x (at + count) y) (q ∙ ap (λ (x : List ℕ). written l at x) (take-all d m)) kept
+    ∙ written-over l at d old count (omega arith) (omega arith) (let z = long in omega arith)
+    ∙ ap (λ (k : ℕ). written l at (take count d ++ take 64 (drop (at + k) l))) (sym front)
+    ∙ written-again l at (take count d) 64 (let z = front in omega arith)
+  where
+    take-all : (x : List ℕ) → length x ≡ 64 → take 64 x ≡ x
+    take-all x e = ap (λ (k : ℕ). take k x) (sym e) ∙ take-length x
 
-    whole : count - half + half ≡ count
-    whole = omega arith
+    front : length (take count d) ≡ count
+    front = length-take-le count d (omega arith)
 
-    front : length (take half (drop first d)) ≡ half
-    front = length-take-le half (drop first d) (let z = length-drop first d in omega arith)
+    old : List ℕ
+    old = take 64 (drop (at + count) l)
 
-    behind : drop (first + count - half) d ≡ drop (count - half) (drop first d)
-    behind =
-        ap (λ (n : ℕ). drop n d) (let z : first + count - half ≡ first + (count - half) = omega arith in z)
-        ∙ sym (drop-drop (count - half) first d)
+    long : length old ≡ 64
+    long = length-take-le 64 (drop (at + count) l) (let z = length-drop (at + count) l in omega arith)
 
-    back : length (take half (drop (count - half) (drop first d))) ≡ half
-    back =
-        length-take-le half (drop (count - half) (drop first d))
-        (let z = length-drop first d in let y = length-drop (count - half) (drop first d) in omega arith)
+    kept : take 64 (drop 0 b₁) ≡ old
+    kept = ap (λ (x : List ℕ). take 64 x) (p ∙ written-whole b old (long ∙ sym n)) ∙ take-all old long

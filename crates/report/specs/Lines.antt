@@ -41,6 +41,10 @@ acceptedIn r text = events.accepted (reportIn r text)
 abbrev pub longestLine : ℕ
 longestLine = 20 + 5 * 21 + 65 + 1
 
+-- the room that a line is written in: 64 octets are moved behind the text, and put back
+abbrev pub lineRoom : ℕ
+lineRoom = longestLine + 64
+
 -- the longest line of a refusal
 abbrev pub longestRefusal : ℕ
 longestRefusal = 20 + 3 + 21 + 1

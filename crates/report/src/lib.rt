@@ -8,7 +8,7 @@ ghost use lib.Dec.{ltb};
 ghost use lib.ListN.{length, take, drop};
 ghost use Rattle.protocol.specs.Events.{refused};
 ghost use Rattle.protocol.specs.Printed.{digitChar, decimal, hexadecimal, field, textField, reportFields, lineOf};
-ghost use Rattle.report.specs.Lines.{written, Wrote, Began, Spells, Tabled, lastDigits, octetsOf, reportIn, acceptedIn, longestLine, longestRefusal};
+ghost use Rattle.report.specs.Lines.{written, Wrote, Began, Spells, Tabled, lastDigits, octetsOf, reportIn, acceptedIn, longestLine, longestRefusal, lineRoom};
 
 // What an accepted event reports.
 pub struct Report {
@@ -19,8 +19,9 @@ pub struct Report {
     pub w: u64,
 }
 
-// The longest line: six numbers of 20 digits, five blanks before them, a blank and a text of 32 octets, and the line end.
-pub const LINE: usize = 191;
+// The room that a line is written in. The longest line has 191 octets: six numbers of 20 digits, five blanks before them, a blank and a text of 32
+// octets, and the line end. As many octets as the longest text has digits are moved behind it, and put back.
+pub const LINE_ROOM: usize = 255;
 
 // The longest line of a refusal: two numbers of 20 digits, the word and two blanks, and the line end.
 pub const REFUSAL: usize = 45;
@@ -226,17 +227,6 @@ fn copy_part(out: &mut [u8], at: usize, from: &[u8], first: usize, count: usize)
     }
 }
 
-// The same by two parts of one length, which is a constant: one from the front, and one that ends at the end. They may overlap, so that no
-// branch asks how many octets there are.
-fn copy_halves(out: &mut [u8], at: usize, from: &[u8], first: usize, count: usize, half: usize)
-    requires { ⌜ (at + count ≤ length (now out)) × (first + count ≤ length (now from)) ⌝ }
-    requires { ⌜ (half ≤ count) × (count ≤ 2 * half) ⌝ }
-    ensures { λ r. ⌜ now (out .exit) ≡ written (now (out .entry)) at (take count (drop first (now (from .entry)))) ⌝ }
-{
-    copy_part(out, at, from, first, half);
-    copy_part(out, at + count - half, from, first + count - half, half);
-}
-
 // The index. Few have more than eight digits.
 fn put_index(out: &mut [u8], at: usize, numbers: &[u64], n: u64) -> usize
     requires { ⌜ (at + 20 ≤ length (now out)) × Tabled (now numbers) ⌝ }
@@ -331,26 +321,21 @@ fn room_digits(digits: &mut [u8], room: &[u8])
     }
 }
 
-// The first digits of a room, so many. How many is not to be guessed, so only the few of a short text are moved one by one.
+// The first digits of a room, so many. How many is not to be guessed, so all are moved, and what stood behind those is put back: there is no
+// branch that asks.
 fn copy_digits(out: &mut [u8], at: usize, digits: &[u8], count: usize)
-    requires { ⌜ (at + count ≤ length (now out)) × (length (now digits) ≡ 64) × (count ≤ 64) ⌝ }
+    requires { ⌜ (at + 128 ≤ length (now out)) × (length (now digits) ≡ 64) × (count ≤ 64) ⌝ }
     ensures { λ r. ⌜ now (out .exit) ≡ written (now (out .entry)) at (take count (now (digits .entry))) ⌝ }
 {
-    if 32 <= count {
-        return copy_halves(out, at, digits, 0, count, 32);
-    }
-    if 16 <= count {
-        return copy_halves(out, at, digits, 0, count, 16);
-    }
-    if 8 <= count {
-        return copy_halves(out, at, digits, 0, count, 8);
-    }
-    copy_part(out, at, digits, 0, count);
+    let mut behind = [0u8; 64];
+    copy_part(&mut behind, 0, out, at + count, 64);
+    copy_part(out, at, digits, 0, 64);
+    copy_part(out, at + count, &behind, 0, 64);
 }
 
 // A blank and a text, the first octets of its room: "in lower-case hexadecimal, - if empty".
 fn put_text(out: &mut [u8], at: usize, room: &[u8], size: usize) -> usize
-    requires { ⌜ (at + 65 ≤ length (now out)) × (length (now room) ≡ 32) × (size ≤ 32) ⌝ }
+    requires { ⌜ (at + 129 ≤ length (now out)) × (length (now room) ≡ 32) × (size ≤ 32) ⌝ }
     ensures { λ r. ⌜ Wrote 65 (textField (take size (now (room .entry)))) (now (out .entry)) (now (out .exit)) at r ⌝ }
 {
     out[at] = b' ';
@@ -373,7 +358,7 @@ fn put_fields(
     room: &[u8],
     size: usize,
 ) -> usize
-    requires { ⌜ (at + 170 ≤ length (now out)) × Tabled (now numbers) × (length (now room) ≡ 32) × (size ≤ 32) ⌝ }
+    requires { ⌜ (at + 234 ≤ length (now out)) × Tabled (now numbers) × (length (now room) ≡ 32) × (size ≤ 32) ⌝ }
     ensures { λ n. ⌜ Wrote 170 (reportFields (reportIn r (take size (now (room .entry))))) (now (out .entry)) (now (out .exit)) at n ⌝ }
 {
     let b = put_head(out, at, numbers, r);
@@ -395,7 +380,7 @@ pub fn put_line(
     room: &[u8],
     size: usize,
 ) -> usize
-    requires { ⌜ (at + longestLine ≤ length (now out)) × Tabled (now numbers) × (length (now room) ≡ 32) × (size ≤ 32) ⌝ }
+    requires { ⌜ (at + lineRoom ≤ length (now out)) × Tabled (now numbers) × (length (now room) ≡ 32) × (size ≤ 32) ⌝ }
     ensures { λ n. ⌜ Wrote longestLine (lineOf index (acceptedIn r (take size (now (room .entry))))) (now (out .entry)) (now (out .exit)) at n ⌝ }
 {
     let number = put_index(out, at, numbers, index);

@@ -1,4 +1,5 @@
 -- `report::put_fields` meets its contract.
+use native.Mathlib.Omega.{arith}
 use lib.ListN.{take}
 use Rattle.report.specs.Lines.{reportIn}
 use Rattle.report.proofs.Fields.{with-text, without-text}
@@ -25,7 +26,7 @@ returns c =
     let w = k .before .before .before .before in
     let h = w .before .before .before .before in
     let s = h .before .before .before .before .before in
-    with-text (reportIn (s .args .r) (take (s .args .size) (s .args .room .now))) (s .pre .0) (h .put-head .ensures) (w .put-two-fields .ensures)
+    with-text (reportIn (s .args .r) (take (s .args .size) (s .args .room .now))) (omega arith) (h .put-head .ensures) (w .put-two-fields .ensures)
     (k .if1 .taken) (t .put-text .ensures)
 
 same-length-2 : tie.Need-same-length-2
@@ -36,7 +37,7 @@ returns-2 c =
     let w = c .before .before .before .before in
     let h = w .before .before .before .before in
     let s = h .before .before .before .before .before in
-    without-text (reportIn (s .args .r) (take (s .args .size) (s .args .room .now))) (s .pre .0) (h .put-head .ensures) (w .put-two-fields .ensures)
+    without-text (reportIn (s .args .r) (take (s .args .size) (s .args .room .now))) (omega arith) (h .put-head .ensures) (w .put-two-fields .ensures)
     (c .if1 .left)
 
 pub put-fields-spec : {M : Type 1} → statement M

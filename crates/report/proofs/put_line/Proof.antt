@@ -1,4 +1,5 @@
 -- `report::put_line` meets its contract.
+use native.Mathlib.Omega.{arith}
 use lib.ListN.{take}
 use Rattle.report.specs.Lines.{reportIn}
 use Rattle.report.proofs.Fields.{line-written}
@@ -23,7 +24,7 @@ returns c =
     let f = c .before .before in
     let d = f .before .before .before .before in
     let s = d .before .before .before .before .before in
-    line-written (s .args .index) (reportIn (s .args .r) (take (s .args .size) (s .args .room .now))) (s .pre .0) (d .put-index .ensures)
+    line-written (s .args .index) (reportIn (s .args .r) (take (s .args .size) (s .args .room .now))) (omega arith) (d .put-index .ensures)
     (f .put-fields .ensures)
 
 same-length : tie.Need-same-length

@@ -24,7 +24,7 @@ same-length c = search needs
 returns : tie.Need-returns
 returns c =
     let s = c .before .before .before in
-    text-empty (s .args .room .now) (s .args .out .now) (s .args .at) (s .args .size) (c .if1 .taken) (s .pre .0)
+    text-empty (s .args .room .now) (s .args .out .now) (s .args .at) (s .args .size) (c .if1 .taken) (omega arith)
 
 slice-aggregate-room-digits : tie.Need-slice-aggregate-room-digits
 slice-aggregate-room-digits c = search needs
@@ -59,7 +59,7 @@ returns-2 c =
     let d = w .before .before .before .before in
     let e = d .before .before in
     let s = e .before .before .before in
-    text-some (s .args .room .now) _ (s .args .out .now) _ (s .args .at) (s .args .size) (e .if1 .left) (s .pre .2) (s .pre .1) (s .pre .0)
+    text-some (s .args .room .now) _ (s .args .out .now) _ (s .args .at) (s .args .size) (e .if1 .left) (s .pre .2) (s .pre .1) (omega arith)
     (d .room-digits .ensures) (w .copy-digits .ensures)
 
 same-length-2 : tie.Need-same-length-2
