@@ -19,11 +19,11 @@ pub field-written : (n : ℕ) (l : List ℕ) (at : ℕ) {l₁ : List ℕ} {next 
 field-written n l at h w = wrote-then (omega arith) (wrote-one l at 32 (at + 1) (omega arith) refl) w
 
 -- a number of one digit
-pub field-short : (n x : ℕ) (l : List ℕ) (at : ℕ) → at + 21 ≤ length l → n < 10 → x ≡ digitChar n
-    → Wrote 21 (field n) l (set (set l at 32) (at + 1) x) at (at + 2)
+pub field-short : (n x : ℕ) (l : List ℕ) (at : ℕ) → at + 2 ≤ length l → n < 10 → x ≡ digitChar n
+    → Wrote 2 (field n) l (set (set l at 32) (at + 1) x) at (at + 2)
 field-short n x l at h i e =
-    field-written n l at h
-    (wrote-wider (omega arith) (digit-written (set l at 32) (at + 1) n x (at + 2) i (simp length-set (omega arith)) e (omega arith)))
+    wrote-then (omega arith) (wrote-one l at 32 (at + 1) (omega arith) refl)
+    (digit-written (set l at 32) (at + 1) n x (at + 2) i (simp length-set (omega arith)) e (omega arith))
 
 -- a number by the table
 pub field-spelled : (n : ℕ) (l : List ℕ) (at : ℕ) {l₁ : List ℕ} {next : ℕ} → at + 5 ≤ length l → Began 3 4 (decimal n) (set l at 32) l₁ (at + 1) next

@@ -243,16 +243,25 @@ fn put_index(out: &mut [u8], at: usize, numbers: &[u64], n: u64) -> usize
     put_decimal(out, at, n)
 }
 
+// A blank and a number of one digit.
+fn put_one(out: &mut [u8], at: usize, n: u64) -> usize
+    requires { ⌜ (at + 2 ≤ length (now out)) × (n < 10) ⌝ }
+    ensures { λ r. ⌜ Wrote 2 (field n) (now (out .entry)) (now (out .exit)) at r ⌝ }
+{
+    out[at] = b' ';
+    out[at + 1] = digit(n);
+    at + 2
+}
+
 // A blank and a number.
 fn put_field(out: &mut [u8], at: usize, n: u64) -> usize
     requires { ⌜ at + 21 ≤ length (now out) ⌝ }
     ensures { λ r. ⌜ Wrote 21 (field n) (now (out .entry)) (now (out .exit)) at r ⌝ }
 {
-    out[at] = b' ';
     if n < 10 {
-        out[at + 1] = digit(n);
-        return at + 2;
+        return put_one(out, at, n);
     }
+    out[at] = b' ';
     put_decimal(out, at + 1, n)
 }
 
@@ -280,11 +289,11 @@ fn put_short(out: &mut [u8], at: usize, numbers: &[u64], n: u64) -> usize
     put_spelled(out, at + 1, numbers, n)
 }
 
-// Have kind, a and b at most four digits each?
+// Has kind one digit, and have a and b at most four?
 fn are_short(r: Report) -> bool
-    ensures { λ s. ⌜ (s ≡ true → (r .kind < 10000) × (r .a < 10000) × (r .b < 10000)) ⌝ }
+    ensures { λ s. ⌜ (s ≡ true → (r .kind < 10) × (r .a < 10000) × (r .b < 10000)) ⌝ }
 {
-    if 9999 < r.kind {
+    if 9 < r.kind {
         return false;
     }
     if 9999 < r.a {
@@ -302,7 +311,7 @@ fn put_head(out: &mut [u8], at: usize, numbers: &[u64], r: Report) -> usize
         let a = put_two_fields(out, at, r.kind, r.a);
         return put_field(out, a, r.b);
     }
-    let kind = put_short(out, at, numbers, r.kind);
+    let kind = put_one(out, at, r.kind);
     let a = put_short(out, kind, numbers, r.a);
     put_short(out, a, numbers, r.b)
 }

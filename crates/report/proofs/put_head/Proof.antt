@@ -25,20 +25,20 @@ returns c =
     let w = wrote-then (omega arith) (a .put-two-fields .ensures) (b .put-field .ensures) in
     began-all 3 (let z = w .few in omega arith) w
 
+put-one-requires : tie.Need-put-one-requires
+put-one-requires c κs =
+    let e = c .before in
+    let short = e .before .are-short .ensures (not-false _ (e .if1 .left)) in
+    search needs
+
 put-short-requires : tie.Need-put-short-requires
 put-short-requires c κs =
-    let e = c .before in
+    let e = c .before .before .before .before .before in
     let short = e .before .are-short .ensures (not-false _ (e .if1 .left)) in
     search needs
 
 put-short-requires-2 : tie.Need-put-short-requires-2
 put-short-requires-2 c κs =
-    let e = c .before .before .before .before .before in
-    let short = e .before .are-short .ensures (not-false _ (e .if1 .left)) in
-    search needs
-
-put-short-requires-3 : tie.Need-put-short-requires-3
-put-short-requires-3 c κs =
     let e = c .before .before .before .before .before .before .before .before .before in
     let short = e .before .are-short .ensures (not-false _ (e .if1 .left)) in
     search needs
@@ -51,7 +51,8 @@ returns-2 c =
     let b = c .before .before in
     let a = b .before .before .before .before in
     let k = a .before .before .before .before in
-    began-wider (omega arith) (began-more (began-more (k .put-short .ensures) (a .put-short2 .ensures)) (b .put-short3 .ensures))
+    began-wider (omega arith)
+    (began-more (began-more (began-all 3 (let z = k .put-one .ensures .few in omega arith) (k .put-one .ensures)) (a .put-short .ensures)) (b .put-short2 .ensures))
 
 pub put-head-spec : {M : Type 1} → statement M
 put-head-spec =
@@ -62,8 +63,8 @@ put-head-spec =
     put-field-requires
     same-length
     returns
+    put-one-requires
     put-short-requires
     put-short-requires-2
-    put-short-requires-3
     same-length-2
     returns-2)
