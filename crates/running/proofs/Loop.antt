@@ -12,7 +12,7 @@ use Rattle.protocol.specs.Frames.{readAt}
 use Rattle.protocol.proofs.Tests.{and-left, and-right, by-eq, by-lt}
 use Rattle.view.specs.View.{Lent, floorIn}
 use Rattle.view.proofs.Lengths.{Lengths, lengths-of}
-use Rattle.report.specs.Lines.{longestLine}
+use Rattle.report.specs.Lines.{lineRoom}
 use Rattle.report.proofs.Octets.{written-none}
 use Rattle.running.specs.declared.Progress.{Progress}
 use Rattle.running.specs.Piece.{runFrom}
@@ -83,11 +83,11 @@ module _ (input : List ℕ) (index : ℕ) (last : Bool) (L₀ : Lent) (out₀ : 
         (λ z. rw (ne-eqb (r .state) 0 z, eq-eqb (p .state) 0 e) (omega arith))
 
     -- the test of the loop
-    module _ (b : Bool) (test : b ≡ (eqb (p .state) 0 && leb (p .written + longestLine) (length out))) where
-      pub goes : b ≡ true → (p .state ≡ 0) × (p .written + longestLine ≤ length out)
+    module _ (b : Bool) (test : b ≡ (eqb (p .state) 0 && leb (p .written + lineRoom) (length out))) where
+      pub goes : b ≡ true → (p .state ≡ 0) × (p .written + lineRoom ≤ length out)
       goes t =
-          let both : (eqb (p .state) 0 && leb (p .written + longestLine) (length out)) ≡ true = sym test ∙ t in
-          (eqb-true (p .state) 0 (and-left (eqb (p .state) 0) (leb (p .written + longestLine) (length out)) both), leb-true (p .written + longestLine) (length out) (and-right (eqb (p .state) 0) (leb (p .written + longestLine) (length out)) both))
+          let both : (eqb (p .state) 0 && leb (p .written + lineRoom) (length out)) ≡ true = sym test ∙ t in
+          (eqb-true (p .state) 0 (and-left (eqb (p .state) 0) (leb (p .written + lineRoom) (length out)) both), leb-true (p .written + lineRoom) (length out) (and-right (eqb (p .state) 0) (leb (p .written + lineRoom) (length out)) both))
 
       pub stops : b ≡ false → Went input index last L₀ L out₀ out p
       stops t =
@@ -101,20 +101,20 @@ module _ (input : List ℕ) (index : ℕ) (last : Bool) (L₀ : Lent) (out₀ : 
             why = g .why;
             waits = g .waits;
             ends = g .ends;
-            full = λ z. let none : leb (p .written + longestLine) (length out) ≡ false = ap (λ (x : Bool). x && leb (p .written + longestLine) (length out)) (sym (eq-eqb (p .state) 0 z)) ∙ sym test ∙ t in
-                let short = leb-false (p .written + longestLine) (length out) none in let k = g .kept in omega arith;
+            full = λ z. let none : leb (p .written + lineRoom) (length out) ≡ false = ap (λ (x : Bool). x && leb (p .written + lineRoom) (length out)) (sym (eq-eqb (p .state) 0 z)) ∙ sym test ∙ t in
+                let short = leb-false (p .written + lineRoom) (length out) none in let k = g .kept in omega arith;
           }
 
 -- the test itself
-pub not-going : (p : Progress) (n : ℕ) → (p .state ≡ 0 → ⊥) → false ≡ (eqb (p .state) 0 && leb (p .written + longestLine) n)
+pub not-going : (p : Progress) (n : ℕ) → (p .state ≡ 0 → ⊥) → false ≡ (eqb (p .state) 0 && leb (p .written + lineRoom) n)
 not-going p n h = rw (ne-eqb (p .state) 0 h) refl
 
-pub by-room : (p : Progress) (n : ℕ) → p .state ≡ 0 → p .written ≤ n → leb 191 (n - p .written) ≡ (eqb (p .state) 0 && leb (p .written + longestLine) n)
+pub by-room : (p : Progress) (n : ℕ) → p .state ≡ 0 → p .written ≤ n → leb 255 (n - p .written) ≡ (eqb (p .state) 0 && leb (p .written + lineRoom) n)
 by-room p n e h =
     rw (eq-eqb (p .state) 0 e)
-    (by-lt (n - p .written) 191
-    (λ l. lt-leb 191 (n - p .written) l ∙ sym (lt-leb (p .written + longestLine) n (omega arith)))
-    (λ l. le-leb 191 (n - p .written) l ∙ sym (le-leb (p .written + longestLine) n (omega arith))))
+    (by-lt (n - p .written) 255
+    (λ l. lt-leb 255 (n - p .written) l ∙ sym (lt-leb (p .written + lineRoom) n (omega arith)))
+    (λ l. le-leb 255 (n - p .written) l ∙ sym (le-leb (p .written + lineRoom) n (omega arith))))
 
 -- tables of ready floors are equally long
 module _ (L L′ : Lent) (R : Ready L) (R′ : Ready L′) where

@@ -19,7 +19,7 @@ use Rattle.protocol.specs.Frames.{Reading, end, refusedFrame, taken, readAt}
 use Rattle.protocol.specs.Printed.{lineOf}
 use Rattle.view.specs.View.{Lent, lent, floorIn}
 use Rattle.view.proofs.Lengths.{lengths-of}
-use Rattle.report.specs.Lines.{written, Wrote, longestLine, longestRefusal}
+use Rattle.report.specs.Lines.{written, Wrote, longestLine, longestRefusal, lineRoom}
 use Rattle.report.proofs.Octets.{written-length, written-then}
 use Rattle.answers.specs.Met.{Met}
 use Rattle.frames.specs.declared.Event.{Event}
@@ -107,7 +107,7 @@ module _ (input : List ℕ) (first index : ℕ) (F : Floor) (L : Lent) (out₀ o
 
 -- THE THREE WAYS of a frame
 module _ (input : List ℕ) (index : ℕ) (last : Bool) (L : Lent) (out : List ℕ) (p : Progress) (ready : Ready L) (going : p .state ≡ 0) (inside : p .read ≤ length input)
-    (room : p .written + longestLine ≤ length out) (few : p .frames ≤ p .read) where
+    (room : p .written + lineRoom ≤ length out) (few : p .frames ≤ p .read) where
   -- none is whole
   pub turned-waits : (r : Progress) → r ≡ record { read = p .read; written = p .written; frames = p .frames; state = 1 } → NoneWhole last (readAt limits input (p .read))
       → Turned input index last L L out out p r
@@ -164,7 +164,7 @@ module _ (input : List ℕ) (index : ℕ) (last : Bool) (L : Lent) (out : List �
             let same : answer limits (floorIn L) e ≡ answer limits (X .floor) e = ap (λ (G : Floor). answer limits G e) (h .floor) in
             let line = subst (λ (a : events.Answer). Wrote longestLine (lineOf index a) out out′ (p .written) (r .written)) same (t .line) in
             subst (λ (Y : Ran). InRun Y L′ out₀ out′ r) (sym (next-frame input first index F L out₀ out p going at (r .frames) (taken e size) h (t .frames) q))
-            (further X L L′ out₀ out out′ p r longestLine _ h line room (step limits (X .floor) e) (X .octets + size) false
+            (further X L L′ out₀ out out′ p r longestLine _ h line (omega arith) (step limits (X .floor) e) (X .octets + size) false
             (t .frames) (t .floor ∙ ap (λ (G : Floor). step limits G e) (h .floor)) (let a = h .read in let b = t .read in omega arith) (sym (ne-eqb (r .state) 2 (λ z. let a = t .state in omega arith))));
         inside = let a = t .read in omega arith;
         within = let a = t .line .few in omega arith;

@@ -11,7 +11,7 @@ use Rattle.protocol.specs.Step.{step, answer}
 use Rattle.protocol.specs.Frames.{Reading, end, refusedFrame, taken, readAt}
 use Rattle.protocol.specs.Printed.{lineOf}
 use Rattle.view.specs.View.{Lent, floorIn}
-use Rattle.report.specs.Lines.{written, Wrote, longestLine}
+use Rattle.report.specs.Lines.{written, Wrote, longestLine, lineRoom}
 use Rattle.running.specs.declared.Progress.{Progress}
 use Rattle.running.specs.Piece.{Ran, runFrom}
 use Rattle.running.specs.Ready.{Ready}
@@ -50,7 +50,7 @@ pub record Went (input : List ℕ) (index : ℕ) (last : Bool) (L L′ : Lent) (
   pub why : p .state ≤ 2
   pub waits : p .state ≡ 1 → NoneWhole last (readAt limits input (p .read))
   pub ends : p .state ≡ 2 → EndsRun last (readAt limits input (p .read))
-  pub full : p .state ≡ 0 → length out < p .written + longestLine
+  pub full : p .state ≡ 0 → length out < p .written + lineRoom
 
 -- ONE EVENT of a frame was taken, with its index: the floor and the line are the written ones
 pub record Took (index : ℕ) (L L′ : Lent) (out out′ : List ℕ) (p r : Progress) (e : Event) (size : ℕ) : Type 0 where

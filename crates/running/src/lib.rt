@@ -23,7 +23,7 @@ ghost use Rattle.answers.specs.Answers.{answerIn};
 ghost use Rattle.answers.specs.Met.{Met};
 ghost use Rattle.receiving.specs.Handing.{handingIn, Fits};
 ghost use Rattle.frames.specs.Decoded.{eventIn, sizeOf};
-ghost use Rattle.report.specs.Lines.{Tabled, Wrote, longestLine, longestRefusal};
+ghost use Rattle.report.specs.Lines.{Tabled, Wrote, longestLine, longestRefusal, lineRoom};
 ghost use Rattle.running.specs.Ready.{Ready};
 ghost use Rattle.running.specs.Told.{toldIn, Within};
 ghost use Rattle.running.specs.Went.{Took, Turned, Went};
@@ -198,7 +198,7 @@ fn happen(
 
 // The line of what an event came to. All the room of its text is lent, so that no loop runs as often as the text is long.
 fn print(out: &mut [u8], texts: &[u8], at: usize, numbers: &[u64], index: u64, told: Told) -> usize
-    requires { ⌜ (at + longestLine ≤ length (now out)) × (length (now texts) ≡ 1024) × Tabled (now numbers) × Within told ⌝ }
+    requires { ⌜ (at + lineRoom ≤ length (now out)) × (length (now texts) ≡ 1024) × Tabled (now numbers) × Within told ⌝ }
     ensures { λ n. ⌜ Wrote longestLine (lineOf index (toldIn (now (texts .entry)) told)) (now (out .entry)) (now (out .exit)) at n ⌝ }
 {
     if told.is_refused {
@@ -275,7 +275,7 @@ fn take_event(
     e: Event,
 ) -> Progress
     requires { ⌜ Ready (lent (now stations) (now carts) (now messages) (now lines) (now texts)) ⌝ }
-    requires { ⌜ (p .read + sizeOf e ≤ length (now input)) × (sizeOf e ≤ 48) × (p .written + longestLine ≤ length (now output)) ⌝ }
+    requires { ⌜ (p .read + sizeOf e ≤ length (now input)) × (sizeOf e ≤ 48) × (p .written + lineRoom ≤ length (now output)) ⌝ }
     requires { ⌜ (p .frames ≤ p .read) × (length (now input) + 1 < 18446744073709551616) × Tabled (now numbers) ⌝ }
     ensures { λ r. ⌜ Took index (lent (now (stations .entry)) (now (carts .entry)) (now (messages .entry)) (now (lines .entry)) (now (texts .entry))) (lent (now (stations .exit)) (now (carts .exit)) (now (messages .exit)) (now (lines .exit)) (now (texts .exit))) (now (output .entry)) (now (output .exit)) p r (eventIn (drop (p .read) (now (input .entry))) e) (sizeOf e) ⌝ }
 {
@@ -291,7 +291,7 @@ fn take_event(
 
 // The line of a frame that is refused, which ends the run.
 fn refuse(output: &mut [u8], index: u64, p: Progress, number: u64) -> Progress
-    requires { ⌜ (p .written + longestLine ≤ length (now output)) × (p .frames + 1 < 18446744073709551616) ⌝ }
+    requires { ⌜ (p .written + lineRoom ≤ length (now output)) × (p .frames + 1 < 18446744073709551616) ⌝ }
     ensures { λ r. ⌜ Wrote longestRefusal (lineOf index (refused number)) (now (output .entry)) (now (output .exit)) (p .written) (r .written) ⌝ }
     ensures { λ r. ⌜ (r .read ≡ p .read) × (r .frames ≡ p .frames + 1) × (r .state ≡ 2) ⌝ }
 {
@@ -319,7 +319,7 @@ fn take_frame(
     last: bool,
 ) -> Progress
     requires { ⌜ Ready (lent (now stations) (now carts) (now messages) (now lines) (now texts)) ⌝ }
-    requires { ⌜ (p .state ≡ 0) × (p .read ≤ length (now input)) × (p .written + longestLine ≤ length (now output)) ⌝ }
+    requires { ⌜ (p .state ≡ 0) × (p .read ≤ length (now input)) × (p .written + lineRoom ≤ length (now output)) ⌝ }
     requires { ⌜ (p .frames ≤ p .read) × (length (now input) + 1 < 18446744073709551616) × Tabled (now numbers) ⌝ }
     ensures { λ r. ⌜ Turned (now (input .entry)) index last (lent (now (stations .entry)) (now (carts .entry)) (now (messages .entry)) (now (lines .entry)) (now (texts .entry))) (lent (now (stations .exit)) (now (carts .exit)) (now (messages .exit)) (now (lines .exit)) (now (texts .exit))) (now (output .entry)) (now (output .exit)) p r ⌝ }
 {
@@ -352,12 +352,12 @@ fn take_frame(
 // Nothing stopped the run yet, and the output has room for another line.
 fn goes_on(output: &[u8], p: Progress) -> bool
     requires { ⌜ p .written ≤ length (now output) ⌝ }
-    ensures { λ r. ⌜ r ≡ (eqb (p .state) 0 && leb (p .written + longestLine) (length (now (output .entry)))) ⌝ }
+    ensures { λ r. ⌜ r ≡ (eqb (p .state) 0 && leb (p .written + lineRoom) (length (now (output .entry)))) ⌝ }
 {
     if p.state != FULL {
         return false;
     }
-    report::LINE <= output.len() - p.written
+    report::LINE_ROOM <= output.len() - p.written
 }
 
 // THE RUN OVER A PIECE: whole frames are taken from the front of the input while the output has room for their lines, from the frame with this
