@@ -19,6 +19,7 @@ ghost use Rattle.carts.specs.Words.{HasRow};
 ghost use Rattle.protocol.specs.Folds.{listOf};
 ghost use Rattle.leaves.specs.Passed.{passedBy};
 ghost use Rattle.queue.specs.Rooms.{tablesFloor, HasRooms, roomCode};
+ghost use Rattle.queue.specs.Keys.{Keyed};
 ghost use Rattle.lines.specs.Form.{form, sized};
 ghost use Rattle.lines.specs.Lines.{lineOf, used};
 ghost use Rattle.lines.specs.Words.{capacity};
@@ -62,7 +63,7 @@ pub extern "C" fn mekhturia_pop(pool: &mut [u64], i: usize, j: usize)
 // The room of the head of the queue at a station; 32 where it is empty.
 #[no_mangle]
 pub extern "C" fn mekhturia_head(stations: &[u64], messages: &[u64], t: u64) -> usize
-    requires { ⌜ HasStation (now stations) t × HasRooms (now messages) ⌝ }
+    requires { ⌜ HasStation (now stations) t × HasRooms (now messages) × Keyed (tablesFloor (now stations) (now messages)) t ⌝ }
     ensures { λ r. ⌜ r ≡ roomCode (queueHead limits (tablesFloor (now (stations .entry)) (now (messages .entry))) t) ⌝ }
 {
     queue::head(stations, messages, Station(t))

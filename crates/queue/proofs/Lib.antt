@@ -1,3 +1,4 @@
 pub mod Codes
 pub mod HeadLaws
+pub mod KeyLaws
 pub mod AckLaws

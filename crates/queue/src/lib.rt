@@ -1,15 +1,15 @@
 // The queue of a station: which message is its head, and whether "every local cart in the copy is in the ack list".
 use ids::Station;
 ghost use mathlib.Core.Path.{_≡_};
-ghost use mathlib.Core.List.{List};
-ghost use Prim.Native.Nat.{ℕ, _<_, _≤_};
+ghost use Prim.Native.Nat.{_<_};
 ghost use Rattle.protocol.specs.CartSets.{minus};
 ghost use Rattle.protocol.specs.Floor.{limits};
-ghost use Rattle.protocol.specs.Wireless.{standsBefore, headWith, queueHead};
+ghost use Rattle.protocol.specs.Wireless.{queueHead};
 ghost use Rattle.cartset.specs.Masks.{disjoint};
 ghost use Rattle.stations.specs.View.{rooms, HasStation, stationsIn};
-ghost use Rattle.messages.specs.View.{HasRoom};
-ghost use Rattle.queue.specs.Rooms.{tablesFloor, HasRooms, roomCode, roomIn};
+ghost use Rattle.messages.specs.View.{HasRoom, roomsIn};
+ghost use Rattle.queue.specs.Rooms.{tablesFloor, HasRooms, roomCode};
+ghost use Rattle.queue.specs.Keys.{InKey, keyOf, Keyed, firstOf, bestWith};
 
 // "At most 32 held messages": as many rooms.
 pub const ROOMS: usize = 32;
@@ -17,50 +17,59 @@ pub const ROOMS: usize = 32;
 // The word for no room.
 pub const NONE: usize = 32;
 
-// "smallest number first; between equal numbers the higher initiator stands first": does the message in room m stand before that in room k?
-fn stands_before(messages: &[u64], m: usize, k: usize) -> bool
-    requires { ⌜ HasRoom (now messages) m × HasRoom (now messages) k ⌝ }
-    ensures { λ r. ⌜ ((stations : List ℕ) → r ≡ standsBefore (tablesFloor stations (now (messages .entry))) m k) ⌝ }
-{
-    let number = messages::number_of(messages, m).0;
-    let other = messages::number_of(messages, k).0;
-    if number == other {
-        return messages::initiator_of(messages, k).0 < messages::initiator_of(messages, m).0;
-    }
-    number < other
+// The room that stands first so far, or none, and its key.
+struct Best {
+    head: usize,
+    key: u64,
 }
 
-// The head once room m is looked at too. "A queue has one entry per message": an empty entry is none.
-fn head_with(stations: &[u64], messages: &[u64], station: Station, m: usize, head: usize) -> usize
-    requires { ⌜ HasStation (now stations) (station .0) × HasRooms (now messages) × (m < rooms) × (head ≤ rooms) ⌝ }
-    ensures { λ r. ⌜ r ≡ roomCode (headWith (tablesFloor (now (stations .entry)) (now (messages .entry))) (station .0) m (roomIn head)) ⌝ }
+// "smallest number first; between equal numbers the higher initiator stands first": of two messages, the one with the smaller key.
+fn key_of(messages: &[u64], m: usize) -> u64
+    requires { ⌜ HasRoom (now messages) m × InKey (roomsIn (now messages) .number m) (roomsIn (now messages) .initiator m) ⌝ }
+    ensures { λ r. ⌜ r ≡ keyOf (roomsIn (now (messages .entry)) .number m) (roomsIn (now (messages .entry)) .initiator m) ⌝ }
+{
+    let number = messages::number_of(messages, m).0;
+    let initiator = messages::initiator_of(messages, m).0;
+    number * 16 + 15 - initiator
+}
+
+// The first of that room and room m. Which key is smaller cannot be guessed: each word is chosen by itself, without a branch.
+fn first_of(best: Best, m: usize, key: u64) -> Best
+    ensures { λ r. ⌜ r ≡ firstOf best m key ⌝ }
+{
+    Best {
+        head: if key < best.key { m } else { best.head },
+        key: if key < best.key { key } else { best.key },
+    }
+}
+
+// The first once room m is looked at too. "A queue has one entry per message": an empty entry is none.
+fn best_with(stations: &[u64], messages: &[u64], station: Station, m: usize, best: Best) -> Best
+    requires { ⌜ HasStation (now stations) (station .0) × HasRooms (now messages) × (m < rooms) × Keyed (tablesFloor (now stations) (now messages)) (station .0) ⌝ }
+    ensures { λ r. ⌜ r ≡ bestWith (tablesFloor (now (stations .entry)) (now (messages .entry))) (station .0) m best ⌝ }
 {
     if stations::queue_of(stations, m, station) == 0 {
-        return head;
+        return best;
     }
-    if head == NONE {
-        return m;
-    }
-    if stands_before(messages, m, head) {
-        m
-    } else {
-        head
-    }
+    first_of(best, m, key_of(messages, m))
 }
 
 // "the head message of the queue": its room, or none. Only rooms that have an entry are looked at.
 pub fn head(stations: &[u64], messages: &[u64], station: Station) -> usize
-    requires { ⌜ HasStation (now stations) (station .0) × HasRooms (now messages) ⌝ }
+    requires { ⌜ HasStation (now stations) (station .0) × HasRooms (now messages) × Keyed (tablesFloor (now stations) (now messages)) (station .0) ⌝ }
     ensures { λ r. ⌜ r ≡ roomCode (queueHead limits (tablesFloor (now (stations .entry)) (now (messages .entry))) (station .0)) ⌝ }
 {
-    let mut head = NONE;
+    let mut best = Best {
+        head: NONE,
+        key: u64::MAX,
+    };
     let mut left = stations::entries_of(stations, station);
     while 0 < left {
         let m = cartset::first(left) as usize;
         left = cartset::without_first(left);
-        head = head_with(stations, messages, station, m, head);
+        best = best_with(stations, messages, station, m, best);
     }
-    head
+    best.head
 }
 
 // "every local cart in the copy is in the ack list": none of the local carts is in the copy and not in the ack list.

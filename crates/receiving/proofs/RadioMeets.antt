@@ -17,6 +17,7 @@ use Rattle.protocol.specs.Form.{passesForm}
 use Rattle.protocol.specs.Refusals.{check, refusalIf}
 use Rattle.protocol.specs.Step.{accept}
 use Rattle.protocol.proofs.Tests.{by-lt}
+use Rattle.protocol.proofs.SetLaws.{some-member}
 use Rattle.protocol.proofs.Accepted.{passed-check, MayRadio}
 use Rattle.stations.specs.View.{HasStation, headIn, stationsIn}
 use Rattle.carts.specs.Words.{HasRow}
@@ -30,6 +31,7 @@ use Rattle.lines.specs.Words.{capacity}
 use Rattle.view.specs.View.{Lent, lent, floorIn, textsIn}
 use Rattle.view.proofs.Standing.{Standing, standing}
 use Rattle.queue.specs.Rooms.{tablesFloor, HasRooms, roomCode, roomIn}
+use Rattle.queue.specs.Keys.{Keyed}
 use Rattle.queue.proofs.Codes.{Below, room-in, no-room-in, decoded, code-fits}
 use Rattle.queue.proofs.HeadLaws.{head-below}
 use Rattle.wireless.specs.Handed.{tookFrom, holdNone, HandedOver}
@@ -65,6 +67,18 @@ module _ (L : Lent) (t : ℕ) where
       let a = code-fits (headAmong G t 32) 32 (omega arith) (head-below G t 32) in
       omega arith
 
+  -- a queued message is held, so its number and its initiator have room in a key
+  keys : Standing L → t < 16 → Keyed (tablesFloor (L .stations) (L .messages)) t
+  keys X l m h entry =
+      let F = floorIn L in
+      let pos : 0 < F .queue m t = by-lt 0 (F .queue m t) (λ p. p) (λ z. absurd (entry (omega arith))) in
+      let member = some-member (F .carts) (F .queue m t) (X .sized .copies .queue m t h l) pos in
+      let kept = X .facts .kept m (X .facts .queues m t (member .0) (member .2) .held) in
+      let below = X .facts .senders (F .initiator m) (omega arith) in
+      let few = X .sized .counts .stations in
+      let last = X .sized .numbers (F .initiator m) in
+      (omega arith, omega arith)
+
 -- a refusal of the first three checks is one of the whole table
 first-three : (a b d : Bool) (rest r : ℕ) → r ≡ check 8 a (check 9 b (check 16 d 0)) → (r ≡ 0 → ⊥) → r ≡ check 8 a (check 9 b (check 16 d rest))
 first-three true b d rest r e n = e
@@ -97,8 +111,13 @@ module _ (S C M W T : List ℕ) (t c buffer : ℕ) (p : passesForm limits (floor
         let a16 = passed-check 16 (not (isAt (cartsIn C .place c) t)) _ (omega arith) (a9 .1) in
         (leb-false (headIn S .stations) t (a8 .0), leb-false (headIn S .carts) c (a9 .0), not-false (isAt (cartsIn C .place c) t) (a16 .0))
 
-    pub head-asks : HasStation S t × HasRooms M
-    head-asks = let h = is-here .0 in let a = X .lengths .stations in let b = X .lengths .messages in let d = X .sized .counts .stations in (omega arith, omega arith)
+    pub head-asks : HasStation S t × HasRooms M × Keyed (tablesFloor S M) t
+    head-asks =
+        let h = is-here .0 in
+        let a = X .lengths .stations in
+        let b = X .lengths .messages in
+        let d = X .sized .counts .stations in
+        (omega arith, omega arith, keys L t X (omega arith))
 
     -- the room of the head, or none
     module _ (m : ℕ) (found : m ≡ roomCode (queueHead limits (tablesFloor S M) t)) where

@@ -1,5 +1,5 @@
 -- `queue::head` meets its contract.
-use mathlib.Core.Path.{_≡_, sym, ap, _∙_}
+use mathlib.Core.Path.{_≡_}
 use Prim.Native.Nat.{ℕ, _+_}
 use native.Mathlib.Omega.{arith}
 use borrow.Author.Needs.{needs}
@@ -7,18 +7,20 @@ use Rattle.protocol.specs.Wireless.{headAmong}
 use Rattle.cartset.proofs.Walk.{Ahead, ahead-start, ahead-turn, ahead-end}
 use Rattle.stations.specs.View.{entriesIn}
 use Rattle.stations.proofs.TableLaws.{entries-word, entries-inside, not-in-entries}
-use Rattle.queue.specs.Rooms.{tablesFloor, roomCode}
-use Rattle.queue.proofs.HeadLaws.{head-none, head-fits, head-again, head-all, head-skips}
+use Rattle.queue.specs.Rooms.{tablesFloor}
+use Rattle.queue.proofs.HeadLaws.{head-skips}
+use Rattle.queue.proofs.KeyLaws.{bestOf, best-none, best-again, best-all}
 use Rattle.queue.proofs.head.Statement.{statement}
 use Rattle.queue.proofs.head.Tie as tie
 
--- the walk has come to room k, and the head among the rooms before it is known
+-- the walk has come to room k, and the head among the rooms before it is known, with its key
 abbrev Inv-loop : tie.InvT-loop
-Inv-loop stations messages station head₀ left₀ head left =
-    (k : ℕ) × Ahead 32 (entriesIn stations (station .0)) left k × (head ≡ roomCode (headAmong (tablesFloor stations messages) (station .0) k))
+Inv-loop stations messages station best₀ left₀ best left =
+    let F = tablesFloor stations messages in
+    (k : ℕ) × Ahead 32 (entriesIn stations (station .0)) left k × (best ≡ bestOf F (headAmong F (station .0) k))
 
 abbrev μ-loop : tie.MeasureT-loop
-μ-loop stations messages station head₀ left₀ head left = left
+μ-loop stations messages station best₀ left₀ best left = left
 
 entries-of-requires : tie.Need-entries-of-requires Inv-loop μ-loop
 entries-of-requires c κs = search needs
@@ -29,7 +31,7 @@ loop-holds c =
     let e = c .entries-of .ensures in (
       0,
       rw e (ahead-start 32 (entriesIn (a .stations .now) (a .station .0)) (entries-word (a .stations .now) (a .station .0)) (entries-inside (a .stations .now) (a .station .0))),
-      head-none (tablesFloor (a .stations .now) (a .messages .now)) (a .station .0),
+      best-none (tablesFloor (a .stations .now) (a .messages .now)) (a .station .0),
     )
 
 first-requires : tie.Need-first-requires Inv-loop μ-loop
@@ -38,16 +40,15 @@ first-requires c κs = search needs
 without-first-requires : tie.Need-without-first-requires Inv-loop μ-loop
 without-first-requires c κs = search needs
 
-head-with-requires : tie.Need-head-with-requires Inv-loop μ-loop
-head-with-requires c κs =
+best-with-requires : tie.Need-best-with-requires Inv-loop μ-loop
+best-with-requires c κs =
     let a = c .before .before .before .before .before .before .before .args in
+    let p = c .before .before .before .before .before .before .before .pre in
     let l = c .before .before .before .loop in
     let f = c .before .first in
     let w = c .without-first in
     let turn = ahead-turn 32 (entriesIn (a .stations .now) (a .station .0)) (l .left) (l .inv .0) (f .result) (l .inv .1) (omega arith) (f .ensures) (w .result) (w .ensures (f .result) (f .ensures)) in
-    let i = turn .inside in
-    let low = head-fits (tablesFloor (a .stations .now) (a .messages .now)) (a .station .0) (l .inv .0) (l .head) (l .inv .1 .within) (l .inv .2) in
-    search needs
+    (p .0, p .1, turn .inside, p .2)
 
 loop-less : tie.Need-loop-less Inv-loop μ-loop
 loop-less c =
@@ -64,15 +65,15 @@ loop-again c =
     let F = tablesFloor S (a .messages .now) in
     let t = a .station .0 in
     let l = c .before .before .before .before .loop in
+    let k = l .inv .0 in
     let f = c .before .before .first in
     let w = c .before .without-first in
     let m = f .result in
-    let turn = ahead-turn 32 (entriesIn S t) (l .left) (l .inv .0) m (l .inv .1) (omega arith) (f .ensures) (w .result) (w .ensures m (f .ensures)) in
-    let inside = turn .inside in
-    let skipped = head-skips F t (l .inv .0) m (turn .next) (λ r h n. not-in-entries S r t (turn .skips r h n)) in (
+    let turn = ahead-turn 32 (entriesIn S t) (l .left) k m (l .inv .1) (omega arith) (f .ensures) (w .result) (w .ensures m (f .ensures)) in
+    let skipped = head-skips F t k m (turn .next) (λ r h n. not-in-entries S r t (turn .skips r h n)) in (
       m + 1,
       turn .ahead,
-      head-again F t m (l .head) (c .head-with .result) (omega arith) (l .inv .2 ∙ ap roomCode (sym skipped)) (c .head-with .ensures),
+      best-again F t (c .before .before .before .before .before .before .before .before .pre .2) k m (l .best) (c .best-with .result) (turn .inside) skipped (l .inv .2) (c .best-with .ensures),
     )
 
 returns : tie.Need-returns Inv-loop μ-loop
@@ -86,7 +87,7 @@ returns c =
     let none : l .left ≡ 0 = omega arith in
     let A : Ahead 32 (entriesIn S t) 0 k = rw none at (l .inv .1) in
     let skipped = head-skips F t k 32 (A .within) (λ r h n. not-in-entries S r t (ahead-end 32 (entriesIn S t) k A r h)) in
-    head-all F t 32 (l .head) (omega arith) (l .inv .2 ∙ ap roomCode (sym skipped))
+    best-all F t k (l .best) skipped (l .inv .2)
 
 pub head-spec : {M : Type 1} → statement M
 head-spec =
@@ -98,7 +99,7 @@ head-spec =
     loop-holds
     first-requires
     without-first-requires
-    head-with-requires
+    best-with-requires
     loop-less
     loop-again
     returns)
