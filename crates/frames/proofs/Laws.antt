@@ -156,10 +156,6 @@ send-fields head =
         → (both + zeros ≡ 0 → cart + other + zeros ≡ 0) × (cart + other + zeros ≡ 0 → both + zeros ≡ 0)
     sums cart other zeros both e = (λ z. omega arith, λ z. omega arith)
 
--- a kind that is none of the six
-pub no-such-kind : (k : ℕ) → (k ≡ 0 → ⊥) → (k ≡ 1 → ⊥) → (k ≡ 2 → ⊥) → (k ≡ 3 → ⊥) → (k ≡ 4 → ⊥) → (k ≡ 5 → ⊥) → 5 < k
-no-such-kind k a b c d e f = omega arith
-
 -- the fields not listed for a kind
 module _ (f : Fields) where
   pub unlisted-send : f .kind ≡ 2 → unlisted f ≡ f .cart + f .other + f .zero

@@ -150,38 +150,39 @@ fn send_of(f: Halves, behind: usize) -> Reading
     Reading::Taken(Event::Send(Station(f.head / STATION_BIT % 16), f.set, length as usize))
 }
 
-// A frame with so many octets behind it, taken apart by its kind or refused.
+// A frame with so many octets behind it, taken apart by its kind or refused. Kinds are asked for one after the other, and not by a table of jumps:
+// which comes cannot be guessed, and a table has to be read before it is known that the guess was wrong.
 fn reading_of(f: Halves, behind: usize) -> Reading
     ensures { λ r. ⌜ ((l : List ℕ) → readingIn l r ≡ frameIn l (fieldsIn f) behind) ⌝ }
 {
     let head = f.head;
     let kind = head / KIND_BIT;
     let station = head / STATION_BIT % 16;
-    match kind {
-        0 => {
-            let e = Event::Start(station + 1, head / CART_BIT % 64 + 1);
-            if_listed(head % CART_BIT, 0, f.set, e)
-        }
-        1 => {
-            let e = Event::Enter(Station(station), CartNumber(head / CART_BIT % 64));
-            if_listed(head % CART_BIT, 0, f.set, e)
-        }
-        2 => send_of(f, behind),
-        3 => {
+    if 2 < kind {
+        if kind == 3 {
             let e = Event::Wire(Station(station), Station(head / OTHER_BIT % 16));
-            if_listed(head % OTHER_BIT, head / CART_BIT % 64, f.set, e)
+            return if_listed(head % OTHER_BIT, head / CART_BIT % 64, f.set, e);
         }
-        4 => {
+        if kind == 4 {
             let e = Event::Radio(Station(station), CartNumber(head / CART_BIT % 64));
-            if_listed(head % CART_BIT, 0, f.set, e)
+            return if_listed(head % CART_BIT, 0, f.set, e);
         }
-        5 => {
+        if kind == 5 {
             let cart = CartNumber(head / CART_BIT % 64);
             let e = Event::Move(cart, Station(head / OTHER_BIT % 16));
-            if_listed(head % OTHER_BIT, station, f.set, e)
+            return if_listed(head % OTHER_BIT, station, f.set, e);
         }
-        _ => Reading::Refused(2),
+        return Reading::Refused(2);
     }
+    if kind == 2 {
+        return send_of(f, behind);
+    }
+    if kind == 1 {
+        let e = Event::Enter(Station(station), CartNumber(head / CART_BIT % 64));
+        return if_listed(head % CART_BIT, 0, f.set, e);
+    }
+    let e = Event::Start(station + 1, head / CART_BIT % 64 + 1);
+    if_listed(head % CART_BIT, 0, f.set, e)
 }
 
 // What stands at a place of the octets. "With no octet left, a position past the end counted so, the reader says end."
