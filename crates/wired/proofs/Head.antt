@@ -1,6 +1,6 @@
 -- THE HEAD OF A LINE, in words, and the message that it is of: its room is the one that the record says.
 use mathlib.Core.Path.{_≡_, refl}
-use mathlib.Core.Bool.{true}
+use mathlib.Core.Bool.{true, false}
 use mathlib.Core.Option.{some}
 use mathlib.Core.List.{List, _∷_, map}
 use Prim.Native.Nat.{ℕ, _+_, _*_, _<_}
@@ -12,7 +12,7 @@ use Rattle.protocol.specs.Handoff.{roomOf}
 use Rattle.protocol.specs.Wired.{handle, onWire}
 use Rattle.protocol.specs.Refusals.{refusal, refusalIf}
 use Rattle.protocol.specs.Step.{accept, step}
-use Rattle.protocol.proofs.Tests.{and-left}
+use Rattle.protocol.proofs.Tests.{clash, and-left}
 use Rattle.protocol.proofs.Accepted.{unlined}
 use Rattle.protocol.proofs.Invariant.{Held}
 use Rattle.protocol.proofs.FormFacts.{room-of-held}
@@ -69,6 +69,11 @@ module _ (L : Lent) (X : Standing L) (i j : ℕ) (from : i < floorIn L .stations
         let below : m < 32 = taken-below L X m (z .0) in
         let held : Held limits (F .waiting) m = record { slot = below; some = z .0 } in
         record { below = below; held = held; initiator = z .1 .0; number = z .1 .1; found = rw (z .1 .0, z .1 .1) at (room-of-held limits F (X .facts) m held) }
+
+    -- there is no kind 0
+    pub some-kind : kindOf (said .0) ≡ 0 → ⊥
+    unfolding roomRight
+    some-kind k = clash false (rw k at head-right) refl
 
     -- BY ITS KIND: what the record says, and its room
     pub says-multicast : kindOf (said .0) ≡ 1 → recordIn (F .next) said ≡ multicast (numberOf (said .0))

@@ -28,7 +28,7 @@ use Rattle.view.specs.View.{Lent, lent, floorIn}
 use Rattle.view.proofs.Standing.{Standing, standing}
 use Rattle.queue.specs.Rooms.{HasRooms}
 use Rattle.wired.specs.Handled.{Buffered, Deleted, Acknowledged}
-use Rattle.wired.proofs.Head.{line-head}
+use Rattle.wired.proofs.Head.{line-head, some-kind}
 use Rattle.wired.proofs.Asks as asks
 use Rattle.wired.proofs.MulticastIs.{multicast-is, multicast-report}
 use Rattle.wired.proofs.AckListIs.{ack-list-is, ack-list-report}
@@ -78,7 +78,12 @@ module _ (S C M W W₁ T : List ℕ) (i j : ℕ) (said : word.Record) (off : Tak
   unfolding accept
   meets L′ l f r = meets-done L (wire i j) L′ l passes f (sym r)
 
-  -- A MULTICAST; x is the number that the code read
+  -- A MULTICAST: what is no ack list, no delete and no hand-off record; x is the number that the code read
+  pub is-multicast : kindOf (said .0) ≤ 3 → (kindOf (said .0) ≡ 2 → ⊥) → (kindOf (said .0) ≡ 3 → ⊥) → kindOf (said .0) ≡ 1
+  is-multicast few two three =
+      let none = some-kind L X i j (off .from) (off .to) said rest (off .top) in
+      omega arith
+
   pub multicast-asks : kindOf (said .0) ≡ 1
       → (HasStation S j × (i < 16) × (stationsIn S .expected j i < 65536)) × ((length C ≡ 1216) × HasRoom M m × (m < 32) × (n < 65536))
   multicast-asks k = asks.multicast-asks S C M W W₁ T X i j (off .from) (off .to) said rest (off .top) (off .popped) k

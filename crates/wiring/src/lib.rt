@@ -40,7 +40,8 @@ fn wire_refusal(stations: &[u64], lines: &[u64], from: Station, to: Station) -> 
 }
 
 // A record that came from one station is handled at the other, by its kind: "multicast (1)", "ack list (2)", "delete (3)", "deregister (4)",
-// "register (5)". There is no other kind on a line of a floor that passes.
+// "register (5)". There is no other kind on a line of a floor that passes. Kinds are asked for one after the other and not by a table of jumps, as
+// in a frame.
 fn handle(
     stations: &mut [u64],
     carts: &mut [u64],
@@ -56,29 +57,25 @@ fn handle(
     let kind = view::kind_of(said);
     let number = MessageNumber(view::number_of(said));
     let cart = CartNumber(view::index_of(said));
-    match kind {
-        1 => {
-            let passed = wired::on_multicast(stations, carts, messages, said, from, to);
-            Answer::Buffered(number, passed)
-        }
-        2 => {
+    if kind <= 3 {
+        if kind == 2 {
             let n = stations::station_count(stations);
             let put = wired::on_ack_list(messages, lines, said, to, n);
-            Answer::Acknowledged(number, put)
+            return Answer::Acknowledged(number, put);
         }
-        3 => {
+        if kind == 3 {
             wired::on_delete(messages, said, to);
-            Answer::Deleted(number)
+            return Answer::Deleted(number);
         }
-        4 => {
-            handoff::on_deregister(stations, carts, lines, cart, to, from);
-            Answer::Deregistered(cart)
-        }
-        _ => {
-            let passed = handoff::on_register(stations, carts, messages, to, cart);
-            Answer::Registered(cart, passed)
-        }
+        let passed = wired::on_multicast(stations, carts, messages, said, from, to);
+        return Answer::Buffered(number, passed);
     }
+    if kind == 4 {
+        handoff::on_deregister(stations, carts, lines, cart, to, from);
+        return Answer::Deregistered(cart);
+    }
+    let passed = handoff::on_register(stations, carts, messages, to, cart);
+    Answer::Registered(cart, passed)
 }
 
 // "Wire (from, to)".
