@@ -40,8 +40,8 @@ fn wire_refusal(stations: &[u64], lines: &[u64], from: Station, to: Station) -> 
 }
 
 // A record that came from one station is handled at the other, by its kind: "multicast (1)", "ack list (2)", "delete (3)", "deregister (4)",
-// "register (5)". There is no other kind on a line of a floor that passes. Kinds are asked for one after the other and not by a table of jumps, as
-// in a frame.
+// "register (5)". There is no other kind on a line of a floor that passes. Kinds are asked for one after the other, as in a frame: a table of
+// jumps has to be read before it is known that the guess was wrong.
 fn handle(
     stations: &mut [u64],
     carts: &mut [u64],
