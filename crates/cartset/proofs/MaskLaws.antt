@@ -3,7 +3,7 @@ use mathlib.Core.Path.{_≡_, refl, sym, ap, ap₂, _∙_, fun-ext}
 use mathlib.Core.Bool.{Bool, true, false, cond, not, _&&_, _||_}
 use mathlib.Core.Option.{none, some}
 use Prim.Native.Nat.{ℕ, zero, suc, _+_, _-_, _*_, _/_, _%_, _^_, _≤_, _<_, min}
-use native.Mathlib.Nat.{mod-lt, zero-lt-suc, pow-suc, div-one, lt-of-lt-of-le, one-mul, mod-eq-of-lt}
+use native.Mathlib.Nat.{pow-suc, div-one, lt-of-lt-of-le, one-mul, mod-eq-of-lt}
 use native.Mathlib.Omega.{arith}
 use lib.Dec.{eqb}
 use lib.Arith.{lt-one}
@@ -106,10 +106,14 @@ digit-of zero h = refl
 digit-of (suc zero) h = refl
 digit-of (suc (suc d)) h = absurd (omega arith)
 
--- the lowest digit says whether 0 is in the set
-low-digit : (x : ℕ) → x % 2 ≡ cond (has x 0) 1 0
+-- a digit says whether its cart is in the set
+pub digit-is : (x c : ℕ) → digit x c ≡ cond (has x c) 1 0
 unfolding has
-low-digit x = ap (λ (y : ℕ). y % 2) (sym (div-one x)) ∙ digit-of (digit x 0) (mod-lt (x / 2 ^ 0) (zero-lt-suc 1))
+digit-is x c = digit-of (digit x c) (digit-lt x c)
+
+-- the lowest digit says whether 0 is
+low-digit : (x : ℕ) → x % 2 ≡ cond (has x 0) 1 0
+low-digit x = ap (λ (y : ℕ). y % 2) (sym (div-one x)) ∙ digit-is x 0
 
 -- the digits above it are the set of those one less
 has-half : (x c : ℕ) → has (x / 2) c ≡ has x (suc c)
@@ -118,6 +122,15 @@ has-half x c = ap (λ (y : ℕ). eqb (y % 2) 1) (shr-shr x 1 c ∙ ap (λ (k : �
   where
     one-more : 1 + c ≡ suc c
     one-more = omega arith
+
+-- so a set is made from its last member down: twice those one less, and the lowest digit
+pub setOf-low : (n : ℕ) (f : ℕ → Bool) → setOf (suc n) f ≡ setOf n (λ c. f (suc c)) * 2 + cond (f 0) 1 0
+unfolding setOf
+setOf-low zero f = by-test (f 0) (λ e. rw e) (λ e. rw e)
+setOf-low (suc n) f =
+    let z = setOf-low n f in
+    let p = pow-suc 2 n in
+    by-test (f (suc n)) (λ e. rw e (omega arith)) (λ e. rw e (omega arith))
 
 half-lt : (n x : ℕ) → x < 2 ^ suc n → x / 2 < 2 ^ n
 half-lt n x h = let p = pow-suc 2 n in omega arith
@@ -252,7 +265,8 @@ one-less (suc t) x pos e b =
     let even : x % 2 ≡ 0 = low-digit x ∙ ap (λ (b : Bool). cond b 1 0) (b 0 (omega arith)) in
     less-even t x pos even (one-less t (x / 2) (omega arith) (has-half x t ∙ e) (λ c l. has-half x c ∙ b (suc c) (omega arith)))
 
-has-and : (x y c : ℕ) → has (bitAnd x y) c ≡ (has x c && has y c)
+-- those in both
+pub has-and : (x y c : ℕ) → has (bitAnd x y) c ≡ (has x c && has y c)
 unfolding has
 has-and x y c =
     ap (λ (d : ℕ). eqb d 1) (op-digit bitAnd min and-step and-shr min-small x y c)

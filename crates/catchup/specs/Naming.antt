@@ -2,12 +2,8 @@
 use mathlib.Core.Path.{_≡_}
 use mathlib.Core.Bool.{true, false}
 use Prim.Native.Nat.{ℕ, _<_}
-use Rattle.protocol.specs.CartSets.{has, setOf}
+use Rattle.protocol.specs.CartSets.{has}
 use Rattle.stations.specs.View.{Stations, rooms}
-
--- the rooms whose copies at t name cart c
-abbrev pub namingIn : Stations → ℕ → ℕ → ℕ
-namingIn S t c = setOf rooms (λ m. has (S .copy m t) c)
 
 -- no copy at t names cart c but in rooms of the set
 pub record Covers (S : Stations) (t c set : ℕ) : Type 0 where

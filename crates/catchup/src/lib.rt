@@ -4,12 +4,12 @@
 use ids::CartNumber;
 use ids::Station;
 ghost use mathlib.Core.Path.{_≡_};
-ghost use Prim.Native.Nat.{_+_, _<_, _≤_};
+ghost use Prim.Native.Nat.{_<_, _≤_};
 ghost use lib.ListN.{length};
 ghost use Rattle.protocol.specs.Folds.{listOf};
 ghost use Rattle.stations.specs.View.{initiators, rooms, HasStation, stationsIn, headIn};
 ghost use Rattle.queue.specs.Rooms.{tablesFloor, HasRooms, roomCode, roomIn};
-ghost use Rattle.catchup.specs.Naming.{namingIn, Covers};
+ghost use Rattle.catchup.specs.Naming.{Covers};
 ghost use Rattle.catchup.specs.Nearest.{wouldStop, nearerWith, nearestAmong, stopBy};
 ghost use Rattle.catchup.specs.Arrival.{CanStop, nearestRow, stopIn, Rises, Small, risen, isFound, occurs, queuedFor};
 
@@ -77,23 +77,6 @@ fn nearer(
     }
 }
 
-// The rooms whose copies at the station name the cart. Most do not, and which do cannot be guessed: so it is found out for all of them first, and a
-// search then looks at those rooms alone.
-pub fn rooms_naming(stations: &[u64], station: Station, cart: CartNumber) -> u64
-    requires { ⌜ HasStation (now stations) (station .0) × (cart .0 < 64) ⌝ }
-    ensures { λ r. ⌜ r ≡ namingIn (stationsIn (now (stations .entry))) (station .0) (cart .0) ⌝ }
-{
-    let mut naming: u64 = 0;
-    let mut left = stations::copies_of(stations, station);
-    while 0 < left {
-        let m = cartset::first(left);
-        left = cartset::without_first(left);
-        let copy = stations::copy_of(stations, m as usize, station);
-        naming = cartset::with_if(naming, m, cartset::has(copy, cart.0));
-    }
-    naming
-}
-
 // The nearest message of the initiator that would stop the cart: its room, or none.
 pub fn nearest_of(
     stations: &[u64],
@@ -107,7 +90,7 @@ pub fn nearest_of(
     ensures { λ r. ⌜ r ≡ roomCode (nearestAmong (tablesFloor (now (stations .entry)) (now (messages .entry))) (station .0) (cart .0) (initiator .0) next 32) ⌝ }
 {
     let mut nearest = queue::NONE;
-    let mut left = rooms_naming(stations, station, cart);
+    let mut left = stations::rooms_naming(stations, station, cart);
     while 0 < left {
         let m = cartset::first(left) as usize;
         left = cartset::without_first(left);

@@ -15,9 +15,8 @@ ghost use Rattle.messages.specs.View.{roomsIn};
 ghost use Rattle.lines.specs.Form.{form};
 ghost use Rattle.lines.specs.Lines.{used};
 ghost use Rattle.lines.specs.Words.{capacity};
-ghost use Rattle.queue.specs.Rooms.{tablesFloor, HasRooms};
+ghost use Rattle.queue.specs.Rooms.{HasRooms};
 ghost use Rattle.catchup.specs.Naming.{Covers};
-ghost use Rattle.catchup.specs.Arrival.{stopIn, Rises, risen};
 ghost use Rattle.handoff.specs.Moved.{Moved};
 ghost use Rattle.handoff.specs.Left.{unqueued, left, Left};
 ghost use Rattle.handoff.specs.Struck.{isBelow, struckIn, PassesBy, struckFrom};
@@ -219,7 +218,7 @@ fn dock(
     requires { ⌜ ((s : ℕ) → s < initiators → stationsIn (now stations) .expected (station .0) s ≤ 65535) ⌝ }
     ensures { λ r. ⌜ Docked (now (stations .entry)) (now (stations .exit)) (now (messages .entry)) (station .0) (cart .0) row (r .row) (r .passed) ⌝ }
 {
-    let naming = catchup::rooms_naming(stations, station, cart);
+    let naming = stations::rooms_naming(stations, station, cart);
     strike(stations, messages, station, cart, naming, row);
     let nearest = catchup::nearest_of_all(stations, messages, station, cart, naming, row);
     let caught = catchup::raised(stations, messages, station, row, nearest);

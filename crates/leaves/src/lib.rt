@@ -92,7 +92,7 @@ pub extern "C" fn mekhturia_catch_up(
     ensures { λ r. ⌜ r ≡ passedBy (tablesFloor (now (stations .entry)) (now (messages .entry))) t c (listOf 16 (cartsIn (now (carts .entry)) .next c)) ⌝ }
 {
     let row = carts::row_of(carts, CartNumber(c));
-    let naming = catchup::rooms_naming(stations, Station(t), CartNumber(c));
+    let naming = stations::rooms_naming(stations, Station(t), CartNumber(c));
     let nearest = catchup::nearest_of_all(
         stations,
         messages,

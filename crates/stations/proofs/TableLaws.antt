@@ -14,7 +14,7 @@ use Rattle.protocol.proofs.SetLaws.{has-zero, has-minus, has-with, has-without,
 use Rattle.rows.specs.Rows.{cell, column}
 use Rattle.rows.proofs.RowLaws.{cell-zero, cell-past, update2-column}
 use Rattle.rows.proofs.ColumnLaws.{word-put, column-read, column-put, column-put-turned, column-stays, column-beyond, column-zero}
-use Rattle.stations.specs.View.{width, tableWords, HasHead, HasStation, initiators, rooms, headOf, head, stationsOf, expectedAt, copyAt, acksAt, queueAt, headIn, stationsIn, stationWord, noStations, withSent, withExpected, withLocal, withCopy, withAcks, withQueue, copiesAt, entriesAt, counted, countedWith, copiesIn, entriesIn}
+use Rattle.stations.specs.View.{width, tableWords, HasHead, HasStation, initiators, rooms, headOf, head, stationsOf, expectedAt, copyAt, acksAt, queueAt, headIn, stationsIn, stationWord, noStations, withSent, withExpected, withLocal, withCopy, withAcks, withQueue, copiesAt, entriesAt, counted, countedWith, entriesIn}
 
 -- A STATION'S ROW AND THE FLOOR'S OWN
 
@@ -280,22 +280,12 @@ module _ (l : List ℕ) (m t : ℕ) where
       (λ h. ap (λ (b : Bool). cond b (column rooms pos (stationWord l) t m) 0) (sym (has-setOf rooms (has (stationWord l t k)) m h) ∙ out))
       (λ h. counted-beyond pos k h)
 
-  pub not-in-copies : has (copiesIn l t) m ≡ false → stationsIn l .copy m t ≡ 0
-  unfolding stationsIn
-  not-in-copies out = not-among copyAt copiesAt out
-
   pub not-in-entries : has (entriesIn l t) m ≡ false → stationsIn l .queue m t ≡ 0
   unfolding stationsIn
   not-in-entries out = not-among queueAt entriesAt out
 
 -- the rooms that count, as sets to walk over
 module _ (l : List ℕ) (t : ℕ) where
-  pub copies-word : copiesIn l t < 2 ^ 64
-  copies-word = rooms-word (stationWord l t copiesAt)
-
-  pub copies-inside : (m : ℕ) → has (copiesIn l t) m ≡ true → m < rooms
-  copies-inside m e = member-below rooms (copiesIn l t) m (setOf-lt rooms (has (stationWord l t copiesAt))) e
-
   pub entries-word : entriesIn l t < 2 ^ 64
   entries-word = rooms-word (stationWord l t entriesAt)
 

@@ -122,12 +122,13 @@ stationsOf W =
 unfoldable pub stationsIn : List ℕ → Stations
 stationsIn words = stationsOf (stationWord words)
 
--- the rooms whose copies count at station t, and those whose queue entries do: no other room has one there
-abbrev pub copiesIn : List ℕ → ℕ → ℕ
-copiesIn words t = setOf rooms (has (stationWord words t copiesAt))
-
+-- the rooms whose queue entries count at station t: no other room has one there
 abbrev pub entriesIn : List ℕ → ℕ → ℕ
 entriesIn words t = setOf rooms (has (stationWord words t entriesAt))
+
+-- the rooms whose copies at t name cart c
+abbrev pub namingIn : Stations → ℕ → ℕ → ℕ
+namingIn S t c = setOf rooms (λ m. has (S .copy m t) c)
 
 -- nothing at any station
 abbrev pub noStations : Stations

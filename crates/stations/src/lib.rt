@@ -1,11 +1,12 @@
 // The stations: everything that a station keeps, and the floor's own mark and counts, in one lent table of words.
+use ids::CartNumber;
 use ids::Station;
 ghost use mathlib.Core.Path.{_≡_};
 ghost use Prim.Native.Nat.{ℕ, _<_};
 ghost use lib.ListN.{length, getD};
 ghost use Rattle.protocol.specs.CartSets.{has, setOf};
 ghost use Rattle.protocol.specs.Folds.{update2};
-ghost use Rattle.stations.specs.View.{width, initiators, rooms, HasHead, HasStation, countedWith, copiesIn, entriesIn, stationWord, head, headIn, stationsIn, noStations, withSent, withExpected, withLocal, withCopy, withAcks, withQueue};
+ghost use Rattle.stations.specs.View.{width, initiators, rooms, HasHead, HasStation, countedWith, entriesIn, namingIn, stationWord, head, headIn, stationsIn, noStations, withSent, withExpected, withLocal, withCopy, withAcks, withQueue};
 
 // A row of the table has this many words. Row 0 is the floor's own, row 1 + t is station t's.
 const WIDTH: usize = 116;
@@ -170,14 +171,6 @@ fn counted_with(among: u64, m: usize, word: u64) -> u64
     }
 }
 
-// The rooms whose copies count at the station: no other room has one there.
-pub fn copies_of(stations: &[u64], station: Station) -> u64
-    requires { ⌜ HasStation (now stations) (station .0) ⌝ }
-    ensures { λ r. ⌜ r ≡ copiesIn (now (stations .entry)) (station .0) ⌝ }
-{
-    rooms_among(word_of(stations, station, COPIES))
-}
-
 // The rooms whose entries count in the station's queue: no other room has one there.
 pub fn entries_of(stations: &[u64], station: Station) -> u64
     requires { ⌜ HasStation (now stations) (station .0) ⌝ }
@@ -195,6 +188,21 @@ pub fn copy_of(stations: &[u64], m: usize, station: Station) -> u64
         return 0;
     }
     word_of(stations, station, COPY + ROOM * m)
+}
+
+// The rooms whose copies at the station name the cart. All are looked at, from the last one down, so that no branch asks which of them count; those
+// that do not are left out at the end.
+pub fn rooms_naming(stations: &[u64], station: Station, cart: CartNumber) -> u64
+    requires { ⌜ HasStation (now stations) (station .0) × (cart .0 < 64) ⌝ }
+    ensures { λ r. ⌜ r ≡ namingIn (stationsIn (now (stations .entry))) (station .0) (cart .0) ⌝ }
+{
+    let mut naming: u64 = 0;
+    let mut m: usize = ROOMS as usize;
+    while 0 < m {
+        m -= 1;
+        naming = naming * 2 + (word_of(stations, station, COPY + ROOM * m) >> cart.0) % 2;
+    }
+    naming & word_of(stations, station, COPIES)
 }
 
 // The station has another copy.

@@ -4,9 +4,8 @@ use Prim.Native.Nat.{ℕ, _+_}
 use native.Mathlib.Omega.{arith}
 use borrow.Author.Needs.{needs}
 use Rattle.cartset.proofs.Walk.{Ahead, ahead-start, ahead-turn, ahead-end}
-use Rattle.stations.specs.View.{stationsIn}
+use Rattle.stations.specs.View.{stationsIn, namingIn}
 use Rattle.queue.specs.Rooms.{tablesFloor, roomCode}
-use Rattle.catchup.specs.Naming.{namingIn}
 use Rattle.catchup.specs.Nearest.{nearestAmong}
 use Rattle.catchup.proofs.NamingLaws.{naming-word, naming-covers}
 use Rattle.catchup.proofs.RoomLaws.{nearest-none, nearest-fits, nearest-again}
