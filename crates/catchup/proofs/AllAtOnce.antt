@@ -3,20 +3,26 @@ use mathlib.Core.Path.{_≡_, refl, sym, ap, ap₂, _∙_}
 use mathlib.Core.Bool.{Bool, true, false, _&&_, _||_}
 use mathlib.Core.List.{List}
 use mathlib.Core.Option.{Option, none, some}
-use Prim.Native.Nat.{ℕ, zero, suc, _+_, _-_, _<_, _≤_}
+use Prim.Native.Nat.{ℕ, zero, suc, _-_, _<_, _≤_}
 use native.Mathlib.Omega.{arith}
 use lib.Dec.{eqb, ltb}
 use lib.ListN.{getD}
-use borrow.Author.Tests.{eqb-true, eq-eqb, lt-ltb, le-ltb}
+use borrow.Author.Tests.{eqb-true, eq-eqb, lt-ltb, le-ltb, ltb-true}
 use Rattle.protocol.specs.Folds.{sum}
+use Rattle.protocol.specs.CartSets.{has}
 use Rattle.protocol.specs.Floor.{Floor, limits}
 use Rattle.protocol.specs.Handoff.{Stop, catchUpStop}
-use Rattle.protocol.proofs.Tests.{by-test, by-lt, by-eq, same-test, clash}
+use Rattle.protocol.proofs.Tests.{by-test, by-lt, by-eq, same-test, clash, and-left, and-right}
+use Rattle.protocol.proofs.Counting.{sum-ext}
 use Rattle.protocol.proofs.CatchUp.{foundIs}
+use Rattle.stations.specs.View.{Stations}
+use Rattle.messages.specs.View.{Rooms}
 use Rattle.queue.specs.Rooms.{tablesFloor, roomIn}
+use Rattle.queue.proofs.Codes.{room-in, no-room-in}
+use Rattle.catchup.specs.Naming.{Covers}
 use Rattle.catchup.specs.Nearest.{nearestAmong}
-use Rattle.catchup.specs.Arrival.{nearestRow, stopIn, risen, isFound, occurs}
-use Rattle.catchup.proofs.ClosedForm.{IsNearest, nearest-is, would}
+use Rattle.catchup.specs.Arrival.{nearestRow, stopIn, risen, isFound, occurs, OwnRooms}
+use Rattle.catchup.proofs.ClosedForm.{IsNearest, nearest-is, Would, would}
 use Rattle.catchup.proofs.RowLaws.{entry-says}
 use Rattle.catchup.proofs.Stops.{Agree, row-stops-there, stop-found}
 
@@ -25,17 +31,24 @@ same-found none m = refl
 same-found (some k) m =
     same-test (eqb m k) (eqb k m) (λ e. eq-eqb k m (sym (eqb-true m k e))) (λ e. eq-eqb m k (sym (eqb-true k m e)))
 
+-- a word that says a room is that room
+says-room : (w m : ℕ) → isFound (roomIn w) m ≡ true → w ≡ m
+says-room w m e =
+    by-lt w 32
+    (λ l. sym (eqb-true m w (ap (λ (o : Option ℕ). isFound o m) (sym (room-in w l)) ∙ e)))
+    (λ l. clash false (ap (λ (o : Option ℕ). isFound o m) (sym (no-room-in w l)) ∙ e) refl)
+
 -- A MESSAGE IS FOUND FOR ITS OWN INITIATOR ALONE
 
 module _ (F : Floor) (t c : ℕ) (row nearest : List ℕ) (is-nearest : nearest ≡ nearestRow F t c row 32) where
-  own-initiator : (s : ℕ) → s < 16 → (m : ℕ) → isFound (roomIn (getD nearest s 0)) m ≡ true → F .initiator m ≡ s
-  own-initiator s h m e =
+  found-would : (s : ℕ) → s < 16 → (m : ℕ) → isFound (roomIn (getD nearest s 0)) m ≡ true → Would F t c s (getD row s 0) m
+  found-would s h m e =
       found (nearestAmong F t c s (getD row s 0) 32) (nearest-is F t c s (getD row s 0) 32)
       (ap (λ (o : Option ℕ). isFound o m) (sym (entry-says F t c row nearest is-nearest s h)) ∙ e)
     where
-      found : (o : Option ℕ) → IsNearest F t c s (getD row s 0) 32 o → isFound o m ≡ true → F .initiator m ≡ s
+      found : (o : Option ℕ) → IsNearest F t c s (getD row s 0) 32 o → isFound o m ≡ true → Would F t c s (getD row s 0) m
       found none n f = clash false f refl
-      found (some k) n f = rw (eqb-true m k f) (would F t c s (getD row s 0) k (n .1 .0) .is-initiator)
+      found (some k) n f = rw (eqb-true m k f) (would F t c s (getD row s 0) k (n .1 .0))
 
   -- so the words of the others do not say its room
   pub occurs-once : (n : ℕ) → n ≤ 16 → (m : ℕ) → occurs nearest n m ≡ (ltb (F .initiator m) n && isFound (roomIn (getD nearest (F .initiator m) 0)) m)
@@ -45,7 +58,7 @@ module _ (F : Floor) (t c : ℕ) (row nearest : List ℕ) (is-nearest : nearest 
       by-eq (F .initiator m) n
       (λ z. rw (occurs-once n (omega arith) m, z, le-ltb n n (omega arith), lt-ltb n (suc n) (omega arith)))
       (λ z. let no : isFound (roomIn (getD nearest n 0)) m ≡ false =
-      by-test (isFound (roomIn (getD nearest n 0)) m) (λ e. absurd (z (own-initiator n (omega arith) m e))) (λ e. e) in
+      by-test (isFound (roomIn (getD nearest n 0)) m) (λ e. absurd (z (found-would n (omega arith) m e .is-initiator))) (λ e. e) in
       ap₂ _||_ (occurs-once n (omega arith) m) no ∙ or-no (ltb (F .initiator m) n && isFound (roomIn (getD nearest (F .initiator m) 0)) m)
       ∙ ap (λ (b : Bool). b && isFound (roomIn (getD nearest (F .initiator m) 0)) m) (one-more (F .initiator m) n z))
     where
@@ -57,10 +70,26 @@ module _ (F : Floor) (t c : ℕ) (row nearest : List ℕ) (is-nearest : nearest 
       one-more i n d =
           by-lt i n (λ l. lt-ltb i n l ∙ sym (lt-ltb i (suc n) (omega arith))) (λ l. le-ltb i n l ∙ sym (le-ltb i (suc n) (by-eq i n (λ q. absurd (d q)) (λ q. omega arith))))
 
-sum-same : (n : ℕ) (f g : ℕ → ℕ) → ((k : ℕ) → k < n → f k ≡ g k) → sum n f ≡ sum n g
-unfolding sum
-sum-same zero f g h = refl
-sum-same (suc n) f g h = ap₂ _+_ (sum-same n f g (λ k l. h k (omega arith))) (h n (omega arith))
+  -- it is in every set that has all the rooms whose copies name the cart
+  pub own-rooms : (R : Rooms) (S : Stations) (set : ℕ) → F .initiator ≡ R .initiator → F .copy ≡ S .copy → Covers S t c set → OwnRooms R set nearest
+  own-rooms R S set er es C = record { inside = C .inside; among = λ m e. among m e; own = λ m e. (rw (← er) (is-low m e), rw (← er) (is-own m e)) }
+    where
+      said : (m : ℕ) → occurs nearest 16 m ≡ true → (ltb (F .initiator m) 16 && isFound (roomIn (getD nearest (F .initiator m) 0)) m) ≡ true
+      said m e = sym (occurs-once 16 (omega arith) m) ∙ e
+
+      is-low : (m : ℕ) → occurs nearest 16 m ≡ true → F .initiator m < 16
+      is-low m e = ltb-true (F .initiator m) 16 (and-left (ltb (F .initiator m) 16) (isFound (roomIn (getD nearest (F .initiator m) 0)) m) (said m e))
+
+      is-found : (m : ℕ) → occurs nearest 16 m ≡ true → isFound (roomIn (getD nearest (F .initiator m) 0)) m ≡ true
+      is-found m e = and-right (ltb (F .initiator m) 16) (isFound (roomIn (getD nearest (F .initiator m) 0)) m) (said m e)
+
+      is-own : (m : ℕ) → occurs nearest 16 m ≡ true → getD nearest (F .initiator m) 0 ≡ m
+      is-own m e = says-room (getD nearest (F .initiator m) 0) m (is-found m e)
+
+      among : (m : ℕ) → occurs nearest 16 m ≡ true → has set m ≡ true
+      among m e =
+          by-test (has set m) (λ y. y)
+          (λ n. clash (has (F .copy m t) c) (found-would (F .initiator m) (is-low m e) m (is-found m e) .in-copy) (rw es (C .others m n)))
 
 -- ON EVERY FLOOR WHOSE STATIONS AND MESSAGES ARE THE TWO TABLES, for a cart with that row of next numbers
 
@@ -73,7 +102,7 @@ module _ (F : Floor) (stations messages : List ℕ) (agree : Agree F (tablesFloo
   -- the count of the numbers passed over is the protocol's
   pub all-passed : risen (tablesFloor stations messages) t row nearest 16 ≡ sum 16 (λ s. catchUpStop limits F t c s .upto - F .next c s)
   all-passed =
-      sum-same 16 (λ s. stopIn (tablesFloor stations messages) t row nearest s - getD row s 0) (λ s. catchUpStop limits F t c s .upto - F .next c s)
+      sum-ext 16 (λ s. stopIn (tablesFloor stations messages) t row nearest s - getD row s 0) (λ s. catchUpStop limits F t c s .upto - F .next c s)
       (λ s h. ap₂ _-_ (all-raised s h) (is-row s h))
 
   -- the cart is queued for what the protocol's stops find

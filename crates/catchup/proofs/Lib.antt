@@ -5,5 +5,5 @@ pub mod RowLaws
 pub mod QueueLaws
 pub mod Stops
 pub mod AllAtOnce
-pub mod Skips
 pub mod NamingLaws
+pub mod OnePass

@@ -1,22 +1,25 @@
 -- A cart queued for several messages.
-use mathlib.Core.Path.{_≡_, refl, ap, _∙_}
+use mathlib.Core.Path.{_≡_, refl, sym, ap, _∙_, fun-ext}
 use mathlib.Core.Bool.{Bool, true, false, cond, _&&_, _||_}
 use mathlib.Core.List.{List}
+use mathlib.Core.Option.{Option, some}
 use Prim.Native.Nat.{ℕ, zero, suc, _+_, _<_, _≤_, _^_}
 use native.Mathlib.Nat.{pow-suc}
 use native.Mathlib.Numerals.{add-one}
 use native.Mathlib.Omega.{arith}
-use lib.Dec.{eqb}
+use lib.Dec.{eqb, ltb}
 use lib.ListN.{getD}
 use lib.Pow.{pow-mono}
-use borrow.Author.Tests.{eqb-true}
+use borrow.Author.Tests.{eqb-true, ne-eqb, lt-ltb, le-ltb}
 use Rattle.protocol.specs.CartSets.{has, with}
-use Rattle.protocol.proofs.Tests.{by-test, and-false}
+use Rattle.protocol.proofs.Tests.{by-test, by-lt, by-eq, clash, and-false, or-right, eqb-self}
 use Rattle.protocol.proofs.SetLaws.{has-with, with-lt, same-members}
+use Rattle.cartset.proofs.Walk.{nothing-between}
 use Rattle.stations.specs.View.{Stations, withQueue}
+use Rattle.messages.specs.View.{Rooms}
 use Rattle.queue.specs.Rooms.{roomIn}
 use Rattle.queue.proofs.Codes.{room-in, no-room-in}
-use Rattle.catchup.specs.Arrival.{isFound, occurs, queuedFor}
+use Rattle.catchup.specs.Arrival.{isFound, occurs, OwnRooms, queuedFor}
 
 -- A CART IS QUEUED ONCE
 
@@ -55,14 +58,17 @@ queued-none S t c which h = same-queues S t c which S (S .queue) refl (λ m u. r
 pub nothing-found : (S : Stations) (t c h : ℕ) → 32 ≤ h → S ≡ queuedFor S t c (isFound (roomIn h))
 nothing-found S t c h l = queued-none S t c (isFound (roomIn h)) (λ m. rw (no-room-in h l))
 
-pub one-found : (S : Stations) {T : Stations} (t c h q k : ℕ) → h < 32 → q ≡ S .queue h t → k ≡ with q c → T ≡ withQueue S h t k → T ≡ queuedFor S t c (isFound (roomIn h))
-one-found S {T} t c h q k l eq ek e =
-    same-queues S t c (isFound (roomIn h)) T (withQueue S h t k .queue) e
-    (λ m u. rw (room-in h l) (by-test (eqb m h)
+pub one-found : (S : Stations) {T : Stations} (t c h : ℕ) → h < 32 → T ≡ queuedFor S t c (isFound (some h)) → T ≡ queuedFor S t c (isFound (roomIn h))
+one-found S t c h l e = e ∙ ap (λ (o : Option ℕ). queuedFor S t c (isFound o)) (sym (room-in h l))
+
+pub one-queued : (S : Stations) {T : Stations} (t c h q k : ℕ) → q ≡ S .queue h t → k ≡ with q c → T ≡ withQueue S h t k → T ≡ queuedFor S t c (isFound (some h))
+one-queued S {T} t c h q k eq ek e =
+    same-queues S t c (isFound (some h)) T (withQueue S h t k .queue) e
+    (λ m u. by-test (eqb m h)
     (λ y. by-test (eqb u t)
     (λ z. rw (y, z) (ek ∙ ap (λ (n : ℕ). with n c) (eq ∙ place m u y z)))
     (λ z. rw (y, z)))
-    (λ y. by-test (eqb u t) (λ z. rw (y, z)) (λ z. rw (y, z)))))
+    (λ y. by-test (eqb u t) (λ z. rw (y, z)) (λ z. rw (y, z))))
   where
     place : (m u : ℕ) → eqb m h ≡ true → eqb u t ≡ true → S .queue h t ≡ S .queue m u
     place m u y z = rw (eqb-true m h y, eqb-true u t z)
@@ -80,18 +86,70 @@ queued-twice S t c p q =
     same-queues S t c (λ m. p m || q m) (queuedFor (queuedFor S t c p) t c q) (queuedFor (queuedFor S t c p) t c q .queue) refl
     (λ m u. twice (S .queue m u) c (eqb u t) (p m) (q m))
 
--- THE WORDS OF A ROW, ONE BY ONE
+-- ROOM BY ROOM
+
+-- a word says its room
+pub said-of : (nearest : List ℕ) (n s m : ℕ) → s < n → m < 32 → getD nearest s 0 ≡ m → occurs nearest n m ≡ true
+unfolding occurs
+said-of nearest zero s m l h e = absurd (omega arith)
+said-of nearest (suc n) s m l h e =
+    by-eq s n
+    (λ q. or-right (occurs nearest n m) (isFound (roomIn (getD nearest n 0)) m)
+    (let z : getD nearest n 0 ≡ m = rw q at e in rw (z, room-in m h) (eqb-self m)))
+    (λ q. ap (λ (b : Bool). b || isFound (roomIn (getD nearest n 0)) m) (said-of nearest n s m (omega arith) h e))
+
+module _ (R : Rooms) (set : ℕ) (nearest : List ℕ) (own : OwnRooms R set nearest) where
+  -- a room that is not in the set
+  pub said-within : (m : ℕ) → has set m ≡ false → occurs nearest 16 m ≡ false
+  said-within m n = by-test (occurs nearest 16 m) (λ e. clash (has set m) (own .among m e) n) (λ e. e)
+
+  -- a room that its initiator's word does not say
+  module _ (m s : ℕ) (from : s ≡ R .initiator m) where
+    pub not-own : (getD nearest s 0 ≡ m → ⊥) → occurs nearest 16 m ≡ false
+    not-own d = by-test (occurs nearest 16 m) (λ e. absurd (d (rw from (own .own m e .1)))) (λ e. e)
+
+    pub from-nobody : 16 ≤ s → occurs nearest 16 m ≡ false
+    from-nobody l = by-test (occurs nearest 16 m) (λ e. absurd (let z = own .own m e .0 in omega arith)) (λ e. e)
+
+module _ (nearest : List ℕ) where
+  -- the rooms below n that one of the words says
+  abbrev pub saidTo : ℕ → ℕ → Bool
+  saidTo n m = ltb m n && occurs nearest 16 m
+
+  below-more : (m n : ℕ) → (m ≡ n → ⊥) → ltb m (n + 1) ≡ ltb m n
+  below-more m n d = by-lt m n (λ l. lt-ltb m (n + 1) (omega arith) ∙ sym (lt-ltb m n l)) (λ l. le-ltb m (n + 1) (omega arith) ∙ sym (le-ltb m n l))
+
+  one-more : (n : ℕ) (p : ℕ → Bool) → ((m : ℕ) → (m ≡ n → ⊥) → p m ≡ saidTo n m) → p n ≡ occurs nearest 16 n → p ≡ saidTo (n + 1)
+  one-more n p h e =
+      fun-ext (λ m. by-eq m n
+      (λ q. rw (q, lt-ltb n (n + 1) (omega arith)) e)
+      (λ d. h m d ∙ ap (λ (b : Bool). b && occurs nearest 16 m) (sym (below-more m n d))))
 
 module _ (S : Stations) (t c : ℕ) (nearest : List ℕ) where
-  pub queued-start : S ≡ queuedFor S t c (occurs nearest 0)
-  unfolding occurs
-  queued-start = queued-none S t c (occurs nearest 0) (λ m. refl)
+  pub queued-start : S ≡ queuedFor S t c (saidTo nearest 0)
+  queued-start = queued-none S t c (saidTo nearest 0) (λ m. rw (le-ltb m 0 (omega arith)))
 
-  pub queued-again : (n : ℕ) {T U : Stations} → T ≡ queuedFor S t c (occurs nearest n) → U ≡ queuedFor T t c (isFound (roomIn (getD nearest n 0)))
-      → U ≡ queuedFor S t c (occurs nearest (n + 1))
-  unfolding occurs
-  queued-again n e f =
-      rw (add-one, occurs) (f ∙ ap (λ (X : Stations). queuedFor X t c (isFound (roomIn (getD nearest n 0)))) e ∙ queued-twice S t c (occurs nearest n) (isFound (roomIn (getD nearest n 0))))
+  -- a room that no word says
+  pub queued-not : (m : ℕ) {T : Stations} → occurs nearest 16 m ≡ false → T ≡ queuedFor S t c (saidTo nearest m) → T ≡ queuedFor S t c (saidTo nearest (m + 1))
+  queued-not m n e = e ∙ ap (queuedFor S t c) (one-more nearest m (saidTo nearest m) (λ k d. refl) (rw (le-ltb m m (omega arith)) (sym n)))
 
-  pub queued-all : (n : ℕ) {T : Stations} → n ≡ 16 → T ≡ queuedFor S t c (occurs nearest n) → T ≡ queuedFor S t c (occurs nearest 16)
-  queued-all n z e = e ∙ ap (λ (k : ℕ). queuedFor S t c (occurs nearest k)) z
+  -- a room that one says
+  pub queued-one : (m : ℕ) {T U : Stations} → occurs nearest 16 m ≡ true → T ≡ queuedFor S t c (saidTo nearest m) → U ≡ queuedFor T t c (isFound (some m))
+      → U ≡ queuedFor S t c (saidTo nearest (m + 1))
+  queued-one m y e f =
+      f ∙ ap (λ (X : Stations). queuedFor X t c (isFound (some m))) e ∙ queued-twice S t c (saidTo nearest m) (isFound (some m))
+      ∙ ap (queuedFor S t c) (one-more nearest m (λ k. saidTo nearest m k || eqb k m) (λ k d. rw (ne-eqb k m d) (or-false′ (saidTo nearest m k))) (or-right (saidTo nearest m m) (eqb m m) (eqb-self m) ∙ sym y))
+    where
+      or-false′ : (a : Bool) → (a || false) ≡ a
+      or-false′ true = refl
+      or-false′ false = refl
+
+  -- the rooms that a walk skips
+  pub queued-skips : (a b : ℕ) {T : Stations} → a ≤ b → ((m : ℕ) → a ≤ m → m < b → occurs nearest 16 m ≡ false) → T ≡ queuedFor S t c (saidTo nearest a) → T ≡ queuedFor S t c (saidTo nearest b)
+  queued-skips a b l h e =
+      e ∙ sym (nothing-between (λ n. queuedFor S t c (saidTo nearest n)) a b l (λ m k q. ap (λ (n : ℕ). queuedFor S t c (saidTo nearest n)) (sym (add-one m)) ∙ sym (queued-not m (h m k q) refl)))
+
+  -- no word says a room from k on
+  pub queued-all : (k : ℕ) {T : Stations} → ((m : ℕ) → k ≤ m → occurs nearest 16 m ≡ false) → T ≡ queuedFor S t c (saidTo nearest k) → T ≡ queuedFor S t c (occurs nearest 16)
+  queued-all k h e =
+      e ∙ ap (queuedFor S t c) (fun-ext (λ m. by-lt m k (λ l. rw (lt-ltb m k l)) (λ l. rw (le-ltb m k l) (sym (h m l)))))

@@ -7,11 +7,14 @@ use native.Mathlib.Numerals.{add-one}
 use native.Mathlib.Omega.{arith}
 use lib.Dec.{ltb}
 use borrow.Author.Tests.{lt-ltb, le-ltb}
+use Rattle.protocol.specs.CartSets.{has}
 use Rattle.protocol.specs.Floor.{Floor}
 use Rattle.protocol.proofs.Tests.{on-cond}
+use Rattle.cartset.proofs.Walk.{nothing-between}
 use Rattle.queue.specs.Rooms.{roomCode, roomIn}
 use Rattle.queue.proofs.Codes.{Below, room-in, no-room-in, decoded, code-fits, encoded}
 use Rattle.catchup.specs.Nearest.{wouldStop, nearerWith, nearestAmong}
+use Rattle.catchup.proofs.StopLaws.{not-in-copy}
 
 module _ (F : Floor) (t c s x : ℕ) where
   -- ONE ROOM MORE
@@ -55,15 +58,21 @@ module _ (F : Floor) (t c s x : ℕ) where
   pub nearest-fits : (m h : ℕ) → m ≤ 32 → h ≡ roomCode (nearestAmong F t c s x m) → h ≤ 32
   nearest-fits m h l e = let z = code-fits (nearestAmong F t c s x m) m l (nearest-below m) in omega arith
 
+  pub nearest-next : (m : ℕ) → nearestAmong F t c s x (m + 1) ≡ nearerWith F t c s x m (nearestAmong F t c s x m)
+  unfolding nearestAmong
+  nearest-next m = rw (add-one, nearestAmong) refl
+
   pub nearest-again : (m h r : ℕ) → m ≤ 32 → h ≡ roomCode (nearestAmong F t c s x m) → r ≡ roomCode (nearerWith F t c s x m (roomIn h))
       → r ≡ roomCode (nearestAmong F t c s x (m + 1))
-  unfolding nearestAmong
   nearest-again m h r l e f =
-      rw (add-one, nearestAmong) (f ∙ ap (λ (o : Option ℕ). roomCode (nearerWith F t c s x m o)) (ap roomIn e ∙ nearest-decoded m l))
+      f ∙ ap (λ (o : Option ℕ). roomCode (nearerWith F t c s x m o)) (ap roomIn e ∙ nearest-decoded m l) ∙ ap roomCode (sym (nearest-next m))
 
   pub nearest-same : (m : ℕ) → wouldStop F t c s x m ≡ false → nearestAmong F t c s x (m + 1) ≡ nearestAmong F t c s x m
-  unfolding nearestAmong
-  nearest-same m n = rw (add-one, nearestAmong) (passed-by m (nearestAmong F t c s x m) n)
+  nearest-same m n = nearest-next m ∙ passed-by m (nearestAmong F t c s x m) n
 
-  pub nearest-all : (m h : ℕ) → m ≡ 32 → h ≡ roomCode (nearestAmong F t c s x m) → h ≡ roomCode (nearestAmong F t c s x 32)
-  nearest-all m h z e = e ∙ ap (λ (n : ℕ). roomCode (nearestAmong F t c s x n)) z
+  -- rooms whose copies do not name the cart are skipped
+  pub nearest-skips : (a b : ℕ) → a ≤ b → ((m : ℕ) → a ≤ m → m < b → has (F .copy m t) c ≡ false) → nearestAmong F t c s x b ≡ nearestAmong F t c s x a
+  unfolding nearestAmong
+  nearest-skips a b h absent =
+      nothing-between (nearestAmong F t c s x) a b h
+      (λ m l k. passed-by m (nearestAmong F t c s x m) (sym (not-in-copy F t c s x m (F .copy m t) false refl (sym (absent m l k)) refl)))

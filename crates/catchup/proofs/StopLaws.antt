@@ -4,11 +4,13 @@ use mathlib.Core.Bool.{Bool, true, false, not}
 use Prim.Native.Nat.{ℕ, _<_, _≤_}
 use native.Mathlib.Omega.{arith}
 use lib.Dec.{eqb, ltb, leb}
-use borrow.Author.Tests.{ltb-true, le-leb, lt-ltb, eqb-false, leb-true, not-true, ne-eqb}
+use borrow.Author.Tests.{ltb-true, le-leb, lt-leb, lt-ltb, le-ltb, eqb-false, leb-true, not-true, ne-eqb}
 use Rattle.protocol.specs.CartSets.{has}
 use Rattle.protocol.specs.Floor.{Floor}
-use Rattle.protocol.proofs.Tests.{by-test, clash, and-left, and-right, and-intro, same-test}
+use Rattle.protocol.proofs.Tests.{by-test, clash, and-left, and-right, and-intro, and-false, same-test}
+use Rattle.messages.specs.View.{Rooms}
 use Rattle.catchup.specs.Nearest.{wouldStop}
+use Rattle.catchup.specs.Arrival.{stopsBefore}
 use Rattle.catchup.proofs.ClosedForm.{would, would-intro}
 
 module _ (F : Floor) (t c s x m : ℕ) where
@@ -16,7 +18,7 @@ module _ (F : Floor) (t c s x m : ℕ) where
   refused h = by-test (wouldStop F t c s x m) (λ e. absurd (h e)) (λ e. sym e)
 
   -- the message is buffered, among the numbers that the station has handled
-  below-expected : wouldStop F t c s x m ≡ true → F .number m < F .expected t s
+  pub below-expected : wouldStop F t c s x m ≡ true → F .number m < F .expected t s
   below-expected e =
       let p = would F t c s x m e in
       let z = ltb-true (F .number m) (F .expected t (F .initiator m)) (and-right (has (F .waiting m) t) (ltb (F .number m) (F .expected t (F .initiator m))) (p .buffered)) in
@@ -67,3 +69,14 @@ module _ (F : Floor) (t c s x m : ℕ) where
 
       handled : ltb (F .number m) (F .expected t (F .initiator m)) ≡ true
       handled = rw is-from (lt-ltb (F .number m) (F .expected t s) below)
+
+-- The ways through the test whether a message stops the cart from x on and before u.
+module _ (R : Rooms) (t m x u n : ℕ) (is-number : n ≡ R .number m) where
+  pub not-before : u ≤ n → false ≡ stopsBefore R t m x u
+  not-before l = rw (le-ltb (R .number m) u (omega arith))
+
+  pub not-so-far : n < x → false ≡ stopsBefore R t m x u
+  not-so-far l = rw (lt-leb x (R .number m) (omega arith), and-false (ltb (R .number m) u))
+
+  pub by-waiting : (w : ℕ) (b : Bool) → n < u → x ≤ n → w ≡ R .waiting m → b ≡ has w t → b ≡ stopsBefore R t m x u
+  by-waiting w b low far ew eb = rw (lt-ltb (R .number m) u (omega arith), le-leb x (R .number m) (omega arith)) (eb ∙ ap (λ (k : ℕ). has k t) ew)

@@ -83,7 +83,7 @@ module _ (F : Floor) (stations messages : List ℕ) (agree : Agree F (tablesFloo
       found-stops (roomIn h) (F .next c s) refl
       (ap roomIn e ∙ nearest-decoded (tablesFloor stations messages) t c s (F .next c s) 32 (omega arith))
 
-  -- THE STOP OF EACH INITIATOR, by what `nearest_of_all` answers
+  -- THE STOP OF EACH INITIATOR, by what `stops_of` answers
   pub row-stops-there : (row nearest : List ℕ) → nearest ≡ nearestRow (tablesFloor stations messages) t c row 32 → s < 16 → getD row s 0 ≡ F .next c s
       → stopBy (tablesFloor stations messages) t s (getD row s 0) (roomIn (getD nearest s 0)) ≡ catchUpStop limits F t c s
   row-stops-there row nearest e l f =

@@ -1,22 +1,32 @@
 -- CATCH-UP FOR SIXTEEN INITIATORS AT ONCE: a row has an entry for each.
 use mathlib.Core.Path.{_≡_}
-use mathlib.Core.Bool.{Bool, false, cond, _&&_, _||_}
+use mathlib.Core.Bool.{Bool, true, false, cond, _&&_, _||_}
 use mathlib.Core.List.{List}
 use mathlib.Core.Option.{Option, none, some}
-use Prim.Native.Nat.{ℕ, zero, suc, _-_, _<_, _≤_}
-use lib.Dec.{eqb}
+use Prim.Native.Nat.{ℕ, zero, suc, _+_, _-_, _<_, _≤_}
+use lib.Dec.{eqb, ltb, leb}
 use lib.ListN.{getD}
-use Rattle.protocol.specs.CartSets.{with}
+use Rattle.protocol.specs.CartSets.{has, with}
 use Rattle.protocol.specs.Folds.{sum, listOf}
 use Rattle.protocol.specs.Floor.{Floor}
-use Rattle.stations.specs.View.{Stations}
+use Rattle.stations.specs.View.{Stations, rooms}
+use Rattle.messages.specs.View.{Rooms}
 use Rattle.queue.specs.Rooms.{roomCode, roomIn}
 use Rattle.catchup.specs.Nearest.{wouldStop, nearestAmong, stopBy}
 
 -- the message in room m can stop cart c at t, if at all, only among the numbers of initiator i; with an i of 16 or more, nowhere
 pub record CanStop (F : Floor) (t c m i : ℕ) : Type 0 where
   pub there : i < 16 → i ≡ F .initiator m
+  pub named : i < 16 → has (F .copy m t) c ≡ true
   pub nowhere : 16 ≤ i → (s x : ℕ) → s < 16 → wouldStop F t c s x m ≡ false
+
+-- does the message in room m, which names the cart, stop it at t from x on and before u
+abbrev pub stopsBefore : Rooms → ℕ → ℕ → ℕ → ℕ → Bool
+stopsBefore R t m x u = (ltb (R .number m) u && leb x (R .number m)) && has (R .waiting m) t
+
+-- where the next number of initiator s stops at t if no message stops the cart
+abbrev pub levelIn : Stations → ℕ → List ℕ → ℕ → ℕ
+levelIn S t row s = getD row s 0 + (S .expected t s - getD row s 0)
 
 -- the words of the nearest messages among the first n rooms, for a cart with that row of next numbers
 abbrev pub nearestRow : Floor → ℕ → ℕ → List ℕ → ℕ → List ℕ
@@ -26,15 +36,15 @@ nearestRow F t c row n = listOf 16 (λ s. roomCode (nearestAmong F t c s (getD r
 abbrev pub stopIn : Floor → ℕ → List ℕ → List ℕ → ℕ → ℕ
 stopIn F t row nearest s = stopBy F t s (getD row s 0) (roomIn (getD nearest s 0)) .upto
 
--- no next number falls
-abbrev pub Rises : Floor → ℕ → List ℕ → List ℕ → Type 0
-Rises F t row nearest = (s : ℕ) → s < 16 → getD row s 0 ≤ stopIn F t row nearest s
+-- no next number falls, and "last number 65,534": none rises by more than can be sent
+abbrev pub Rises : List ℕ → List ℕ → Type 0
+Rises row upto = (s : ℕ) → s < 16 → (getD row s 0 ≤ getD upto s 0) × (getD upto s 0 - getD row s 0 ≤ 65535)
 
--- "last number 65,534": no next number rises by more than can be sent
-abbrev pub Small : Floor → ℕ → List ℕ → List ℕ → Type 0
-Small F t row nearest = (s : ℕ) → s < 16 → stopIn F t row nearest s - getD row s 0 ≤ 65535
+-- how far the next numbers of the first n initiators rise, from one row to the other
+abbrev pub rise : List ℕ → List ℕ → ℕ → ℕ
+rise row upto n = sum n (λ s. getD upto s 0 - getD row s 0)
 
--- how far the next numbers of the first n initiators rise
+-- by the words of the nearest messages
 abbrev pub risen : Floor → ℕ → List ℕ → List ℕ → ℕ → ℕ
 risen F t row nearest n = sum n (λ s. stopIn F t row nearest s - getD row s 0)
 
@@ -47,6 +57,12 @@ isFound (some k) m = eqb m k
 unfoldable pub occurs : List ℕ → ℕ → ℕ → Bool
 occurs nearest zero m = false
 occurs nearest (suc n) m = occurs nearest n m || isFound (roomIn (getD nearest n 0)) m
+
+-- each room that one of the words says is in the set, and its initiator's own word says it
+pub record OwnRooms (R : Rooms) (set : ℕ) (nearest : List ℕ) : Type 0 where
+  pub inside : (m : ℕ) → has set m ≡ true → m < rooms
+  pub among : (m : ℕ) → occurs nearest 16 m ≡ true → has set m ≡ true
+  pub own : (m : ℕ) → occurs nearest 16 m ≡ true → (R .initiator m < 16) × (getD nearest (R .initiator m) 0 ≡ m)
 
 -- cart c is queued at station t for the message in each room that passes
 abbrev pub queuedFor : Stations → ℕ → ℕ → (ℕ → Bool) → Stations

@@ -4,14 +4,16 @@
 use ids::CartNumber;
 use ids::Station;
 ghost use mathlib.Core.Path.{_≡_};
-ghost use Prim.Native.Nat.{_<_, _≤_};
+ghost use mathlib.Core.Option.{some};
+ghost use Prim.Native.Nat.{_+_, _-_, _<_, _≤_};
 ghost use lib.ListN.{length};
 ghost use Rattle.protocol.specs.Folds.{listOf};
 ghost use Rattle.stations.specs.View.{initiators, rooms, HasStation, stationsIn, headIn};
+ghost use Rattle.messages.specs.View.{roomsIn};
 ghost use Rattle.queue.specs.Rooms.{tablesFloor, HasRooms, roomCode, roomIn};
 ghost use Rattle.catchup.specs.Naming.{Covers};
 ghost use Rattle.catchup.specs.Nearest.{wouldStop, nearerWith, nearestAmong, stopBy};
-ghost use Rattle.catchup.specs.Arrival.{CanStop, nearestRow, stopIn, Rises, Small, risen, isFound, occurs, queuedFor};
+ghost use Rattle.catchup.specs.Arrival.{CanStop, stopsBefore, levelIn, nearestRow, stopIn, Rises, rise, isFound, occurs, OwnRooms, queuedFor};
 
 // "Stations 1 to 16": as many initiators.
 const INITIATORS: usize = 16;
@@ -125,41 +127,96 @@ fn initiator_for(
     INITIATORS as u64
 }
 
-// The nearest message of each initiator, in one pass over the rooms that may name the cart, for a cart with that row of next numbers. A message has
-// one initiator, so only that entry can change, and it is not touched where the message cannot stop the cart.
-pub fn nearest_of_all(
+// The later of two numbers.
+fn later(a: u64, b: u64) -> u64
+    ensures { λ r. ⌜ r ≡ a + (b - a) ⌝ }
+{
+    if a < b { b } else { a }
+}
+
+// Where each next number stops if no message stops the cart: at the expected number, or where it is if it is past that already.
+fn levels(stations: &[u64], station: Station, row: [u64; 16]) -> [u64; 16]
+    requires { ⌜ HasStation (now stations) (station .0) ⌝ }
+    ensures { λ r. ⌜ r ≡ listOf 16 (levelIn (stationsIn (now (stations .entry))) (station .0) row) ⌝ }
+{
+    let mut upto = row;
+    let mut s: usize = 0;
+    while s < INITIATORS {
+        upto[s] = later(
+            row[s],
+            stations::expected_of(stations, station, Station(s as u64)),
+        );
+        s += 1;
+    }
+    upto
+}
+
+// Does the message in room m, which names the cart, stop it from the next number on and before upto?
+fn stops_before(messages: &[u64], station: Station, m: usize, next: u64, upto: u64) -> bool
+    requires { ⌜ HasRooms (now messages) × (station .0 < 16) × (m < rooms) ⌝ }
+    ensures { λ r. ⌜ r ≡ stopsBefore (roomsIn (now (messages .entry))) (station .0) m next upto ⌝ }
+{
+    let number = messages::number_of(messages, m).0;
+    if upto <= number {
+        return false;
+    }
+    if number < next {
+        return false;
+    }
+    cartset::has(messages::waiting_of(messages, m), station.0)
+}
+
+// Where each next number stops, and the nearest message of each initiator.
+pub struct Stopped {
+    pub upto: [u64; 16],
+    pub nearest: [usize; 16],
+}
+
+// Both are found in one pass over the rooms that may name the cart, for a cart with that row of next numbers. A message has one initiator, so only
+// its entries can change, and they are not touched unless it stops the cart sooner. Of two with the same number the one in the earlier room
+// stays, as the protocol's loop finds it.
+pub fn stops_of(
     stations: &[u64],
     messages: &[u64],
     station: Station,
     cart: CartNumber,
     naming: u64,
     row: [u64; 16],
-) -> [usize; 16]
+) -> Stopped
     requires { ⌜ Covers (stationsIn (now stations)) (station .0) (cart .0) naming ⌝ }
     requires { ⌜ HasStation (now stations) (station .0) × HasRooms (now messages) × (station .0 < 16) × (cart .0 < 64) ⌝ }
-    ensures { λ r. ⌜ r ≡ nearestRow (tablesFloor (now (stations .entry)) (now (messages .entry))) (station .0) (cart .0) row 32 ⌝ }
+    ensures { λ r. ⌜ r .nearest ≡ nearestRow (tablesFloor (now (stations .entry)) (now (messages .entry))) (station .0) (cart .0) row 32 ⌝ }
+    ensures { λ r. ⌜ r .upto ≡ listOf 16 (stopIn (tablesFloor (now (stations .entry)) (now (messages .entry))) (station .0) row (r .nearest)) ⌝ }
 {
+    let mut upto = levels(stations, station, row);
     let mut nearest = [queue::NONE; 16];
     let mut left = naming;
     while 0 < left {
         let m = cartset::first(left) as usize;
         left = cartset::without_first(left);
-        let initiator = initiator_for(stations, messages, station, cart, m);
-        let s = initiator as usize;
+        let s = initiator_for(stations, messages, station, cart, m) as usize;
         if s < INITIATORS {
-            nearest[s] = nearer(
-                stations,
-                messages,
-                station,
-                cart,
-                Station(initiator),
-                row[s],
-                m,
-                nearest[s],
-            );
+            if stops_before(messages, station, m, row[s], upto[s]) {
+                upto[s] = messages::number_of(messages, m).0;
+                nearest[s] = m;
+            }
         }
     }
-    nearest
+    Stopped { upto, nearest }
+}
+
+// "the numbers passed over in this step": how far a row of next numbers rises.
+pub fn passed_over(row: [u64; 16], upto: [u64; 16]) -> u64
+    requires { ⌜ Rises row upto ⌝ }
+    ensures { λ r. ⌜ r ≡ rise row upto 16 ⌝ }
+{
+    let mut passed: u64 = 0;
+    let mut s: usize = 0;
+    while s < INITIATORS {
+        passed += upto[s] - row[s];
+        s += 1;
+    }
+    passed
 }
 
 // Where the next number stops: at the nearest message, or else at the expected number, if it is not past that already.
@@ -177,47 +234,18 @@ pub fn stop_of(
     if nearest < queue::NONE {
         return messages::number_of(messages, nearest).0;
     }
-    let expected = stations::expected_of(stations, station, initiator);
-    if next < expected { expected } else { next }
+    later(next, stations::expected_of(stations, station, initiator))
 }
 
-// A row of next numbers after catch-up, and "the numbers passed over in this step".
-pub struct Caught {
-    pub row: [u64; 16],
-    pub passed: u64,
-}
-
-// The row of next numbers, each raised to where it stops.
-pub fn raised(
-    stations: &[u64],
-    messages: &[u64],
-    station: Station,
-    row: [u64; 16],
-    nearest: [usize; 16],
-) -> Caught
-    requires { ⌜ HasStation (now stations) (station .0) × HasRooms (now messages) ⌝ }
-    requires { ⌜ Rises (tablesFloor (now stations) (now messages)) (station .0) row nearest ⌝ }
-    requires { ⌜ Small (tablesFloor (now stations) (now messages)) (station .0) row nearest ⌝ }
-    ensures { λ r. ⌜ r .row ≡ listOf 16 (stopIn (tablesFloor (now (stations .entry)) (now (messages .entry))) (station .0) row nearest) ⌝ }
-    ensures { λ r. ⌜ r .passed ≡ risen (tablesFloor (now (stations .entry)) (now (messages .entry))) (station .0) row nearest 16 ⌝ }
+// The cart is queued for the message in room m.
+fn enqueue_for(stations: &mut [u64], station: Station, cart: CartNumber, m: usize)
+    requires { ⌜ HasStation (now stations) (station .0) × (cart .0 < 64) × (m < rooms) ⌝ }
+    ensures { λ _. ⌜ stationsIn (now (stations .exit)) ≡ queuedFor (stationsIn (now (stations .entry))) (station .0) (cart .0) (isFound (some m)) ⌝ }
+    ensures { λ _. ⌜ headIn (now (stations .exit)) ≡ headIn (now (stations .entry)) ⌝ }
+    ensures { λ _. ⌜ length (now (stations .exit)) ≡ length (now (stations .entry)) ⌝ }
 {
-    let mut upto = row;
-    let mut passed: u64 = 0;
-    let mut s: usize = 0;
-    while s < INITIATORS {
-        let stop = stop_of(
-            stations,
-            messages,
-            station,
-            Station(s as u64),
-            row[s],
-            nearest[s],
-        );
-        passed += stop - row[s];
-        upto[s] = stop;
-        s += 1;
-    }
-    Caught { row: upto, passed }
+    let carts = cartset::with_cart(stations::queue_of(stations, m, station), cart.0);
+    stations::put_queue(stations, m, station, carts);
 }
 
 // "queue the cart for it": for the nearest message, if there is one.
@@ -227,23 +255,35 @@ pub fn enqueue(stations: &mut [u64], station: Station, cart: CartNumber, nearest
     ensures { λ _. ⌜ headIn (now (stations .exit)) ≡ headIn (now (stations .entry)) ⌝ }
     ensures { λ _. ⌜ length (now (stations .exit)) ≡ length (now (stations .entry)) ⌝ }
 {
-    if queue::NONE <= nearest {
-        return;
+    if nearest < queue::NONE {
+        enqueue_for(stations, station, cart, nearest);
     }
-    let carts = cartset::with_cart(stations::queue_of(stations, nearest, station), cart.0);
-    stations::put_queue(stations, nearest, station, carts);
 }
 
-// The cart is queued for each nearest message. A room that two entries name is no matter: a cart is queued for a message once.
-pub fn enqueue_all(stations: &mut [u64], station: Station, cart: CartNumber, nearest: [usize; 16])
-    requires { ⌜ HasStation (now stations) (station .0) × (cart .0 < 64) ⌝ }
+// The cart is queued for each nearest message. Each is in a room that may name the cart, and is its own initiator's.
+pub fn enqueue_all(
+    stations: &mut [u64],
+    messages: &[u64],
+    station: Station,
+    cart: CartNumber,
+    naming: u64,
+    nearest: [usize; 16],
+)
+    requires { ⌜ OwnRooms (roomsIn (now messages)) naming nearest ⌝ }
+    requires { ⌜ HasStation (now stations) (station .0) × HasRooms (now messages) × (cart .0 < 64) ⌝ }
     ensures { λ _. ⌜ stationsIn (now (stations .exit)) ≡ queuedFor (stationsIn (now (stations .entry))) (station .0) (cart .0) (occurs nearest 16) ⌝ }
     ensures { λ _. ⌜ headIn (now (stations .exit)) ≡ headIn (now (stations .entry)) ⌝ }
     ensures { λ _. ⌜ length (now (stations .exit)) ≡ length (now (stations .entry)) ⌝ }
 {
-    let mut i: usize = 0;
-    while i < INITIATORS {
-        enqueue(stations, station, cart, nearest[i]);
-        i += 1;
+    let mut left = naming;
+    while 0 < left {
+        let m = cartset::first(left) as usize;
+        left = cartset::without_first(left);
+        let s = messages::initiator_of(messages, m).0 as usize;
+        if s < INITIATORS {
+            if nearest[s] == m {
+                enqueue_for(stations, station, cart, m);
+            }
+        }
     }
 }

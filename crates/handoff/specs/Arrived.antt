@@ -2,11 +2,11 @@
 use mathlib.Core.Path.{_≡_}
 use mathlib.Core.Bool.{true}
 use mathlib.Core.List.{List}
-use Prim.Native.Nat.{ℕ, _-_, _<_, _≤_}
-use lib.ListN.{length, getD}
+use Prim.Native.Nat.{ℕ}
+use lib.ListN.{length}
 use Rattle.protocol.specs.Folds.{listOf, update}
 use Rattle.protocol.specs.CartSets.{with}
-use Rattle.protocol.specs.Floor.{Floor, at}
+use Rattle.protocol.specs.Floor.{at}
 use Rattle.stations.specs.View.{Stations, stationsIn, headIn, withLocal}
 use Rattle.carts.specs.View.{cartsIn, canonicalIn, withPlace, withRow}
 use Rattle.messages.specs.View.{roomsIn}

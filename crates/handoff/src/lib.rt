@@ -1,5 +1,4 @@
 // THE HAND-OFF MODULE over the lent parts: move, deregister, register, enter.
-use catchup::Caught;
 use ids::CartNumber;
 use ids::Station;
 ghost use mathlib.Core.Path.{_≡_};
@@ -17,6 +16,7 @@ ghost use Rattle.lines.specs.Lines.{used};
 ghost use Rattle.lines.specs.Words.{capacity};
 ghost use Rattle.queue.specs.Rooms.{HasRooms};
 ghost use Rattle.catchup.specs.Naming.{Covers};
+ghost use Rattle.catchup.specs.Arrival.{OwnRooms};
 ghost use Rattle.handoff.specs.Moved.{Moved};
 ghost use Rattle.handoff.specs.Left.{unqueued, left, Left};
 ghost use Rattle.handoff.specs.Struck.{isBelow, struckIn, PassesBy, struckFrom};
@@ -24,6 +24,12 @@ ghost use Rattle.handoff.specs.Arrived.{allZero, joined, Docked, Arrived
 
 // "Stations 1 to 16": as many initiators.
 const INITIATORS: usize = 16;
+
+// A row of next numbers after catch-up, and "the numbers passed over in this step".
+struct Caught {
+    row: [u64; 16],
+    passed: u64,
+}
 
 // "Move (cart, to): a deregister goes from to to the old station; the cart is leaving."
 pub fn on_move(carts: &mut [u64], lines: &mut [u64], number: CartNumber, old: Station, to: Station)
@@ -195,13 +201,21 @@ fn strike(
 }
 
 // The cart is queued for each nearest message, and is on the station's local list.
-fn join(stations: &mut [u64], station: Station, cart: CartNumber, nearest: [usize; 16])
-    requires { ⌜ HasStation (now stations) (station .0) × (cart .0 < 64) ⌝ }
+fn join(
+    stations: &mut [u64],
+    messages: &[u64],
+    station: Station,
+    cart: CartNumber,
+    naming: u64,
+    nearest: [usize; 16],
+)
+    requires { ⌜ OwnRooms (roomsIn (now messages)) naming nearest ⌝ }
+    requires { ⌜ HasStation (now stations) (station .0) × HasRooms (now messages) × (cart .0 < 64) ⌝ }
     ensures { λ _. ⌜ stationsIn (now (stations .exit)) ≡ joined (stationsIn (now (stations .entry))) (station .0) (cart .0) nearest ⌝ }
     ensures { λ _. ⌜ headIn (now (stations .exit)) ≡ headIn (now (stations .entry)) ⌝ }
     ensures { λ _. ⌜ length (now (stations .exit)) ≡ length (now (stations .entry)) ⌝ }
 {
-    catchup::enqueue_all(stations, station, cart, nearest);
+    catchup::enqueue_all(stations, messages, station, cart, naming, nearest);
     let local = cartset::with_cart(stations::local_of(stations, station), cart.0);
     stations::put_local(stations, station, local);
 }
@@ -220,10 +234,14 @@ fn dock(
 {
     let naming = stations::rooms_naming(stations, station, cart);
     strike(stations, messages, station, cart, naming, row);
-    let nearest = catchup::nearest_of_all(stations, messages, station, cart, naming, row);
-    let caught = catchup::raised(stations, messages, station, row, nearest);
-    join(stations, station, cart, nearest);
-    caught
+    let stopped = catchup::stops_of(stations, messages, station, cart, naming, row);
+    let nearest = stopped.nearest;
+    let upto = stopped.upto;
+    join(stations, messages, station, cart, naming, nearest);
+    Caught {
+        row: upto,
+        passed: catchup::passed_over(row, upto),
+    }
 }
 
 // "the cart is struck. Then catch-up for every initiator in rising order, and the cart is at this station": with that row of next numbers.

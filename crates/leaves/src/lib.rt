@@ -93,16 +93,9 @@ pub extern "C" fn mekhturia_catch_up(
 {
     let row = carts::row_of(carts, CartNumber(c));
     let naming = stations::rooms_naming(stations, Station(t), CartNumber(c));
-    let nearest = catchup::nearest_of_all(
-        stations,
-        messages,
-        Station(t),
-        CartNumber(c),
-        naming,
-        row,
-    );
-    let caught = catchup::raised(stations, messages, Station(t), row, nearest);
-    caught.passed
+    let stopped = catchup::stops_of(stations, messages, Station(t), CartNumber(c), naming, row);
+    let upto = stopped.upto;
+    catchup::passed_over(row, upto)
 }
 
 // The form test of the lent floor.

@@ -1,7 +1,9 @@
 -- `catchup::initiator_for` meets its contract.
-use mathlib.Core.Path.{sym}
+use mathlib.Core.Path.{sym, ap, _∙_}
+use Prim.Native.Nat.{ℕ}
 use native.Mathlib.Omega.{arith}
 use borrow.Author.Needs.{needs}
+use Rattle.protocol.specs.CartSets.{has}
 use Rattle.queue.specs.Rooms.{tablesFloor}
 use Rattle.catchup.proofs.StopLaws.{other-initiator, not-in-copy}
 use Rattle.catchup.proofs.initiator_for.Statement.{statement}
@@ -23,6 +25,7 @@ returns c =
     let is = c .initiator-of .ensures in
     record {
       there = λ l. is;
+      named = λ l. ap (λ (k : ℕ). has k (a .cart .0)) (sym (c .before .before .before .copy-of .ensures)) ∙ sym (c .before .before .has .ensures) ∙ c .before .if1 .taken;
       nowhere = λ h s x l. other-initiator (tablesFloor (a .stations .now) (a .messages .now)) (a .station .0) (a .cart .0) s x (a .m) (λ q. omega arith);
     }
 
@@ -32,6 +35,7 @@ returns-2 c =
     let a = c .before .before .before .before .before .args in
     record {
       there = λ l. absurd (omega arith);
+      named = λ l. absurd (omega arith);
       nowhere = λ h s x l. sym (not-in-copy (tablesFloor (a .stations .now) (a .messages .now)) (a .station .0) (a .cart .0) s x (a .m)
           (c .before .before .copy-of .result) (c .before .has .result) (c .before .before .copy-of .ensures) (c .before .has .ensures) (c .if1 .left));
     }

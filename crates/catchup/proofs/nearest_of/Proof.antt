@@ -8,8 +8,7 @@ use Rattle.stations.specs.View.{stationsIn, namingIn}
 use Rattle.queue.specs.Rooms.{tablesFloor, roomCode}
 use Rattle.catchup.specs.Nearest.{nearestAmong}
 use Rattle.catchup.proofs.NamingLaws.{naming-word, naming-covers}
-use Rattle.catchup.proofs.RoomLaws.{nearest-none, nearest-fits, nearest-again}
-use Rattle.catchup.proofs.Skips.{nearest-skips}
+use Rattle.catchup.proofs.RoomLaws.{nearest-none, nearest-fits, nearest-again, nearest-skips}
 use Rattle.catchup.proofs.nearest_of.Statement.{statement}
 use Rattle.catchup.proofs.nearest_of.Tie as tie
 
@@ -72,7 +71,7 @@ loop-again c =
     let m = f .result in
     let turn = ahead-turn 32 (namingIn (stationsIn S) t (a .cart .0)) (l .left) (l .inv .0) m (l .inv .1) (omega arith) (f .ensures) (w .result) (w .ensures m (f .ensures)) in
     let inside = turn .inside in
-    let skipped = nearest-skips F t (a .cart .0) (l .inv .0) m (turn .next) (λ r h n. naming-covers S t (a .cart .0) _ refl .others r (turn .skips r h n)) (a .initiator .0) (a .next) in (
+    let skipped = nearest-skips F t (a .cart .0) (a .initiator .0) (a .next) (l .inv .0) m (turn .next) (λ r h n. naming-covers S t (a .cart .0) _ refl .others r (turn .skips r h n)) in (
       m + 1,
       turn .ahead,
       nearest-again F t (a .cart .0) (a .initiator .0) (a .next) m (l .nearest) (c .nearer .result) (omega arith) (l .inv .2 ∙ ap roomCode (sym skipped)) (c .nearer .ensures),
@@ -88,7 +87,7 @@ returns c =
     let k = l .inv .0 in
     let none : l .left ≡ 0 = omega arith in
     let A : Ahead 32 (namingIn (stationsIn S) t (a .cart .0)) 0 k = rw none at (l .inv .1) in
-    let skipped = nearest-skips F t (a .cart .0) k 32 (A .within) (λ r h n. naming-covers S t (a .cart .0) _ refl .others r (ahead-end 32 (namingIn (stationsIn S) t (a .cart .0)) k A r h)) (a .initiator .0) (a .next) in
+    let skipped = nearest-skips F t (a .cart .0) (a .initiator .0) (a .next) k 32 (A .within) (λ r h n. naming-covers S t (a .cart .0) _ refl .others r (ahead-end 32 (namingIn (stationsIn S) t (a .cart .0)) k A r h)) in
     l .inv .2 ∙ ap roomCode (sym skipped)
 
 pub nearest-of-spec : {M : Type 1} → statement M

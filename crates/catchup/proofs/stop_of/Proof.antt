@@ -1,7 +1,7 @@
 -- `catchup::stop_of` meets its contract.
-use Rattle.queue.specs.Rooms.{tablesFloor}
-use Rattle.catchup.proofs.RowLaws.{at-message, at-expected, past-expected}
 use borrow.Author.Needs.{needs}
+use Rattle.queue.specs.Rooms.{tablesFloor}
+use Rattle.catchup.proofs.RowLaws.{at-message, at-level}
 use Rattle.catchup.proofs.stop_of.Statement.{statement}
 use Rattle.catchup.proofs.stop_of.Tie as tie
 
@@ -17,20 +17,16 @@ returns c =
 expected-of-requires : tie.Need-expected-of-requires
 expected-of-requires c κs = search needs
 
+later-requires : tie.Need-later-requires
+later-requires c κs = search needs
+
 returns-2 : tie.Need-returns-2
 returns-2 c =
     let a = c .before .before .before .before .before .args in
     let F = tablesFloor (a .stations .now) (a .messages .now) in
-    at-expected F (a .station .0) (a .initiator .0) (a .next) (a .nearest) (c .before .expected-of .result) (c .before .before .if1 .left)
-    (c .before .expected-of .ensures) (c .if2 .taken)
-
-returns-3 : tie.Need-returns-3
-returns-3 c =
-    let a = c .before .before .before .before .before .args in
-    let F = tablesFloor (a .stations .now) (a .messages .now) in
-    past-expected F (a .station .0) (a .initiator .0) (a .next) (a .nearest) (c .before .expected-of .result) (c .before .before .if1 .left)
-    (c .before .expected-of .ensures) (c .if2 .left)
+    let e = c .before .expected-of in
+    at-level F (a .station .0) (a .initiator .0) (a .next) (a .nearest) (e .result) (c .later .result) (c .before .before .if1 .left) (e .ensures) (c .later .ensures)
 
 pub stop-of-spec : {M : Type 1} → statement M
 stop-of-spec =
-    tie.close (tie.spec number-of-requires returns expected-of-requires returns-2 returns-3)
+    tie.close (tie.spec number-of-requires returns expected-of-requires later-requires returns-2)

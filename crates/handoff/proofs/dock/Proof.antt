@@ -1,15 +1,25 @@
 -- `handoff::dock` meets its contract.
-use mathlib.Core.Path.{_∙_}
+use mathlib.Core.Path.{refl, _∙_}
+use borrow.Author.Needs.{needs}
 use Rattle.stations.specs.View.{stationsIn}
 use Rattle.messages.specs.View.{roomsIn}
 use Rattle.queue.specs.Rooms.{tablesFloor}
+use Rattle.catchup.specs.Naming.{Covers}
 use Rattle.catchup.proofs.NamingLaws.{naming-covers}
-use Rattle.catchup.proofs.RowLaws.{row-rises, rises-little}
+use Rattle.catchup.proofs.RowLaws.{rises-little, rise-is}
+use Rattle.catchup.proofs.AllAtOnce.{own-rooms}
 use Rattle.handoff.proofs.RiseLaws.{few-still}
 use Rattle.handoff.proofs.RoomByRoom.{struck-covers}
-use borrow.Author.Needs.{needs}
 use Rattle.handoff.proofs.dock.Statement.{statement}
 use Rattle.handoff.proofs.dock.Tie as tie
+
+-- once the cart is struck, the rooms that named it still cover those that do
+covers : (c : tie.After-strike) → Covers (stationsIn (c .strike .last .0)) (c .before .before .before .before .before .before .args .station .0) (c .before .before .before .before .before .before .args .cart .0) (c .before .before .rooms-naming .result)
+covers c =
+    let a = c .before .before .before .before .before .before .args in
+    let n = c .before .before .rooms-naming in
+    let all = naming-covers (a .stations .now) (a .station .0) (a .cart .0) (n .result) (n .ensures) in
+    struck-covers (stationsIn (a .stations .now)) (roomsIn (a .messages .now)) (a .station .0) (a .cart .0) (a .row) (n .result) all (c .strike .ensures .0)
 
 rooms-naming-requires : tie.Need-rooms-naming-requires
 rooms-naming-requires c κs = search needs
@@ -20,46 +30,46 @@ strike-requires c κs =
     let n = c .before .rooms-naming in
     (naming-covers (a .stations .now) (a .station .0) (a .cart .0) (n .result) (n .ensures), search needs)
 
-nearest-of-all-requires : tie.Need-nearest-of-all-requires
-nearest-of-all-requires c κs =
-    let a = c .before .before .before .before .before .before .before .before .before .args in
-    let n = c .before .before .before .before .before .rooms-naming in
-    let t = a .station .0 in
-    let covers = naming-covers (a .stations .now) t (a .cart .0) (n .result) (n .ensures) in
-    (struck-covers (stationsIn (a .stations .now)) (roomsIn (a .messages .now)) t (a .cart .0) (a .row) (n .result) covers (c .before .before .before .strike .ensures .0), search needs)
-
-raised-requires : tie.Need-raised-requires
-raised-requires c κs =
-    let a = c .before .before .before .before .before .before .before .before .before .before .before .args in
-    let t = a .station .0 in
-    let S₁ = c .before .before .before .before .before .strike .last .0 in
-    let F = tablesFloor S₁ (a .messages .now) in
-    let n = c .before .nearest-of-all in
-    let few = few-still (stationsIn (a .stations .now)) (roomsIn (a .messages .now)) t (a .cart .0) (a .row) (c .before .before .before .before .before .strike .ensures .0) (c .before .before .before .before .before .before .before .before .before .before .before .pre .1) in
-    (search needs, (row-rises F t (a .cart .0) (a .row) (n .result) (n .ensures), rises-little F t (a .row) (n .result) (a .cart .0) (n .ensures) few))
+stops-of-requires : tie.Need-stops-of-requires
+stops-of-requires c κs = (covers (c .before .before .before), search needs)
 
 join-requires : tie.Need-join-requires
-join-requires c κs = search needs
+join-requires c κs =
+    let a = c .before .before .before .before .before .before .before .before .before .before .before .before .before .args in
+    let S = c .before .before .before .before .before .before .before .strike .last .0 in
+    let s = c .before .before .before .stops-of in (
+      own-rooms (tablesFloor S (a .messages .now)) (a .station .0) (a .cart .0) (a .row) (s .result .nearest) (s .ensures .0) (roomsIn (a .messages .now)) (stationsIn S) (c .before .before .before .before .before .before .before .before .before .rooms-naming .result) refl refl (covers (c .before .before .before .before .before .before .before)),
+      search needs,
+    )
+
+passed-over-requires : tie.Need-passed-over-requires
+passed-over-requires c κs =
+    let a = c .before .before .before .before .before .before .before .before .before .before .before .before .before .before .before .before .args in
+    let k = c .before .before .before .before .before .before .before .before .before .before .strike in
+    let s = c .before .before .before .before .before .before .stops-of in
+    let few = few-still (stationsIn (a .stations .now)) (roomsIn (a .messages .now)) (a .station .0) (a .cart .0) (a .row) (k .ensures .0) (c .before .before .before .before .before .before .before .before .before .before .before .before .before .before .before .before .pre .1) in
+    rises-little (tablesFloor (k .last .0) (a .messages .now)) (a .station .0) (a .cart .0) (a .row) (s .result .nearest) (s .ensures .0) (s .result .upto) (s .ensures .1) few
 
 same-length : tie.Need-same-length
 same-length c = search needs
 
 returns : tie.Need-returns
 returns c =
-    let k = c .before .before .before .before .before .before .before .before .before .before .strike in
-    let n = c .before .before .before .before .before .before .nearest-of-all in
-    let r = c .before .before .before .before .raised in
-    let j = c .before .before .join in
+    let a = c .before .before .before .before .before .before .before .before .before .before .before .before .before .before .before .before .before .args in
+    let k = c .before .before .before .before .before .before .before .before .before .before .before .strike in
+    let s = c .before .before .before .before .before .before .before .stops-of in
+    let j = c .before .before .before .join in
+    let p = c .passed-over in
     record {
       struck = k .last .0;
       is-struck = k .ensures .0;
-      nearest = n .result;
-      is-nearest = n .ensures;
+      nearest = s .result .nearest;
+      is-nearest = s .ensures .0;
       stations = j .ensures .0;
       head = j .ensures .1 .0 ∙ k .ensures .1 .0;
       table = j .ensures .1 .1 ∙ k .ensures .1 .1;
-      caught-up = r .ensures .0;
-      count = r .ensures .1;
+      caught-up = s .ensures .1;
+      count = rise-is (tablesFloor (k .last .0) (a .messages .now)) (a .station .0) (a .cart .0) (a .row) (s .result .nearest) (s .ensures .0) (s .result .upto) (s .ensures .1) (p .result) (p .ensures);
     }
 
 pub dock-spec : {M : Type 1} → statement M
@@ -68,8 +78,8 @@ dock-spec =
     (tie.spec
     rooms-naming-requires
     strike-requires
-    nearest-of-all-requires
-    raised-requires
+    stops-of-requires
     join-requires
+    passed-over-requires
     same-length
     returns)

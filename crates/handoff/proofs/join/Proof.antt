@@ -1,8 +1,8 @@
 -- `handoff::join` meets its contract.
 use mathlib.Core.Path.{_∙_}
+use borrow.Author.Needs.{needs}
 use Rattle.stations.specs.View.{stationsIn}
 use Rattle.handoff.proofs.RiseLaws.{joins}
-use borrow.Author.Needs.{needs}
 use Rattle.handoff.proofs.join.Statement.{statement}
 use Rattle.handoff.proofs.join.Tie as tie
 
@@ -23,7 +23,7 @@ same-length c = search needs
 
 returns : tie.Need-returns
 returns c =
-    let a = c .before .before .before .before .before .before .before .before .before .before .before .before .args in
+    let a = c .before .before .before .before .before .before .before .before .before .before .before .before .before .args in
     let q = c .before .before .before .before .before .before .before .before .before .enqueue-all in
     let l = c .before .before .before .before .before .local-of in
     let k = c .before .before .before .before .with-cart in

@@ -1,0 +1,31 @@
+-- `catchup::enqueue_for` meets its contract.
+use borrow.Author.Needs.{needs}
+use Rattle.stations.specs.View.{stationsIn}
+use Rattle.catchup.proofs.QueueLaws.{one-queued}
+use Rattle.catchup.proofs.enqueue_for.Statement.{statement}
+use Rattle.catchup.proofs.enqueue_for.Tie as tie
+
+queue-of-requires : tie.Need-queue-of-requires
+queue-of-requires c κs = search needs
+
+with-cart-requires : tie.Need-with-cart-requires
+with-cart-requires c κs = search needs
+
+put-queue-requires : tie.Need-put-queue-requires
+put-queue-requires c κs = search needs
+
+same-length : tie.Need-same-length
+same-length c = search needs
+
+returns : tie.Need-returns
+returns c =
+    let a = c .before .before .before .before .before .before .before .before .args in
+    let q = c .before .before .before .before .before .queue-of in
+    let k = c .before .before .before .before .with-cart in
+    let p = c .before .before .put-queue in
+    (one-queued (stationsIn (a .stations .now)) (a .station .0) (a .cart .0) (a .m) (q .result) (k .result) (q .ensures) (k .ensures) (p .ensures .0), p .ensures .1)
+
+pub enqueue-for-spec : {M : Type 1} → statement M
+enqueue-for-spec =
+    tie.close
+    (tie.spec queue-of-requires with-cart-requires put-queue-requires same-length returns)
