@@ -1,16 +1,15 @@
 -- THE EVENT OF A FRAME, on a floor that is started and on one that is not; and that the run can go on with what it leaves.
 use mathlib.Core.Path.{_≡_, refl, sym, ap, _∙_, subst}
 use mathlib.Core.Bool.{Bool, true, false, not}
-use mathlib.Core.List.{List, [], _∷_}
-use Prim.{tt}
+use mathlib.Core.List.{List, []}
 use Prim.Native.Nat.{ℕ, _+_, _-_, _*_, _≤_}
 use native.Mathlib.Omega.{arith}
 use lib.Dec.{eqb, ltb}
 use lib.ListN.{length, take, drop, length-take}
 use lib.Seq.{take-take, drop-drop}
-use borrow.Author.Tests.{eqb-true, ne-eqb}
+use borrow.Author.Tests.{eqb-true, not-true, not-false}
 use denote.Enum.Declared.{tagOf}
-use types.Run.{OneOf, miss}
+use types.Run.{OneOf}
 use Rattle.protocol.specs.Floor.{Floor, limits}
 use Rattle.protocol.specs.Events.{start, enter, send, wire, radio, move, refused, accepted}
 use Rattle.protocol.specs.Events as events
@@ -23,13 +22,11 @@ use Rattle.protocol.proofs.Demand3.{step-size}
 use Rattle.protocol.proofs.Ready as protocol
 use Rattle.protocol.proofs.Theorems.{form-unstarted}
 use Rattle.stations.specs.View.{HasHead, headIn}
-use Rattle.view.specs.View.{Lent, lent, lengthsIn, floorIn}
-use Rattle.view.proofs.Lengths.{lengths-of, lengths-right, nothing-beyond}
-use Rattle.view.proofs.Standing.{standing}
+use Rattle.view.specs.View.{Lent, floorIn}
+use Rattle.view.proofs.Lengths.{lengths-of, nothing-beyond}
 use Rattle.frames.specs.declared.Event.{Event}
-use Rattle.frames.specs.declared.Event.the-variants.{Start, Enter, Send, Wire, Radio, Move}
-use Rattle.frames.specs.Decoded.{eventIn, sizeOf}
-use Rattle.frames.proofs.Event.{the-type as event-type}
+use Rattle.frames.specs.declared.Event.the-variants.{Send}
+use Rattle.frames.specs.Decoded.{eventIn}
 use Rattle.ids.specs.declared.Station.{Station}
 use Rattle.ids.specs.declared.MessageNumber.{MessageNumber}
 use Rattle.messages.specs.Texts.{textIn}
@@ -45,8 +42,6 @@ use Rattle.answers.proofs.Answer.{the-type as answer-type}
 use Rattle.answers.proofs.Values.{others}
 use Rattle.printing.specs.Reports.{reportOf}
 use Rattle.printing.proofs.Values.{accepted-is}
-use Rattle.controller.proofs.Broken.{broken-enter, broken-send, broken-wire, broken-radio, broken-move}
-use Rattle.controller.proofs.Starts.{start-begun}
 use Rattle.protocol.specs.Printed.{lineOf}
 use Rattle.report.specs.declared.Report.{Report}
 use Rattle.report.specs.Lines.{Wrote, reportIn, longestLine, longestRefusal}
@@ -64,14 +59,6 @@ text-part l at n f e p q =
 pub short-part : (l : List ℕ) (at n : ℕ) → 16 + n ≤ 48 → length (take (at + 16 + n - (at + 16)) (drop (at + 16) l)) ≤ 32
 short-part l at n h = omega (arith, length-take (at + 16 + n - (at + 16)) (drop (at + 16) l))
 
--- a frame's text is no longer than its length says
-pub short-text : (l : List ℕ) (n : ℕ) → 16 + n ≤ 48 → length (take n (drop 16 l)) ≤ 32
-short-text l n h = omega (arith, length-take n (drop 16 l))
-
--- the same event
-pub for-event : (L L′ : Lent) (e ev : events.Event) (b : events.Answer) → e ≡ ev → Met L L′ e b → Met L L′ ev b
-for-event L L′ e ev b q met = subst (λ (x : events.Event). Met L L′ x b) q met
-
 -- WHAT WAS TOLD, field by field
 abbrev pub told : Bool → ℕ → Report → ℕ → ℕ → Told
 told n refusal said room size = record { «is_refused» = n; refusal = refusal; report = said; room = room; size = size }
@@ -81,19 +68,24 @@ abbrev pub Tells : Told → (List ℕ → events.Answer) → Type 0
 Tells r b = Within r × ((T : List ℕ) → toldIn T r ≡ b T)
 
 -- an answer as it is told
-told-as : (L L′ : Lent) (ev e : events.Event) (b : List ℕ → events.Answer) (r : Told) (T : List ℕ) → ev ≡ e → Tells r b
-    → Met L L′ e (b T) → Within r × Met L L′ ev (toldIn T r)
-told-as L L′ ev e b r T q told met = (told .0, subst (λ (x : events.Answer). Met L L′ ev x) (sym (told .1 T)) (subst (λ (x : events.Event). Met L L′ x (b T)) (sym q) met))
+told-as : (L L′ : Lent) (e : events.Event) (b : List ℕ → events.Answer) (r : Told) (T : List ℕ) → Tells r b
+    → Met L L′ e (b T) → Within r × Met L L′ e (toldIn T r)
+told-as L L′ e b r T told met = (told .0, subst (λ (x : events.Answer). Met L L′ e x) (sym (told .1 T)) met)
 
 -- one without a text
-pub told-plainly : (L L′ : Lent) (ev e : events.Event) (b : events.Answer) (r : Told) (T : List ℕ) → ev ≡ e → Tells r (λ _. b)
-    → Met L L′ e b → Within r × Met L L′ ev (toldIn T r)
-told-plainly L L′ ev e b r T q told met = told-as L L′ ev e (λ _. b) r T q told met
+pub told-plainly : (L L′ : Lent) (e : events.Event) (b : events.Answer) (r : Told) (T : List ℕ) → Tells r (λ _. b)
+    → Met L L′ e b → Within r × Met L L′ e (toldIn T r)
+told-plainly L L′ e b r T told met = told-as L L′ e (λ _. b) r T told met
 
 -- and a radio step's
-pub told-text : (L L′ : Lent) (ev e : events.Event) (h : Handing) (r : Told) (T : List ℕ) → ev ≡ e → Tells r (λ T. handingIn T h)
-    → Met L L′ e (handingIn T h) → Within r × Met L L′ ev (toldIn T r)
-told-text L L′ ev e h r T q told met = told-as L L′ ev e (λ T. handingIn T h) r T q told met
+pub told-text : (L L′ : Lent) (e : events.Event) (h : Handing) (r : Told) (T : List ℕ) → Tells r (λ T. handingIn T h)
+    → Met L L′ e (handingIn T h) → Within r × Met L L′ e (toldIn T r)
+told-text L L′ e h r T told met = told-as L L′ e (λ T. handingIn T h) r T told met
+
+-- the same event
+pub for-event : (L L′ : Lent) (ev e : events.Event) (r : Told) (T : List ℕ) → ev ≡ e → Within r × Met L L′ e (toldIn T r)
+    → Within r × Met L L′ ev (toldIn T r)
+for-event L L′ ev e r T q told = (told .0, subst (λ (x : events.Event). Met L L′ x (toldIn T r)) (sym q) (told .1))
 
 -- the event of a send, with its text from the input
 pub send-is : (l : List ℕ) (at n : ℕ) (e : Event) (s : Station) (set : ℕ) → e ≡ Send s set n
@@ -136,46 +128,15 @@ module _ (T : List ℕ) (r : Told) (index : ℕ) (out out′ : List ℕ) (at nex
       let text = take-take (r .size) (r .room * 32 + 32 - r .room * 32) (drop (r .room * 32) T) (omega arith) in
       rw q (subst (λ (a : List ℕ). Line (accepted (reportIn (r .report) a))) text w)
 
--- "not started"
-pub before-any : (L : Lent) → floorIn L .started ≡ false → (l : List ℕ) (e : Event) → sizeOf e ≤ 48 → OneOf (1 ∷ 2 ∷ 3 ∷ 4 ∷ 5 ∷ []) (tagOf event-type e) → Met L L (eventIn l e) (refused 5)
-before-any L fresh l e h k = by e h k
-  where
-    fails : false ≡ passesForm limits (floorIn L)
-    fails = sym (form-unstarted limits (floorIn L) fresh)
+-- THE MARK says whether the floor is started, in the way of the code that asked: it passes the form rule if it is, and breaks it if not
+module _ (L : Lent) (marked : Bool) (mark-is : marked ≡ eqb (headIn (L .stations) .mark) 1) where
+  pub started-passes : Ready L → not marked ≡ false → passesForm limits (floorIn L) ≡ true
+  started-passes R h = R .passes (sym mark-is ∙ not-false marked h)
 
-    by : (e : Event) → sizeOf e ≤ 48 → OneOf (1 ∷ 2 ∷ 3 ∷ 4 ∷ 5 ∷ []) (tagOf event-type e) → Met L L (eventIn l e) (refused 5)
-    by (Start n k) h x = absurd (miss (1 ∷ 2 ∷ 3 ∷ 4 ∷ 5 ∷ []) 0 tt x)
-    by (Enter t c) h x = broken-enter L false fails refl (t .0) (c .0)
-    by (Send s set n) h x = broken-send L false fails refl (s .0) set (take n (drop 16 l)) (short-text l n h)
-    by (Wire i j) h x = broken-wire L false fails refl (i .0) (j .0)
-    by (Radio t c) h x = broken-radio L false fails refl (t .0) (c .0) 32
-    by (Move c to) h x = broken-move L false fails refl (c .0) (to .0)
+  pub unstarted-breaks : not marked ≡ true → false ≡ passesForm limits (floorIn L)
+  unstarted-breaks h = sym (form-unstarted limits (floorIn L) (sym mark-is ∙ not-true marked h))
 
--- "a floor is already started"
-pub second-start : (S C M W T : List ℕ) → passesForm limits (floorIn (lent S C M W T)) ≡ true → (l : List ℕ) (e : Event) → OneOf (0 ∷ []) (tagOf event-type e)
-    → Met (lent S C M W T) (lent S C M W T) (eventIn l e) (refused 6)
-second-start S C M W T p l e k = by e k
-  where
-    L : Lent
-    L = lent S C M W T
-
-    begun : (n k : ℕ) → Met (lent S C M W T) (lent S C M W T) (start n k) (refused 6)
-    begun n k =
-        start-begun S C M W T n k true (sym (lengths-right L (standing L p .lengths))) refl
-        (eqb-true (headIn S .mark) 1 (by-test (eqb (headIn S .mark) 1) (λ e. e) (λ e. absurd (let z : _≡_ {A = Bool} true false = sym p ∙ form-unstarted limits (floorIn L) e in let y : _≡_ {A = ℕ} 0 1 = cc in omega arith))))
-
-    by : (e : Event) → OneOf (0 ∷ []) (tagOf event-type e) → Met (lent S C M W T) (lent S C M W T) (eventIn l e) (refused 6)
-    by (Start n k) x = begun n k
-    by (Enter t c) x = absurd (miss (0 ∷ []) 1 tt x)
-    by (Send s set n) x = absurd (miss (0 ∷ []) 2 tt x)
-    by (Wire i j) x = absurd (miss (0 ∷ []) 3 tt x)
-    by (Radio t c) x = absurd (miss (0 ∷ []) 4 tt x)
-    by (Move c to) x = absurd (miss (0 ∷ []) 5 tt x)
-
--- the mark says whether the floor is started
-pub not-marked : (L : Lent) → (headIn (L .stations) .mark ≡ 1 → ⊥) → floorIn L .started ≡ false
-not-marked L n = ne-eqb (headIn (L .stations) .mark) 1 n
-
+-- and its word is there
 pub has-head : (L : Lent) → Ready L → HasHead (L .stations)
 has-head L R = let a = lengths-of L (R .lengths) .stations in omega arith
 

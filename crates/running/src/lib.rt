@@ -9,16 +9,14 @@ use receiving::Handing;
 use report::Report;
 ghost use mathlib.Core.Path.{_≡_};
 ghost use mathlib.Core.Bool.{true, false, not, _&&_};
-ghost use mathlib.Core.List.{List, [], _++_};
+ghost use mathlib.Core.List.{List, []};
 ghost use Prim.Native.Nat.{ℕ, _+_, _*_, _<_, _≤_};
 ghost use lib.Dec.{eqb, leb};
-ghost use lib.ListN.{length, take, drop};
-ghost use Rattle.protocol.specs.Floor.{limits};
-ghost use Rattle.protocol.specs.Events.{refused};
-ghost use Rattle.protocol.specs.Form.{passesForm};
+ghost use lib.ListN.{length, drop};
+ghost use Rattle.protocol.specs.Events.{enter, send, wire, radio, move, refused};
 ghost use Rattle.protocol.specs.Printed.{lineOf};
-ghost use Rattle.protocol.specs.Frames.{readAt};
-ghost use Rattle.view.specs.View.{lent, floorIn};
+ghost use Rattle.stations.specs.View.{HasHead, headIn};
+ghost use Rattle.view.specs.View.{lent};
 ghost use Rattle.answers.specs.Answers.{answerIn};
 ghost use Rattle.answers.specs.Met.{Met};
 ghost use Rattle.receiving.specs.Handing.{handingIn, Fits};
@@ -86,96 +84,118 @@ fn with_text(handing: Handing) -> Told
     }
 }
 
-// An event on a floor that is not started: a start, or refusal 5, "not started".
-fn before_start(
+// "not started".
+const NOT_STARTED: u64 = 5;
+
+// Is the floor started?
+fn is_started(stations: &[u64]) -> bool
+    requires { ⌜ HasHead (now stations) ⌝ }
+    ensures { λ r. ⌜ r ≡ eqb (headIn (now (stations .entry)) .mark) 1 ⌝ }
+{
+    stations::mark_of(stations) == STARTED
+}
+
+// THE EVENTS BUT A START, on a floor that a run can go on with: if it is started it passes the form rule, and if not they are refused. Each asks
+// that for itself and not all at once before them, so that no test stands between the kind of a frame and the code of its event.
+
+// "Enter (station, cart)".
+fn enter(
     stations: &mut [u64],
     carts: &mut [u64],
     messages: &mut [u64],
     lines: &mut [u64],
     texts: &[u8],
-    e: Event,
-) -> Answer
-    requires { ⌜ (floorIn (lent (now stations) (now carts) (now messages) (now lines) (now texts)) .started ≡ false) × (sizeOf e ≤ 48) ⌝ }
-    ensures { λ a. ⌜ ((l : List ℕ) → Met (lent (now (stations .entry)) (now (carts .entry)) (now (messages .entry)) (now (lines .entry)) (now (texts .entry))) (lent (now (stations .exit)) (now (carts .exit)) (now (messages .exit)) (now (lines .exit)) (now (texts .entry))) (eventIn l e) (answerIn a [])) ⌝ }
+    station: Station,
+    cart: CartNumber,
+) -> Told
+    requires { ⌜ Ready (lent (now stations) (now carts) (now messages) (now lines) (now texts)) ⌝ }
+    ensures { λ r. ⌜ Within r × Met (lent (now (stations .entry)) (now (carts .entry)) (now (messages .entry)) (now (lines .entry)) (now (texts .entry))) (lent (now (stations .exit)) (now (carts .exit)) (now (messages .exit)) (now (lines .exit)) (now (texts .entry))) (enter (station .0) (cart .0)) (toldIn (now (texts .entry)) r) ⌝ }
 {
-    match e {
-        Event::Start(n, k) => controller::start(stations, carts, messages, lines, texts, n, k),
-        _ => Answer::Refused(5),
+    if !is_started(stations) {
+        return plainly(Answer::Refused(NOT_STARTED));
     }
+    plainly(rolling::enter(stations, carts, messages, lines, texts, station, cart))
 }
 
-// An event on a started floor, of the frame at a place: a send is followed by its text. A second start is refused, 6.
-fn on_floor(
+// "Send (station, set, text)".
+fn send(
     stations: &mut [u64],
     carts: &mut [u64],
     messages: &mut [u64],
     lines: &mut [u64],
     texts: &mut [u8],
-    input: &[u8],
-    at: usize,
-    e: Event,
+    station: Station,
+    set: u64,
+    text: &[u8],
 ) -> Told
-    requires { ⌜ passesForm limits (floorIn (lent (now stations) (now carts) (now messages) (now lines) (now texts))) ≡ true ⌝ }
-    requires { ⌜ (at + sizeOf e ≤ length (now input)) × (sizeOf e ≤ 48) ⌝ }
-    ensures { λ r. ⌜ Within r × Met (lent (now (stations .entry)) (now (carts .entry)) (now (messages .entry)) (now (lines .entry)) (now (texts .entry))) (lent (now (stations .exit)) (now (carts .exit)) (now (messages .exit)) (now (lines .exit)) (now (texts .exit))) (eventIn (drop at (now (input .entry))) e) (toldIn (now (texts .exit)) r) ⌝ }
+    requires { ⌜ Ready (lent (now stations) (now carts) (now messages) (now lines) (now texts)) ⌝ }
+    requires { ⌜ length (now text) ≤ 32 ⌝ }
+    ensures { λ r. ⌜ Within r × Met (lent (now (stations .entry)) (now (carts .entry)) (now (messages .entry)) (now (lines .entry)) (now (texts .entry))) (lent (now (stations .exit)) (now (carts .exit)) (now (messages .exit)) (now (lines .exit)) (now (texts .exit))) (send (station .0) set (now (text .entry))) (toldIn (now (texts .exit)) r) ⌝ }
 {
-    match e {
-        Event::Start(_, _) => plainly(Answer::Refused(6)),
-        Event::Enter(station, cart) => plainly(rolling::enter(
-            stations,
-            carts,
-            messages,
-            lines,
-            texts,
-            station,
-            cart,
-        )),
-        Event::Send(station, set, size) => {
-            let from = at + FRAME;
-            let end = from + size;
-            plainly(posting::send(
-                stations,
-                carts,
-                messages,
-                lines,
-                texts,
-                station,
-                set,
-                &input[from..end],
-            ))
-        }
-        Event::Wire(from, to) => plainly(wiring::wire(
-            stations,
-            carts,
-            messages,
-            lines,
-            texts,
-            from,
-            to,
-        )),
-        Event::Radio(station, cart) => with_text(receiving::radio(
-            stations,
-            carts,
-            messages,
-            lines,
-            texts,
-            station,
-            cart,
-            TEXT,
-        )),
-        Event::Move(cart, to) => plainly(rolling::move_cart(
-            stations,
-            carts,
-            messages,
-            lines,
-            texts,
-            cart,
-            to,
-        )),
+    if !is_started(stations) {
+        return plainly(Answer::Refused(NOT_STARTED));
     }
+    plainly(posting::send(stations, carts, messages, lines, texts, station, set, text))
 }
 
-// An event of the run, of the frame at a place.
+// "Wire (from, to)".
+fn wire(
+    stations: &mut [u64],
+    carts: &mut [u64],
+    messages: &mut [u64],
+    lines: &mut [u64],
+    texts: &[u8],
+    from: Station,
+    to: Station,
+) -> Told
+    requires { ⌜ Ready (lent (now stations) (now carts) (now messages) (now lines) (now texts)) ⌝ }
+    ensures { λ r. ⌜ Within r × Met (lent (now (stations .entry)) (now (carts .entry)) (now (messages .entry)) (now (lines .entry)) (now (texts .entry))) (lent (now (stations .exit)) (now (carts .exit)) (now (messages .exit)) (now (lines .exit)) (now (texts .entry))) (wire (from .0) (to .0)) (toldIn (now (texts .entry)) r) ⌝ }
+{
+    if !is_started(stations) {
+        return plainly(Answer::Refused(NOT_STARTED));
+    }
+    plainly(wiring::wire(stations, carts, messages, lines, texts, from, to))
+}
+
+// "Radio (station, cart)", into a buffer that has room for every text.
+fn radio(
+    stations: &mut [u64],
+    carts: &mut [u64],
+    messages: &mut [u64],
+    lines: &mut [u64],
+    texts: &[u8],
+    station: Station,
+    cart: CartNumber,
+) -> Told
+    requires { ⌜ Ready (lent (now stations) (now carts) (now messages) (now lines) (now texts)) ⌝ }
+    ensures { λ r. ⌜ Within r × Met (lent (now (stations .entry)) (now (carts .entry)) (now (messages .entry)) (now (lines .entry)) (now (texts .entry))) (lent (now (stations .exit)) (now (carts .exit)) (now (messages .exit)) (now (lines .exit)) (now (texts .entry))) (radio (station .0) (cart .0) 32) (toldIn (now (texts .entry)) r) ⌝ }
+{
+    if !is_started(stations) {
+        return plainly(Answer::Refused(NOT_STARTED));
+    }
+    with_text(receiving::radio(stations, carts, messages, lines, texts, station, cart, TEXT))
+}
+
+// "Move (cart, to)".
+fn move_cart(
+    stations: &mut [u64],
+    carts: &mut [u64],
+    messages: &mut [u64],
+    lines: &mut [u64],
+    texts: &[u8],
+    cart: CartNumber,
+    to: Station,
+) -> Told
+    requires { ⌜ Ready (lent (now stations) (now carts) (now messages) (now lines) (now texts)) ⌝ }
+    ensures { λ r. ⌜ Within r × Met (lent (now (stations .entry)) (now (carts .entry)) (now (messages .entry)) (now (lines .entry)) (now (texts .entry))) (lent (now (stations .exit)) (now (carts .exit)) (now (messages .exit)) (now (lines .exit)) (now (texts .entry))) (move (cart .0) (to .0)) (toldIn (now (texts .entry)) r) ⌝ }
+{
+    if !is_started(stations) {
+        return plainly(Answer::Refused(NOT_STARTED));
+    }
+    plainly(rolling::move_cart(stations, carts, messages, lines, texts, cart, to))
+}
+
+// An event of the run, of the frame at a place: a send is followed by its text.
 fn happen(
     stations: &mut [u64],
     carts: &mut [u64],
@@ -190,10 +210,51 @@ fn happen(
     requires { ⌜ (at + sizeOf e ≤ length (now input)) × (sizeOf e ≤ 48) ⌝ }
     ensures { λ r. ⌜ Within r × Met (lent (now (stations .entry)) (now (carts .entry)) (now (messages .entry)) (now (lines .entry)) (now (texts .entry))) (lent (now (stations .exit)) (now (carts .exit)) (now (messages .exit)) (now (lines .exit)) (now (texts .exit))) (eventIn (drop at (now (input .entry))) e) (toldIn (now (texts .exit)) r) ⌝ }
 {
-    if stations::mark_of(stations) != STARTED {
-        return plainly(before_start(stations, carts, messages, lines, texts, e));
+    match e {
+        Event::Start(n, k) => plainly(controller::start(
+            stations,
+            carts,
+            messages,
+            lines,
+            texts,
+            n,
+            k,
+        )),
+        Event::Enter(station, cart) => enter(
+            stations,
+            carts,
+            messages,
+            lines,
+            texts,
+            station,
+            cart,
+        ),
+        Event::Send(station, set, size) => {
+            let from = at + FRAME;
+            let end = from + size;
+            send(
+                stations,
+                carts,
+                messages,
+                lines,
+                texts,
+                station,
+                set,
+                &input[from..end],
+            )
+        }
+        Event::Wire(from, to) => wire(stations, carts, messages, lines, texts, from, to),
+        Event::Radio(station, cart) => radio(
+            stations,
+            carts,
+            messages,
+            lines,
+            texts,
+            station,
+            cart,
+        ),
+        Event::Move(cart, to) => move_cart(stations, carts, messages, lines, texts, cart, to),
     }
-    on_floor(stations, carts, messages, lines, texts, input, at, e)
 }
 
 // The line of what an event came to. All the room of its text is lent, so that no loop runs as often as the text is long.

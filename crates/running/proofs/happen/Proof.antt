@@ -1,22 +1,68 @@
 -- `running::happen` meets its contract.
-use mathlib.Core.Path.{refl, sym, _∙_}
+use mathlib.Core.Path.{ap}
+use native.Mathlib.Omega.{arith}
 use lib.ListN.{drop}
-use borrow.Author.Tests.{eq-eqb}
 use denote.Ref.{now}
 use Rattle.view.specs.View.{lent}
-use Rattle.running.proofs.Events.{told-plainly, has-head, not-marked}
+use Rattle.frames.specs.Decoded.{eventIn, sizeOf}
+use Rattle.running.proofs.Events.{told-plainly, for-event, send-is, short-part}
 use borrow.Author.Needs.{needs}
 use Rattle.running.proofs.happen.Statement.{statement}
 use Rattle.running.proofs.happen.Tie as tie
 
-mark-of-requires : tie.Need-mark-of-requires
-mark-of-requires c κs = let a = c .before .before .before .before .before .before .before .args in has-head (lent (now (a .stations)) (now (a .carts)) (now (a .messages)) (now (a .lines)) (now (a .texts))) (c .before .before .before .before .before .before .before .pre .0)
+enum-known-e : tie.Need-enum-known-e
+enum-known-e c = search needs
 
-before-start-requires : tie.Need-before-start-requires
-before-start-requires c κs = let a = c .before .before .before .before .before .before .before .before .before .before .before .before .before .before .args in (not-marked (lent (now (a .stations)) (now (a .carts)) (now (a .messages)) (now (a .lines)) (now (a .texts))) (λ z. c .before .before .before .before .before .if1 .taken (c .before .before .before .before .before .before .mark-of .ensures ∙ z)), c .before .before .before .before .before .before .before .before .before .before .before .before .before .before .pre .1 .1)
+start-requires : tie.Need-start-requires
+start-requires c κs = search needs
 
 plainly-requires : tie.Need-plainly-requires
 plainly-requires c κs = search needs
+
+enum-known-e-2 : tie.Need-enum-known-e-2
+enum-known-e-2 c = search needs
+
+enter-requires : tie.Need-enter-requires
+enter-requires c κs = search needs
+
+enum-known-e-3 : tie.Need-enum-known-e-3
+enum-known-e-3 c = search needs
+
+add-from : tie.Need-add-from
+add-from c = search needs
+
+add-end : tie.Need-add-end
+add-end c = let q = ap sizeOf (c .before .e3 .given .1) in let h = c .before .before .before .before .before .before .before .before .before .pre .1 in omega (arith, q, h)
+
+sub-send : tie.Need-sub-send
+sub-send c = search needs
+
+part-send-start : tie.Need-part-send-start
+part-send-start c = search needs
+
+part-send-end : tie.Need-part-send-end
+part-send-end c = let q = ap sizeOf (c .before .before .before .before .before .before .e3 .given .1) in let h = c .before .before .before .before .before .before .before .before .before .before .before .before .before .before .pre .1 in omega (arith, q, h)
+
+send-requires : tie.Need-send-requires
+send-requires c κs = let a = c .before .before .before .before .before .before .before .before .before .before .before .before .before .before .before .args in let h = c .before .before .before .before .before .before .before .before .before .before .before .before .before .before .before .pre in let q = ap sizeOf (c .before .before .before .before .before .before .before .e3 .given .1) in (h .0, short-part (now (a .input)) (a .at) (c .before .before .before .before .before .before .before .e3 .given .0 .1 .1 .0) (omega (arith, q, h .1)))
+
+enum-known-e-4 : tie.Need-enum-known-e-4
+enum-known-e-4 c = search needs
+
+wire-requires : tie.Need-wire-requires
+wire-requires c κs = search needs
+
+enum-known-e-5 : tie.Need-enum-known-e-5
+enum-known-e-5 c = search needs
+
+radio-requires : tie.Need-radio-requires
+radio-requires c κs = search needs
+
+enum-known-e-6 : tie.Need-enum-known-e-6
+enum-known-e-6 c = search needs
+
+move-cart-requires : tie.Need-move-cart-requires
+move-cart-requires c κs = search needs
 
 same-length : tie.Need-same-length
 same-length c = search needs
@@ -34,10 +80,7 @@ same-length-5 : tie.Need-same-length-5
 same-length-5 c = search needs
 
 returns : tie.Need-returns
-returns c = let a = c .before .before .before .before .before .before .before .before .before .before .before .before .before .before .before .before .before .before .before .before .before .before .before .before .args in told-plainly (lent (now (a .stations)) (now (a .carts)) (now (a .messages)) (now (a .lines)) (now (a .texts))) _ _ _ _ (c .plainly .result) _ refl (c .plainly .ensures) (c .before .before .before .before .before .before .before .before .before .before-start .ensures (drop (a .at) (now (a .input))))
-
-on-floor-requires : tie.Need-on-floor-requires
-on-floor-requires c κs = let a = c .before .before .before .before .before .before .before .before .before .before .before .before .before .before .args in (c .before .before .before .before .before .before .before .before .before .before .before .before .before .before .pre .0 .passes (eq-eqb _ 1 (sym (c .before .before .before .before .before .before .mark-of .ensures) ∙ c .before .before .before .before .before .if1 .left)), c .before .before .before .before .before .before .before .before .before .before .before .before .before .before .pre .1)
+returns c = let a = c .before .before .before .before .before .before .before .before .before .before .before .before .before .before .before .before .before .before .before .before .before .before .before .before .args in for-event (lent (now (a .stations)) (now (a .carts)) (now (a .messages)) (now (a .lines)) (now (a .texts))) _ _ _ (c .plainly .result) _ (ap (eventIn (drop (a .at) (now (a .input)))) (c .before .before .before .before .before .before .before .before .before .before .before .before .before .before .before .before .e .given .1)) (told-plainly (lent (now (a .stations)) (now (a .carts)) (now (a .messages)) (now (a .lines)) (now (a .texts))) _ _ _ (c .plainly .result) _ (c .plainly .ensures) (c .before .before .before .before .before .before .before .before .before .start .ensures))
 
 same-length-6 : tie.Need-same-length-6
 same-length-6 c = search needs
@@ -55,25 +98,135 @@ same-length-10 : tie.Need-same-length-10
 same-length-10 c = search needs
 
 returns-2 : tie.Need-returns-2
-returns-2 c = search needs
+returns-2 c = let a = c .before .before .before .before .before .before .before .before .before .before .before .before .before .before .before .before .before .before .before .before .before .before .before .args in for-event (lent (now (a .stations)) (now (a .carts)) (now (a .messages)) (now (a .lines)) (now (a .texts))) _ _ _ (c .before .before .before .before .before .before .before .before .enter .result) _ (ap (eventIn (drop (a .at) (now (a .input)))) (c .before .before .before .before .before .before .before .before .before .before .before .before .before .before .before .e2 .given .1)) (c .before .before .before .before .before .before .before .before .enter .ensures)
+
+same-length-11 : tie.Need-same-length-11
+same-length-11 c = search needs
+
+same-length-12 : tie.Need-same-length-12
+same-length-12 c = search needs
+
+same-length-13 : tie.Need-same-length-13
+same-length-13 c = search needs
+
+same-length-14 : tie.Need-same-length-14
+same-length-14 c = search needs
+
+same-length-15 : tie.Need-same-length-15
+same-length-15 c = search needs
+
+returns-3 : tie.Need-returns-3
+returns-3 c = let a = c .before .before .before .before .before .before .before .before .before .before .before .before .before .before .before .before .before .before .before .before .before .before .before .before .before .before .args in for-event (lent (now (a .stations)) (now (a .carts)) (now (a .messages)) (now (a .lines)) (now (a .texts))) _ _ _ (c .before .before .before .before .before .before .before .before .before .before .send .result) _ (send-is (now (a .input)) (a .at) _ (a .e) _ _ (c .before .before .before .before .before .before .before .before .before .before .before .before .before .before .before .before .before .before .e3 .given .1)) (c .before .before .before .before .before .before .before .before .before .before .send .ensures)
+
+same-length-16 : tie.Need-same-length-16
+same-length-16 c = search needs
+
+same-length-17 : tie.Need-same-length-17
+same-length-17 c = search needs
+
+same-length-18 : tie.Need-same-length-18
+same-length-18 c = search needs
+
+same-length-19 : tie.Need-same-length-19
+same-length-19 c = search needs
+
+same-length-20 : tie.Need-same-length-20
+same-length-20 c = search needs
+
+returns-4 : tie.Need-returns-4
+returns-4 c = let a = c .before .before .before .before .before .before .before .before .before .before .before .before .before .before .before .before .before .before .before .before .before .before .before .args in for-event (lent (now (a .stations)) (now (a .carts)) (now (a .messages)) (now (a .lines)) (now (a .texts))) _ _ _ (c .before .before .before .before .before .before .before .before .wire .result) _ (ap (eventIn (drop (a .at) (now (a .input)))) (c .before .before .before .before .before .before .before .before .before .before .before .before .before .before .before .e4 .given .1)) (c .before .before .before .before .before .before .before .before .wire .ensures)
+
+same-length-21 : tie.Need-same-length-21
+same-length-21 c = search needs
+
+same-length-22 : tie.Need-same-length-22
+same-length-22 c = search needs
+
+same-length-23 : tie.Need-same-length-23
+same-length-23 c = search needs
+
+same-length-24 : tie.Need-same-length-24
+same-length-24 c = search needs
+
+same-length-25 : tie.Need-same-length-25
+same-length-25 c = search needs
+
+returns-5 : tie.Need-returns-5
+returns-5 c = let a = c .before .before .before .before .before .before .before .before .before .before .before .before .before .before .before .before .before .before .before .before .before .before .before .args in for-event (lent (now (a .stations)) (now (a .carts)) (now (a .messages)) (now (a .lines)) (now (a .texts))) _ _ _ (c .before .before .before .before .before .before .before .before .radio .result) _ (ap (eventIn (drop (a .at) (now (a .input)))) (c .before .before .before .before .before .before .before .before .before .before .before .before .before .before .before .e5 .given .1)) (c .before .before .before .before .before .before .before .before .radio .ensures)
+
+same-length-26 : tie.Need-same-length-26
+same-length-26 c = search needs
+
+same-length-27 : tie.Need-same-length-27
+same-length-27 c = search needs
+
+same-length-28 : tie.Need-same-length-28
+same-length-28 c = search needs
+
+same-length-29 : tie.Need-same-length-29
+same-length-29 c = search needs
+
+same-length-30 : tie.Need-same-length-30
+same-length-30 c = search needs
+
+returns-6 : tie.Need-returns-6
+returns-6 c = let a = c .before .before .before .before .before .before .before .before .before .before .before .before .before .before .before .before .before .before .before .before .before .before .before .args in for-event (lent (now (a .stations)) (now (a .carts)) (now (a .messages)) (now (a .lines)) (now (a .texts))) _ _ _ (c .before .before .before .before .before .before .before .before .move-cart .result) _ (ap (eventIn (drop (a .at) (now (a .input)))) (c .before .before .before .before .before .before .before .before .before .before .before .before .before .before .before .e6 .given .1)) (c .before .before .before .before .before .before .before .before .move-cart .ensures)
 
 pub happen-spec : {M : Type 1} → statement M
 happen-spec =
     tie.close
     (tie.spec
-    mark-of-requires
-    before-start-requires
+    enum-known-e
+    start-requires
     plainly-requires
+    enum-known-e-2
+    enter-requires
+    enum-known-e-3
+    add-from
+    add-end
+    sub-send
+    part-send-start
+    part-send-end
+    send-requires
+    enum-known-e-4
+    wire-requires
+    enum-known-e-5
+    radio-requires
+    enum-known-e-6
+    move-cart-requires
     same-length
     same-length-2
     same-length-3
     same-length-4
     same-length-5
     returns
-    on-floor-requires
     same-length-6
     same-length-7
     same-length-8
     same-length-9
     same-length-10
-    returns-2)
+    returns-2
+    same-length-11
+    same-length-12
+    same-length-13
+    same-length-14
+    same-length-15
+    returns-3
+    same-length-16
+    same-length-17
+    same-length-18
+    same-length-19
+    same-length-20
+    returns-4
+    same-length-21
+    same-length-22
+    same-length-23
+    same-length-24
+    same-length-25
+    returns-5
+    same-length-26
+    same-length-27
+    same-length-28
+    same-length-29
+    same-length-30
+    returns-6)
