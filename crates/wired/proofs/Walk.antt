@@ -5,7 +5,7 @@ use mathlib.Core.Option.{some}
 use mathlib.Core.List.{List}
 use Prim.Native.Nat.{ℕ, _+_, _≤_, _<_, _^_}
 use native.Mathlib.Omega.{arith}
-use lib.Dec.{eqb}
+use lib.Dec.{eqb, ltb}
 use lib.ListN.{length}
 use borrow.Author.Tests.{eqb-true, ne-eqb}
 use Rattle.protocol.specs.CartSets.{has, minus, with, without, setOf}
@@ -13,7 +13,7 @@ use Rattle.protocol.specs.Floor.{Carts}
 use Rattle.protocol.specs.Form.{bit}
 use Rattle.protocol.proofs.Tests.{by-eq, and-left, eqb-self}
 use Rattle.protocol.proofs.Counting.{count-le, count-ext, count-off, count-none}
-use Rattle.protocol.proofs.SetLaws.{has-zero, has-minus, has-with, has-without, has-setOf, setOf-lt, with-lt, without-lt, zero-below, same-members}
+use Rattle.protocol.proofs.SetLaws.{has-zero, has-minus, has-with, has-without, has-setOf, setOf-lt, with-lt, minus-lt, without-lt, zero-below, same-members}
 use Rattle.carts.specs.View.{cartsIn, canonicalIn, withNext}
 use Rattle.cartset.specs.Masks.{least, size}
 use Rattle.cartset.proofs.MaskLaws.{least-lowest, without-less}
@@ -107,6 +107,19 @@ module _ (whole : ℕ) (f : ℕ → Bool) where
   gather-all left set z G =
       same-members 64 set (setOf 64 (λ c. has whole c && f c)) (G .small) (setOf-lt 64 (λ c. has whole c && f c))
       (λ c l. G .members c l ∙ rw (z, has-zero c) (all-then (has whole c) (f c)) ∙ sym (has-setOf 64 (λ c. has whole c && f c) c l))
+
+-- those that do not pass are gathered: the others of the set are those that pass
+but-those : (w g : Bool) → (w && not ((w && not false) && not g)) ≡ (w && g)
+but-those true true = refl
+but-those true false = refl
+but-those false g = refl
+
+pub gather-others : (whole : ℕ) (f : ℕ → Bool) (left set : ℕ) → whole < 2 ^ 64 → left ≡ 0 → Gathered whole (λ c. not (f c)) left set
+    → minus whole set ≡ setOf 64 (λ c. has whole c && f c)
+gather-others whole f left set h z G =
+    same-members 64 (minus whole set) (setOf 64 (λ c. has whole c && f c)) (minus-lt 64 whole set h) (setOf-lt 64 (λ c. has whole c && f c))
+    (λ c l. has-minus whole set c ∙ ap (λ (b : Bool). has whole c && not b) (G .members c l) ∙ rw (z, has-zero c) (but-those (has whole c) (f c))
+    ∙ sym (has-setOf 64 (λ c. has whole c && f c) c l))
 
 -- PASSED OVER: those of the carts gathered that are not named; each has a number one higher. Cart c is in `over′` besides if it passes.
 raised-none : (C : Carts) (over s n : ℕ) → ((c : ℕ) → has over c ≡ false) → C ≡ raised C over s n
@@ -218,3 +231,13 @@ module _ (C₀ : List ℕ) (named s n : ℕ) where
 pub size-few : (x : ℕ) → size 64 x ≤ 64
 unfolding size
 size-few x = count-le 64 (has x)
+
+-- WHERE THE WALK STANDS: the carts met that were due, which nothing keeps in a word, the others, and those of them that are past the message
+pub record Walked (C₀ C : List ℕ) (local named s n left others past passed : ℕ) : Type 0 where
+  pub due : ℕ
+  pub rest : Left local left
+  pub met : Gathered local (λ c. eqb (cartsIn C₀ .next c s) n) left due
+  pub unmet : Gathered local (λ c. not (eqb (cartsIn C₀ .next c s) n)) left others
+  pub beyond : Gathered local (λ c. ltb n (cartsIn C₀ .next c s)) left past
+  pub raises : Raised C₀ C (minus due named) s (n + 1)
+  pub counts : passed ≡ size 64 (minus due named)

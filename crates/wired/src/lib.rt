@@ -32,8 +32,8 @@ fn rise(named: bool) -> u64
     if named { 0 } else { 1 }
 }
 
-// "For each local cart: next number equal ..; greater ..". Nearly all are equal, so that is asked first; whether such a cart is named cannot be
-// guessed, so its number is put back risen or not, without a branch.
+// "For each local cart: next number equal ..; greater ..". Nearly all are equal, so that is asked first, and the others are gathered; whether a cart
+// that is due is named cannot be guessed, so its number is put back risen or not, without a branch.
 fn meet(carts: &mut [u64], local: u64, named: u64, initiator: Station, number: u64) -> Met
     requires { ⌜ (length (now carts) ≡ 1216) × (initiator .0 < initiators) × (number < 65536) ⌝ }
     ensures { λ r. ⌜ r .due ≡ dueAmong (cartsIn (now (carts .entry))) local (initiator .0) number ⌝ }
@@ -41,7 +41,7 @@ fn meet(carts: &mut [u64], local: u64, named: u64, initiator: Station, number: u
     ensures { λ r. ⌜ Raised (now (carts .entry)) (now (carts .exit)) (minus (r .due) named) (initiator .0) (number + 1) ⌝ }
     ensures { λ r. ⌜ r .passed ≡ size 64 (minus (r .due) named) ⌝ }
 {
-    let mut due: u64 = 0;
+    let mut others: u64 = 0;
     let mut past: u64 = 0;
     let mut passed: u64 = 0;
     let mut left = local;
@@ -51,14 +51,18 @@ fn meet(carts: &mut [u64], local: u64, named: u64, initiator: Station, number: u
         let next = carts::next_of(carts, CartNumber(cart), initiator);
         if next == number {
             let rises = rise(cartset::has(named, cart));
-            due = cartset::with_cart(due, cart);
             carts::put_next(carts, CartNumber(cart), initiator, next + rises);
             passed += rises;
         } else {
+            others = cartset::with_cart(others, cart);
             past = cartset::with_if(past, cart, number < next);
         }
     }
-    Met { due, past, passed }
+    Met {
+        due: cartset::minus(local, others),
+        past,
+        passed,
+    }
 }
 
 // The copy and the queue's entry of the message in room m; "the expected number rises by one".
