@@ -4,7 +4,7 @@ use mathlib.Core.Bool.{Bool, true, false, cond, _&&_}
 use mathlib.Core.List.{List}
 use Prim.Native.Nat.{ℕ, suc, _+_, _-_, _*_, _^_, _≤_, _<_}
 use native.Mathlib.Omega.{arith}
-use lib.Bits.{bitAnd, and-le-l}
+use lib.Bits.{bitAnd, and-le-l, and-zero-r}
 use lib.Pow.{pow-mono}
 use Rattle.protocol.specs.CartSets.{digit, has, setOf}
 use Rattle.protocol.proofs.Tests.{by-test, and-false}
@@ -73,3 +73,8 @@ module _ (l : List ℕ) (t c : ℕ) where
       counts : (b : Bool) (word : ℕ) → (has word c && b) ≡ has (cond b word 0) c
       counts true word = by-test (has word c) (λ e. rw e) (λ e. rw e)
       counts false word = and-false (has word c) ∙ sym (has-zero c)
+
+  -- where none counts
+  pub naming-none : (y : ℕ) → y ≡ stationWord l t copiesAt → y ≡ 0 → 0 ≡ namingIn (stationsIn l) t c
+  naming-none y e z =
+      sym (and-zero-r (passingFrom wordNames 0)) ∙ naming-counts 0 (passingFrom wordNames 0) 0 refl refl (sym z ∙ e)

@@ -190,19 +190,23 @@ pub fn copy_of(stations: &[u64], m: usize, station: Station) -> u64
     word_of(stations, station, COPY + ROOM * m)
 }
 
-// The rooms whose copies at the station name the cart. All are looked at, from the last one down, so that no branch asks which of them count; those
-// that do not are left out at the end.
+// The rooms whose copies at the station name the cart. Where any copy counts, all are looked at, from the last one down, so that no branch asks which
+// of them count; those that do not are left out at the end.
 pub fn rooms_naming(stations: &[u64], station: Station, cart: CartNumber) -> u64
     requires { ⌜ HasStation (now stations) (station .0) × (cart .0 < 64) ⌝ }
     ensures { λ r. ⌜ r ≡ namingIn (stationsIn (now (stations .entry))) (station .0) (cart .0) ⌝ }
 {
+    let copies = word_of(stations, station, COPIES);
+    if copies == 0 {
+        return 0;
+    }
     let mut naming: u64 = 0;
     let mut m: usize = ROOMS as usize;
     while 0 < m {
         m -= 1;
         naming = naming * 2 + (word_of(stations, station, COPY + ROOM * m) >> cart.0) % 2;
     }
-    naming & word_of(stations, station, COPIES)
+    naming & copies
 }
 
 // The station has another copy.
