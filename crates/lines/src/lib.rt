@@ -238,15 +238,17 @@ pub fn front(pool: &[u64], i: usize, j: usize) -> Record
     record_of(pool, head_of(pool, i * 16 + j))
 }
 
-// The word that has to name a row that joins line k: the head of an empty line, or the next row of its tail.
+// The word that has to name a row that joins line k: the head of an empty line, or the next row of its tail. Whether a line is empty cannot be
+// guessed, so the two parts of that word's place are each chosen by themselves, without a branch.
 fn link_at(pool: &[u64], k: usize) -> usize
     requires { ⌜ (lineAt k + 3 ≤ length (now pool)) × (0 < lengthOf (now pool) k → tailOf (now pool) k < mostRows) ⌝ }
     ensures { λ r. ⌜ Link (now (pool .entry)) k r ⌝ }
 {
-    if length_of(pool, k) == 0 {
-        return LINES + k * LINE_WORDS;
-    }
-    ROWS + tail_of(pool, k) * ROW_WORDS
+    let n = length_of(pool, k);
+    let tail = tail_of(pool, k);
+    let first = if n == 0 { LINES } else { ROWS };
+    let row = if n == 0 { k } else { tail };
+    first + row * ROW_WORDS
 }
 
 // The stores of a push: a row with its record, the word that names it, and the line of n rows that it joins.

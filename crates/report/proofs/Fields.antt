@@ -9,9 +9,9 @@ use lib.Seq.{length-take-le}
 use lib.Dec.{eqb}
 use borrow.Author.Tests.{eq-eqb, ne-eqb}
 use Rattle.protocol.proofs.Tests.{by-lt}
-use Rattle.protocol.specs.Events.{Report, accepted, refused}
+use Rattle.protocol.specs.Events.{Report, Answer, accepted, refused}
 use Rattle.protocol.specs.Printed.{digitChar, decimal, hexadecimal, field, textField, reportFields, lineOf}
-use Rattle.report.specs.Lines.{written, Wrote, Began, octetsOf}
+use Rattle.report.specs.Lines.{written, Wrote, Began, octetsOf, restOf}
 use Rattle.report.proofs.Octets.{wrote-one, wrote-all, wrote-then, wrote-wider, began-all, began-then, began-more, pair-stored}
 use Rattle.report.proofs.Numbers.{digit-small, decimal-one, some-digit, word-of, digit-written, hex-length, hex-front}
 
@@ -115,16 +115,32 @@ module _ (r : Report) {l l₁ l₂ : List ℕ} {at p₁ p₂ : ℕ} (room : at +
 
 -- LINES
 
-pub line-written : (index : ℕ) (r : Report) {l l₁ l₂ : List ℕ} {at p q : ℕ} → at + 191 ≤ length l → Began 3 20 (decimal index) l l₁ at p → Wrote 170 (reportFields r) l₁ l₂ p q
-    → Wrote 191 (lineOf index (accepted r)) l (set l₂ q 10) at (q + 1)
-unfolding lineOf
-line-written index r {l} {l₁} {l₂} {at} {p} {q} h u v =
-    wrote-then (omega arith) (began-then (report-long r) u v)
-    (wrote-one l₂ q 10 (q + 1) (omega arith) refl)
+-- the rest of a line
+pub accepted-ended : (r : Report) {l l₁ : List ℕ} {at q : ℕ} → at + 171 ≤ length l → Wrote 170 (reportFields r) l l₁ at q
+    → Wrote 171 (restOf (accepted r)) l (set l₁ q 10) at (q + 1)
+unfolding restOf
+accepted-ended r {l} {l₁} {at} {q} h v = wrote-then (omega arith) v (wrote-one l₁ q 10 (q + 1) (let z = v .few in let y = v .kept in omega arith) refl)
 
-pub refusal-written : (index number : ℕ) {l l₁ l₂ l₃ : List ℕ} {at p q s : ℕ} → at + 45 ≤ length l → Wrote 20 (decimal index) l l₁ at p → Wrote 3 (32 ∷ 110 ∷ 111 ∷ []) l₁ l₂ p q
-    → Wrote 21 (field number) l₂ l₃ q s → Wrote 45 (lineOf index (refused number)) l (set l₃ s 10) at (s + 1)
-unfolding lineOf
-refusal-written index number {l} {l₁} {l₂} {l₃} {at} {p} {q} {s} h u v w =
-    wrote-then (omega arith) (wrote-then (omega arith) u (wrote-then (omega arith) v w))
-    (wrote-one l₃ s 10 (s + 1) (omega arith) refl)
+pub refused-ended : (number : ℕ) {l l₁ l₂ : List ℕ} {at p q : ℕ} → at + 25 ≤ length l → Wrote 3 (32 ∷ 110 ∷ 111 ∷ []) l l₁ at p → Wrote 21 (field number) l₁ l₂ p q
+    → Wrote 25 (restOf (refused number)) l (set l₂ q 10) at (q + 1)
+unfolding restOf
+refused-ended number {l} {l₁} {l₂} {at} {p} {q} h v w =
+    let both = wrote-then (omega arith) v w in
+    wrote-then (omega arith) both (wrote-one l₂ q 10 (q + 1) (let z = both .few in let y = both .kept in omega arith) refl)
+
+-- it covers what the index left behind it
+rest-long : (a : Answer) → 3 ≤ length (restOf a)
+unfolding restOf
+rest-long (accepted r) = let z = length-append (reportFields r) (10 ∷ []) in let y = report-long r in omega arith
+rest-long (refused n) = let z = length-append (32 ∷ 110 ∷ 111 ∷ field n) (10 ∷ []) in omega arith
+
+-- the index and the rest are the line
+line-is : (index : ℕ) (a : Answer) → decimal index ++ restOf a ≡ lineOf index a
+unfolding restOf lineOf
+line-is index (accepted r) = sym (append-assoc (decimal index) (reportFields r) (10 ∷ []))
+line-is index (refused n) = sym (append-assoc (decimal index) (32 ∷ 110 ∷ 111 ∷ field n) (10 ∷ []))
+
+pub line-written : (index : ℕ) (a : Answer) {most : ℕ} {l l₁ l₂ : List ℕ} {at p q : ℕ} → Began 3 20 (decimal index) l l₁ at p → Wrote most (restOf a) l₁ l₂ p q
+    → Wrote (20 + most) (lineOf index a) l l₂ at q
+line-written index a {most} {l} {l₁} {l₂} {at} {p} {q} u v =
+    subst (λ (x : List ℕ). Wrote (20 + most) x l l₂ at q) (line-is index a) (began-then (rest-long a) u v)

@@ -4,7 +4,7 @@ use mathlib.Core.List.{List, [], _∷_, _++_}
 use Prim.Native.Nat.{ℕ, zero, suc, _+_, _*_, _/_, _%_, _≤_, _<_}
 use lib.ListN.{length, take, drop, getD}
 use Rattle.protocol.specs.Events as events
-use Rattle.protocol.specs.Printed.{digitChar, decimal}
+use Rattle.protocol.specs.Printed.{digitChar, decimal, field, reportFields}
 use Rattle.report.specs.declared.Report.{Report}
 
 -- WRITING
@@ -37,17 +37,31 @@ reportIn r text = record { kind = r .kind; a = r .a; b = r .b; p = r .p; w = r .
 abbrev pub acceptedIn : Report → List ℕ → events.Answer
 acceptedIn r text = events.accepted (reportIn r text)
 
+-- what stands behind the index of a line
+unfoldable pub restOf : events.Answer → List ℕ
+restOf (events.accepted l) = reportFields l ++ (10 ∷ [])
+restOf (events.refused r) = (32 ∷ 110 ∷ 111 ∷ field r) ++ (10 ∷ [])
+
 -- the longest line: a number has at most 20 digits, and a text at most 32 octets
+abbrev pub longestRest : ℕ
+longestRest = 5 * 21 + 65 + 1
+
 abbrev pub longestLine : ℕ
-longestLine = 20 + 5 * 21 + 65 + 1
+longestLine = 20 + longestRest
 
 -- the room that a line is written in: 64 octets are moved behind the text, and put back
+abbrev pub restRoom : ℕ
+restRoom = longestRest + 64
+
 abbrev pub lineRoom : ℕ
-lineRoom = longestLine + 64
+lineRoom = 20 + restRoom
 
 -- the longest line of a refusal
+abbrev pub shortRest : ℕ
+shortRest = 3 + 21 + 1
+
 abbrev pub longestRefusal : ℕ
-longestRefusal = 20 + 3 + 21 + 1
+longestRefusal = 20 + shortRest
 
 -- the last k decimal digits of n
 unfoldable pub lastDigits : ℕ → ℕ → List ℕ

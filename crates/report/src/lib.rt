@@ -8,7 +8,7 @@ ghost use lib.Dec.{ltb};
 ghost use lib.ListN.{length, take, drop};
 ghost use Rattle.protocol.specs.Events.{refused};
 ghost use Rattle.protocol.specs.Printed.{digitChar, decimal, hexadecimal, field, textField, reportFields, lineOf};
-ghost use Rattle.report.specs.Lines.{written, Wrote, Began, Spells, Tabled, lastDigits, octetsOf, reportIn, acceptedIn, longestLine, longestRefusal, lineRoom};
+ghost use Rattle.report.specs.Lines.{written, Wrote, Began, Spells, Tabled, lastDigits, octetsOf, reportIn, acceptedIn, restOf, longestRest, restRoom, shortRest, longestRefusal};
 
 // What an accepted event reports.
 pub struct Report {
@@ -22,9 +22,6 @@ pub struct Report {
 // The room that a line is written in. The longest line has 191 octets: six numbers of 20 digits, five blanks before them, a blank and a text of 32
 // octets, and the line end. As many octets as the longest text has digits are moved behind it, and put back.
 pub const LINE_ROOM: usize = 255;
-
-// The longest line of a refusal: two numbers of 20 digits, the word and two blanks, and the line end.
-pub const REFUSAL: usize = 45;
 
 // So many numbers are spelled in the lent table: those of at most four digits.
 const NUMBERS: usize = 10000;
@@ -227,8 +224,8 @@ fn copy_part(out: &mut [u8], at: usize, from: &[u8], first: usize, count: usize)
     }
 }
 
-// The index. Few have more than eight digits.
-fn put_index(out: &mut [u8], at: usize, numbers: &[u64], n: u64) -> usize
+// THE INDEX, with which a line begins. Few have more than eight digits. Up to three octets behind it become blanks: the rest of the line covers them.
+pub fn put_index(out: &mut [u8], at: usize, numbers: &[u64], n: u64) -> usize
     requires { ⌜ (at + 20 ≤ length (now out)) × Tabled (now numbers) ⌝ }
     ensures { λ r. ⌜ Began 3 20 (decimal n) (now (out .entry)) (now (out .exit)) at r ⌝ }
 {
@@ -378,22 +375,20 @@ fn put_fields(
     w
 }
 
-// The line of an accepted event; of a radio step with the text that was handed over, which is lent with all its room. The position behind the
-// line is returned.
-pub fn put_line(
+// THE REST OF THE LINE of an accepted event, behind its index; of a radio step with the text that was handed over, which is lent with all its room.
+// The position behind the line is returned.
+pub fn end_accepted(
     out: &mut [u8],
     at: usize,
     numbers: &[u64],
-    index: u64,
     r: Report,
     room: &[u8],
     size: usize,
 ) -> usize
-    requires { ⌜ (at + lineRoom ≤ length (now out)) × Tabled (now numbers) × (length (now room) ≡ 32) × (size ≤ 32) ⌝ }
-    ensures { λ n. ⌜ Wrote longestLine (lineOf index (acceptedIn r (take size (now (room .entry))))) (now (out .entry)) (now (out .exit)) at n ⌝ }
+    requires { ⌜ (at + restRoom ≤ length (now out)) × Tabled (now numbers) × (length (now room) ≡ 32) × (size ≤ 32) ⌝ }
+    ensures { λ n. ⌜ Wrote longestRest (restOf (acceptedIn r (take size (now (room .entry))))) (now (out .entry)) (now (out .exit)) at n ⌝ }
 {
-    let number = put_index(out, at, numbers, index);
-    let fields = put_fields(out, number, numbers, r, room, size);
+    let fields = put_fields(out, at, numbers, r, room, size);
     out[fields] = b'\n';
     fields + 1
 }
@@ -409,14 +404,22 @@ fn put_no(out: &mut [u8], at: usize) -> usize
     at + 3
 }
 
-// The line of a refused one.
+// The rest of the line of a refused one.
+pub fn end_refused(out: &mut [u8], at: usize, number: u64) -> usize
+    requires { ⌜ at + shortRest ≤ length (now out) ⌝ }
+    ensures { λ r. ⌜ Wrote shortRest (restOf (refused number)) (now (out .entry)) (now (out .exit)) at r ⌝ }
+{
+    let word = put_no(out, at);
+    let refusal = put_field(out, word, number);
+    out[refusal] = b'\n';
+    refusal + 1
+}
+
+// The whole line of a refusal.
 pub fn put_refusal(out: &mut [u8], at: usize, index: u64, number: u64) -> usize
     requires { ⌜ at + longestRefusal ≤ length (now out) ⌝ }
     ensures { λ r. ⌜ Wrote longestRefusal (lineOf index (refused number)) (now (out .entry)) (now (out .exit)) at r ⌝ }
 {
-    let head = put_decimal(out, at, index);
-    let word = put_no(out, head);
-    let refusal = put_field(out, word, number);
-    out[refusal] = b'\n';
-    refusal + 1
+    let rest = put_decimal(out, at, index);
+    end_refused(out, rest, number)
 }

@@ -42,9 +42,8 @@ use Rattle.answers.proofs.Answer.{the-type as answer-type}
 use Rattle.answers.proofs.Values.{others}
 use Rattle.printing.specs.Reports.{reportOf}
 use Rattle.printing.proofs.Values.{accepted-is}
-use Rattle.protocol.specs.Printed.{lineOf}
 use Rattle.report.specs.declared.Report.{Report}
-use Rattle.report.specs.Lines.{Wrote, reportIn, longestLine, longestRefusal}
+use Rattle.report.specs.Lines.{Wrote, reportIn, restOf, longestRest, shortRest}
 use Rattle.running.specs.declared.Told.{Told}
 use Rattle.running.specs.Ready.{Ready}
 use Rattle.running.specs.Told.{toldIn, Within}
@@ -110,23 +109,23 @@ text-told h m size s n p w said q f e =
       λ T. ap (λ (x : Report). accepted (reportIn x (take size (drop (m * 32) T)))) e ∙ sym (ap (handingIn T) q),
     )
 
--- THE LINE of what was told
-module _ (T : List ℕ) (r : Told) (index : ℕ) (out out′ : List ℕ) (at next : ℕ) where
-  abbrev Line : events.Answer → Type 0
-  Line a = Wrote longestLine (lineOf index a) out out′ at next
+-- THE REST OF THE LINE of what was told
+module _ (T : List ℕ) (r : Told) (out out′ : List ℕ) (at next : ℕ) where
+  abbrev Rest : events.Answer → Type 0
+  Rest a = Wrote longestRest (restOf a) out out′ at next
 
-  -- that of a refusal is no longer than any line
-  pub told-refusal : r .«is_refused» ≡ true → Wrote longestRefusal (lineOf index (refused (r .refusal))) out out′ at next → Line (toldIn T r)
-  told-refusal q w =
+  -- that of a refusal is no longer than any
+  pub told-refused : r .«is_refused» ≡ true → Wrote shortRest (restOf (refused (r .refusal))) out out′ at next → Rest (toldIn T r)
+  told-refused q w =
       rw q
       (let few = w .few in record { octets = w .octets; behind = w .behind; few = omega arith; kept = w .kept })
 
   -- and the text of a report is the front of its room
-  pub told-line : r .«is_refused» ≡ false → r .size ≤ 32
-      → Line (accepted (reportIn (r .report) (take (r .size) (take (r .room * 32 + 32 - r .room * 32) (drop (r .room * 32) T))))) → Line (toldIn T r)
-  told-line q h w =
+  pub told-accepted : r .«is_refused» ≡ false → r .size ≤ 32
+      → Rest (accepted (reportIn (r .report) (take (r .size) (take (r .room * 32 + 32 - r .room * 32) (drop (r .room * 32) T))))) → Rest (toldIn T r)
+  told-accepted q h w =
       let text = take-take (r .size) (r .room * 32 + 32 - r .room * 32) (drop (r .room * 32) T) (omega arith) in
-      rw q (subst (λ (a : List ℕ). Line (accepted (reportIn (r .report) a))) text w)
+      rw q (subst (λ (a : List ℕ). Rest (accepted (reportIn (r .report) a))) text w)
 
 -- THE MARK says whether the floor is started, in the way of the code that asked: it passes the form rule if it is, and breaks it if not
 module _ (L : Lent) (marked : Bool) (mark-is : marked ≡ eqb (headIn (L .stations) .mark) 1) where

@@ -14,14 +14,14 @@ ghost use Prim.Native.Nat.{ℕ, _+_, _*_, _<_, _≤_};
 ghost use lib.Dec.{eqb, leb};
 ghost use lib.ListN.{length, drop};
 ghost use Rattle.protocol.specs.Events.{enter, send, wire, radio, move, refused};
-ghost use Rattle.protocol.specs.Printed.{lineOf};
+ghost use Rattle.protocol.specs.Printed.{decimal, lineOf};
 ghost use Rattle.stations.specs.View.{HasHead, headIn};
 ghost use Rattle.view.specs.View.{lent};
 ghost use Rattle.answers.specs.Answers.{answerIn};
 ghost use Rattle.answers.specs.Met.{Met};
 ghost use Rattle.receiving.specs.Handing.{handingIn, Fits};
 ghost use Rattle.frames.specs.Decoded.{eventIn, sizeOf};
-ghost use Rattle.report.specs.Lines.{Tabled, Wrote, longestLine, longestRefusal, lineRoom};
+ghost use Rattle.report.specs.Lines.{Tabled, Wrote, Began, restOf, longestRest, restRoom, longestRefusal, lineRoom};
 ghost use Rattle.running.specs.Ready.{Ready};
 ghost use Rattle.running.specs.Told.{toldIn, Within};
 ghost use Rattle.running.specs.Went.{Took, Turned, Went};
@@ -195,7 +195,15 @@ fn move_cart(
     plainly(rolling::move_cart(stations, carts, messages, lines, texts, cart, to))
 }
 
-// An event of the run, of the frame at a place: a send is followed by its text.
+// An event that happened, its line begun: where the line goes on behind its index, and what the event came to.
+struct Happened {
+    next: usize,
+    told: Told,
+}
+
+// An event of the run, of the frame at a place: a send is followed by its text. Its line begins at another place of the output, with the index. That
+// waits for nothing, so it is written first, while the processor still looks up what the event needs; and each kind does it for itself, so that
+// a frame's kind is asked for once.
 fn happen(
     stations: &mut [u64],
     carts: &mut [u64],
@@ -205,77 +213,66 @@ fn happen(
     input: &[u8],
     at: usize,
     e: Event,
-) -> Told
+    output: &mut [u8],
+    line: usize,
+    numbers: &[u64],
+    index: u64,
+) -> Happened
     requires { ⌜ Ready (lent (now stations) (now carts) (now messages) (now lines) (now texts)) ⌝ }
     requires { ⌜ (at + sizeOf e ≤ length (now input)) × (sizeOf e ≤ 48) ⌝ }
-    ensures { λ r. ⌜ Within r × Met (lent (now (stations .entry)) (now (carts .entry)) (now (messages .entry)) (now (lines .entry)) (now (texts .entry))) (lent (now (stations .exit)) (now (carts .exit)) (now (messages .exit)) (now (lines .exit)) (now (texts .exit))) (eventIn (drop at (now (input .entry))) e) (toldIn (now (texts .exit)) r) ⌝ }
+    requires { ⌜ (line + 20 ≤ length (now output)) × Tabled (now numbers) ⌝ }
+    ensures { λ r. ⌜ Within (r .told) × Met (lent (now (stations .entry)) (now (carts .entry)) (now (messages .entry)) (now (lines .entry)) (now (texts .entry))) (lent (now (stations .exit)) (now (carts .exit)) (now (messages .exit)) (now (lines .exit)) (now (texts .exit))) (eventIn (drop at (now (input .entry))) e) (toldIn (now (texts .exit)) (r .told)) ⌝ }
+    ensures { λ r. ⌜ Began 3 20 (decimal index) (now (output .entry)) (now (output .exit)) line (r .next) ⌝ }
 {
     match e {
-        Event::Start(n, k) => plainly(controller::start(
-            stations,
-            carts,
-            messages,
-            lines,
-            texts,
-            n,
-            k,
-        )),
-        Event::Enter(station, cart) => enter(
-            stations,
-            carts,
-            messages,
-            lines,
-            texts,
-            station,
-            cart,
-        ),
+        Event::Start(n, k) => {
+            let next = report::put_index(output, line, numbers, index);
+            let told = plainly(controller::start(stations, carts, messages, lines, texts, n, k));
+            Happened { next, told }
+        }
+        Event::Enter(station, cart) => {
+            let next = report::put_index(output, line, numbers, index);
+            let told = enter(stations, carts, messages, lines, texts, station, cart);
+            Happened { next, told }
+        }
         Event::Send(station, set, size) => {
+            let next = report::put_index(output, line, numbers, index);
             let from = at + FRAME;
             let end = from + size;
-            send(
-                stations,
-                carts,
-                messages,
-                lines,
-                texts,
-                station,
-                set,
-                &input[from..end],
-            )
+            let text = &input[from..end];
+            let told = send(stations, carts, messages, lines, texts, station, set, text);
+            Happened { next, told }
         }
-        Event::Wire(from, to) => wire(stations, carts, messages, lines, texts, from, to),
-        Event::Radio(station, cart) => radio(
-            stations,
-            carts,
-            messages,
-            lines,
-            texts,
-            station,
-            cart,
-        ),
-        Event::Move(cart, to) => move_cart(stations, carts, messages, lines, texts, cart, to),
+        Event::Wire(from, to) => {
+            let next = report::put_index(output, line, numbers, index);
+            let told = wire(stations, carts, messages, lines, texts, from, to);
+            Happened { next, told }
+        }
+        Event::Radio(station, cart) => {
+            let next = report::put_index(output, line, numbers, index);
+            let told = radio(stations, carts, messages, lines, texts, station, cart);
+            Happened { next, told }
+        }
+        Event::Move(cart, to) => {
+            let next = report::put_index(output, line, numbers, index);
+            let told = move_cart(stations, carts, messages, lines, texts, cart, to);
+            Happened { next, told }
+        }
     }
 }
 
-// The line of what an event came to. All the room of its text is lent, so that no loop runs as often as the text is long.
-fn print(out: &mut [u8], texts: &[u8], at: usize, numbers: &[u64], index: u64, told: Told) -> usize
-    requires { ⌜ (at + lineRoom ≤ length (now out)) × (length (now texts) ≡ 1024) × Tabled (now numbers) × Within told ⌝ }
-    ensures { λ n. ⌜ Wrote longestLine (lineOf index (toldIn (now (texts .entry)) told)) (now (out .entry)) (now (out .exit)) at n ⌝ }
+// The rest of the line of what an event came to, behind its index. All the room of its text is lent, so that no loop runs as often as the text is
+// long.
+fn print(out: &mut [u8], texts: &[u8], at: usize, numbers: &[u64], told: Told) -> usize
+    requires { ⌜ (at + restRoom ≤ length (now out)) × (length (now texts) ≡ 1024) × Tabled (now numbers) × Within told ⌝ }
+    ensures { λ n. ⌜ Wrote longestRest (restOf (toldIn (now (texts .entry)) told)) (now (out .entry)) (now (out .exit)) at n ⌝ }
 {
     if told.is_refused {
-        return report::put_refusal(out, at, index, told.refusal);
+        return report::end_refused(out, at, told.refusal);
     }
     let from = told.room * TEXT;
     let end = from + TEXT;
-    report::put_line(
-        out,
-        at,
-        numbers,
-        index,
-        told.report,
-        &texts[from..end],
-        told.size,
-    )
+    report::end_accepted(out, at, numbers, told.report, &texts[from..end], told.size)
 }
 
 // How far a piece of input was run: the octets read from its front, the octets written to the front of the output, the frames, and why it
@@ -340,8 +337,22 @@ fn take_event(
     requires { ⌜ (p .frames ≤ p .read) × (length (now input) + 1 < 18446744073709551616) × Tabled (now numbers) ⌝ }
     ensures { λ r. ⌜ Took index (lent (now (stations .entry)) (now (carts .entry)) (now (messages .entry)) (now (lines .entry)) (now (texts .entry))) (lent (now (stations .exit)) (now (carts .exit)) (now (messages .exit)) (now (lines .exit)) (now (texts .exit))) (now (output .entry)) (now (output .exit)) p r (eventIn (drop (p .read) (now (input .entry))) e) (sizeOf e) ⌝ }
 {
-    let told = happen(stations, carts, messages, lines, texts, input, p.read, e);
-    let written = print(output, texts, p.written, numbers, index, told);
+    let happened = happen(
+        stations,
+        carts,
+        messages,
+        lines,
+        texts,
+        input,
+        p.read,
+        e,
+        output,
+        p.written,
+        numbers,
+        index,
+    );
+    let told = happened.told;
+    let written = print(output, texts, happened.next, numbers, told);
     Progress {
         read: p.read + frames::size_of(e),
         written,

@@ -1,4 +1,4 @@
--- THE ROOMS WHOSE COPIES NAME A CART, from the last one down.
+-- THE ROOMS WHOSE COPIES NAME A CART: their words from the last one down, and those of them that count.
 use mathlib.Core.Path.{_≡_, refl, sym, ap, ap₂, _∙_, fun-ext}
 use mathlib.Core.Bool.{Bool, true, false, cond, _&&_}
 use mathlib.Core.List.{List}
@@ -7,35 +7,44 @@ use native.Mathlib.Omega.{arith}
 use lib.Bits.{bitAnd, and-le-l, and-zero-r}
 use lib.Pow.{pow-mono}
 use Rattle.protocol.specs.CartSets.{digit, has, setOf}
-use Rattle.protocol.proofs.Tests.{by-test, and-false}
-use Rattle.protocol.proofs.SetLaws.{has-zero, has-setOf, setOf-lt, same-members}
+use Rattle.protocol.proofs.Tests.{by-test, by-lt, and-false}
+use Rattle.protocol.proofs.SetLaws.{has-zero, has-setOf, setOf-lt, member-below, same-members}
 use Rattle.cartset.proofs.MaskLaws.{digit-is, setOf-low, has-and}
 use Rattle.rows.proofs.ColumnLaws.{column-read}
-use Rattle.stations.specs.View.{rooms, copyAt, copiesAt, stationWord, stationsIn, namingIn}
+use Rattle.stations.specs.View.{rooms, copyAt, copiesAt, stationWord, stationsIn, wordNames, namingIn}
 
-module _ (f : ℕ → Bool) where
-  -- the rooms from m on that pass, counted from m
+-- of the first n rooms, those from m on that pass, counted from m
+module _ (n : ℕ) (f : ℕ → Bool) where
   abbrev pub passingFrom : ℕ → ℕ
-  passingFrom m = setOf (rooms - m) (λ j. f (m + j))
+  passingFrom m = setOf (n - m) (λ j. f (m + j))
 
-  pub passing-none : 0 ≡ passingFrom rooms
+  pub passing-none : 0 ≡ passingFrom n
   unfolding setOf
-  passing-none = refl
+  passing-none = let z : n - n ≡ 0 = omega arith in ap (λ (k : ℕ). setOf k (λ j. f (n + j))) (sym z)
+
+  pub passing-all : (m x : ℕ) → m ≡ 0 → x ≡ passingFrom m → x ≡ setOf n f
+  passing-all m x z e = e ∙ ap passingFrom z ∙ ap₂ setOf all (fun-ext (λ j. ap f (from j)))
+    where
+      all : n - 0 ≡ n
+      all = omega arith
+
+      from : (j : ℕ) → 0 + j ≡ j
+      from j = omega arith
 
   -- a word has room for one more digit
-  pub passing-small : (m x : ℕ) → x ≡ passingFrom m → x < 2 ^ 32
-  passing-small m x e =
-      let z = setOf-lt (rooms - m) (λ j. f (m + j)) in
-      let k : rooms - m ≤ rooms = omega arith in
+  pub passing-small : (m x : ℕ) → n ≤ rooms → x ≡ passingFrom m → x < 2 ^ 32
+  passing-small m x few e =
+      let z = setOf-lt (n - m) (λ j. f (m + j)) in
+      let k : n - m ≤ rooms = omega arith in
       let y = pow-mono k in
       omega arith
 
   -- one room more, before them
-  pub passing-more : (m x d : ℕ) → 0 < m → m ≤ rooms → x ≡ passingFrom m → d ≡ cond (f (m - 1)) 1 0 → x * 2 + d ≡ passingFrom (m - 1)
+  pub passing-more : (m x d : ℕ) → 0 < m → m ≤ n → x ≡ passingFrom m → d ≡ cond (f (m - 1)) 1 0 → x * 2 + d ≡ passingFrom (m - 1)
   passing-more m x d pos low ex ed =
-      ap₂ (λ (y e : ℕ). y * 2 + e) (ex ∙ ap (setOf (rooms - m)) (fun-ext (λ j. ap f (after j)))) (ed ∙ ap (λ (k : ℕ). cond (f k) 1 0) here)
-      ∙ sym (setOf-low (rooms - m) (λ j. f (m - 1 + j)))
-      ∙ ap (λ (n : ℕ). setOf n (λ j. f (m - 1 + j))) one-more
+      ap₂ (λ (y e : ℕ). y * 2 + e) (ex ∙ ap (setOf (n - m)) (fun-ext (λ j. ap f (after j)))) (ed ∙ ap (λ (k : ℕ). cond (f k) 1 0) here)
+      ∙ sym (setOf-low (n - m) (λ j. f (m - 1 + j)))
+      ∙ ap (λ (k : ℕ). setOf k (λ j. f (m - 1 + j))) one-more
     where
       after : (j : ℕ) → m + j ≡ m - 1 + suc j
       after j = omega arith
@@ -43,38 +52,44 @@ module _ (f : ℕ → Bool) where
       here : m - 1 ≡ m - 1 + 0
       here = omega arith
 
-      one-more : suc (rooms - m) ≡ rooms - (m - 1)
+      one-more : suc (n - m) ≡ n - (m - 1)
       one-more = omega arith
 
 module _ (l : List ℕ) (t c : ℕ) where
-  -- does the word of room m name the cart, whether it counts or not
-  abbrev pub wordNames : ℕ → Bool
-  wordNames m = has (stationWord l t (copyAt m)) c
-
-  pub word-digit : (m w : ℕ) → w ≡ stationWord l t (copyAt m) → digit w c ≡ cond (wordNames m) 1 0
+  pub word-digit : (m w : ℕ) → w ≡ stationWord l t (copyAt m) → digit w c ≡ cond (wordNames l t c m) 1 0
   word-digit m w e = ap (λ (x : ℕ). digit x c) e ∙ digit-is (stationWord l t (copyAt m)) c
 
-  -- those of them that count
-  pub naming-counts : (m x y : ℕ) → m ≡ 0 → x ≡ passingFrom wordNames m → y ≡ stationWord l t copiesAt → bitAnd x y ≡ namingIn (stationsIn l) t c
+  -- those of the first n that count, where no other room counts
+  pub naming-counts : (n x y : ℕ) → n ≤ rooms → x ≡ setOf n (wordNames l t c) → y ≡ stationWord l t copiesAt
+      → ((k : ℕ) → n ≤ k → k < rooms → has y k ≡ false) → bitAnd x y ≡ namingIn (stationsIn l) t c
   unfolding stationsIn
-  naming-counts m x y z ex ey =
+  naming-counts n x y few ex ey none =
       same-members rooms (bitAnd x y) (namingIn (stationsIn l) t c)
-      (let b = passing-small wordNames m x ex in let a = and-le-l x y in omega arith)
+      (let z = setOf-lt n (wordNames l t c) in let b = pow-mono few in let a = and-le-l x y in omega arith)
       (setOf-lt rooms (λ k. has (stationsIn l .copy k t) c))
       (λ k h. has-and x y k
-      ∙ ap₂ _&&_ (ap (λ (s : ℕ). has s k) (ex ∙ ap (passingFrom wordNames) z) ∙ has-setOf rooms (λ j. wordNames (0 + j)) k h ∙ ap wordNames (from k)) (ap (λ (s : ℕ). has s k) ey)
+      ∙ by-lt k n
+      (λ b. ap (λ (z : Bool). z && has y k) (ap (λ (s : ℕ). has s k) ex ∙ has-setOf n (wordNames l t c) k b))
+      (λ b. ap (λ (z : Bool). has x k && z) (none k b h) ∙ and-false (has x k) ∙ sym (and-false (wordNames l t c k)) ∙ ap (λ (z : Bool). wordNames l t c k && z) (sym (none k b h)))
+      ∙ ap (λ (s : ℕ). wordNames l t c k && has s k) ey
       ∙ counts (has (stationWord l t copiesAt) k) (stationWord l t (copyAt k))
       ∙ ap (λ (s : ℕ). has (cond (has (stationWord l t copiesAt) k) s 0) c) (column-read rooms copyAt (stationWord l) t k h)
       ∙ sym (has-setOf rooms (λ k. has (stationsIn l .copy k t) c) k h))
     where
-      from : (k : ℕ) → 0 + k ≡ k
-      from k = omega arith
-
       counts : (b : Bool) (word : ℕ) → (has word c && b) ≡ has (cond b word 0) c
       counts true word = by-test (has word c) (λ e. rw e) (λ e. rw e)
       counts false word = and-false (has word c) ∙ sym (has-zero c)
 
-  -- where none counts
+  -- where none counts, where only rooms of the first half do, and where any may
   pub naming-none : (y : ℕ) → y ≡ stationWord l t copiesAt → y ≡ 0 → 0 ≡ namingIn (stationsIn l) t c
   naming-none y e z =
-      sym (and-zero-r (passingFrom wordNames 0)) ∙ naming-counts 0 (passingFrom wordNames 0) 0 refl refl (sym z ∙ e)
+      let x = setOf rooms (wordNames l t c) in
+      sym (and-zero-r x) ∙ naming-counts rooms x 0 (omega arith) refl (sym z ∙ e) (λ k a b. has-zero k)
+
+  pub naming-half : (x y : ℕ) → x ≡ setOf 16 (wordNames l t c) → y ≡ stationWord l t copiesAt → y < 2 ^ 16 → bitAnd x y ≡ namingIn (stationsIn l) t c
+  naming-half x y ex ey low =
+      naming-counts 16 x y (omega arith) ex ey
+      (λ k a b. by-test (has y k) (λ e. absurd (let z = member-below 16 y k low e in omega arith)) (λ e. e))
+
+  pub naming-all : (x y : ℕ) → x ≡ setOf rooms (wordNames l t c) → y ≡ stationWord l t copiesAt → bitAnd x y ≡ namingIn (stationsIn l) t c
+  naming-all x y ex ey = naming-counts rooms x y (omega arith) ex ey (λ k a b. absurd (omega arith))

@@ -1,5 +1,5 @@
 -- THE STATIONS THAT A LENT TABLE HOLDS, and the stations with one entry changed.
-use mathlib.Core.Bool.{cond}
+use mathlib.Core.Bool.{Bool, cond}
 use mathlib.Core.List.{List}
 use Prim.Native.Nat.{ℕ, _+_, _*_}
 use lib.Dec.{eqb}
@@ -125,6 +125,10 @@ stationsIn words = stationsOf (stationWord words)
 -- the rooms whose queue entries count at station t: no other room has one there
 abbrev pub entriesIn : List ℕ → ℕ → ℕ
 entriesIn words t = setOf rooms (has (stationWord words t entriesAt))
+
+-- does the word of room m at t name cart c, whether it counts or not
+abbrev pub wordNames : List ℕ → ℕ → ℕ → ℕ → Bool
+wordNames l t c m = has (stationWord l t (copyAt m)) c
 
 -- the rooms whose copies at t name cart c
 abbrev pub namingIn : Stations → ℕ → ℕ → ℕ

@@ -2,11 +2,11 @@
 use ids::CartNumber;
 use ids::Station;
 ghost use mathlib.Core.Path.{_≡_};
-ghost use Prim.Native.Nat.{ℕ, _<_};
+ghost use Prim.Native.Nat.{ℕ, _<_, _≤_};
 ghost use lib.ListN.{length, getD};
 ghost use Rattle.protocol.specs.CartSets.{has, setOf};
 ghost use Rattle.protocol.specs.Folds.{update2};
-ghost use Rattle.stations.specs.View.{width, initiators, rooms, HasHead, HasStation, countedWith, entriesIn, namingIn, stationWord, head, headIn, stationsIn, noStations, withSent, withExpected, withLocal, withCopy, withAcks, withQueue};
+ghost use Rattle.stations.specs.View.{width, initiators, rooms, HasHead, HasStation, countedWith, entriesIn, wordNames, namingIn, stationWord, head, headIn, stationsIn, noStations, withSent, withExpected, withLocal, withCopy, withAcks, withQueue};
 
 // A row of the table has this many words. Row 0 is the floor's own, row 1 + t is station t's.
 const WIDTH: usize = 116;
@@ -43,6 +43,11 @@ const ENTRIES: usize = 115;
 
 // "At most 32 held messages": as many rooms.
 const ROOMS: u64 = 32;
+
+// Half of them, and the least number with a bit past these.
+const HALF: usize = 16;
+
+const PAST_HALF: u64 = 65536;
 
 // Word k of the station's row.
 fn word_of(stations: &[u64], station: Station, k: usize) -> u64
@@ -190,8 +195,22 @@ pub fn copy_of(stations: &[u64], m: usize, station: Station) -> u64
     word_of(stations, station, COPY + ROOM * m)
 }
 
-// The rooms whose copies at the station name the cart. Where any copy counts, all are looked at, from the last one down, so that no branch asks which
-// of them count; those that do not are left out at the end.
+// The first rooms, so many, whose words name the cart, whether these count or not: from the last one down, so that no branch asks.
+fn words_naming(stations: &[u64], station: Station, cart: CartNumber, n: usize) -> u64
+    requires { ⌜ HasStation (now stations) (station .0) × (cart .0 < 64) × (n ≤ rooms) ⌝ }
+    ensures { λ r. ⌜ r ≡ setOf n (wordNames (now (stations .entry)) (station .0) (cart .0)) ⌝ }
+{
+    let mut naming: u64 = 0;
+    let mut m = n;
+    while 0 < m {
+        m -= 1;
+        naming = naming * 2 + (word_of(stations, station, COPY + ROOM * m) >> cart.0) % 2;
+    }
+    naming
+}
+
+// The rooms whose copies at the station name the cart. Where a copy counts, all are looked at, or the first half where none behind them counts, and
+// those that do not count are left out at the end. Messages take the first free room, so mostly the first half is enough.
 pub fn rooms_naming(stations: &[u64], station: Station, cart: CartNumber) -> u64
     requires { ⌜ HasStation (now stations) (station .0) × (cart .0 < 64) ⌝ }
     ensures { λ r. ⌜ r ≡ namingIn (stationsIn (now (stations .entry))) (station .0) (cart .0) ⌝ }
@@ -200,13 +219,10 @@ pub fn rooms_naming(stations: &[u64], station: Station, cart: CartNumber) -> u64
     if copies == 0 {
         return 0;
     }
-    let mut naming: u64 = 0;
-    let mut m: usize = ROOMS as usize;
-    while 0 < m {
-        m -= 1;
-        naming = naming * 2 + (word_of(stations, station, COPY + ROOM * m) >> cart.0) % 2;
+    if copies < PAST_HALF {
+        return words_naming(stations, station, cart, HALF) & copies;
     }
-    naming & copies
+    words_naming(stations, station, cart, ROOMS as usize) & copies
 }
 
 // The station has another copy.

@@ -4,6 +4,7 @@ use Prim.Native.Nat.{ℕ, _+_}
 use native.Mathlib.Omega.{arith}
 use denote.Ref.{now}
 use Rattle.view.specs.View.{lent}
+use Rattle.report.proofs.Fields.{line-written}
 use Rattle.running.proofs.Events.{goes-on}
 use Rattle.running.proofs.Turns.{texts-long, took}
 use borrow.Author.Needs.{needs}
@@ -11,23 +12,23 @@ use Rattle.running.proofs.take_event.Statement.{statement}
 use Rattle.running.proofs.take_event.Tie as tie
 
 happen-requires : tie.Need-happen-requires
-happen-requires c κs = search needs
+happen-requires c κs = let s = c .before .before .before .before .before .before .before .before .before .before .before .before .before .before in (s .pre .0, ((s .pre .1 .0 .0, s .pre .1 .0 .1), (omega (arith, s .pre .1 .0 .2), s .pre .1 .1 .2)))
 
 print-requires : tie.Need-print-requires
 print-requires c κs =
-    let s = c .before .before .before .before .before .before .before .before .before .before .before .before .before .before .before .before .before .before .before .before .before .before .before .before .before .before in
+    let s = c .before .before .before .before .before .before .before .before .before .before .before .before .before .before .before .before .before .before .before .before .before .before .before .before .before .before .before .before .before .before in
     let a = s .args in
-    let h = c .before .before .before .before .before .before .before .before .before .before .before .before .happen .ensures in
-    (s .pre .1 .0 .2, texts-long _ (goes-on (lent (now (a .stations)) (now (a .carts)) (now (a .messages)) (now (a .lines)) (now (a .texts))) _ _ _ (s .pre .0) (h .1)), s .pre .1 .1 .2, h .0)
+    let h = c .before .before .before .before .before .before .before .before .before .before .before .before .before .before .before .happen .ensures in
+    (omega (arith, s .pre .1 .0 .2, h .1 .few, h .1 .kept), texts-long _ (goes-on (lent (now (a .stations)) (now (a .carts)) (now (a .messages)) (now (a .lines)) (now (a .texts))) _ _ _ (s .pre .0) (h .0 .1)), s .pre .1 .1 .2, h .0 .0)
 
 size-of-requires : tie.Need-size-of-requires
-size-of-requires c κs = omega (arith, c .before .before .before .before .before .before .before .before .before .before .before .before .before .before .before .before .before .before .before .before .before .before .before .before .before .before .before .before .before .pre .1 .0)
+size-of-requires c κs = omega (arith, c .before .before .before .before .before .before .before .before .before .before .before .before .before .before .before .before .before .before .before .before .before .before .before .before .before .before .before .before .before .before .before .before .before .pre .1 .0)
 
-add-t29 : tie.Need-add-t29
-add-t29 c = omega (arith, c .before .before .before .before .before .before .before .before .before .before .before .before .before .before .before .before .before .before .before .before .before .before .before .before .before .before .before .before .before .before .before .pre .1 .0, c .before .before .before .before .before .before .before .before .before .before .before .before .before .before .before .before .before .before .before .before .before .before .before .before .before .before .before .before .before .before .before .pre .1 .1 .1, c .before .size-of .ensures)
+add-t32 : tie.Need-add-t32
+add-t32 c = omega (arith, c .before .before .before .before .before .before .before .before .before .before .before .before .before .before .before .before .before .before .before .before .before .before .before .before .before .before .before .before .before .before .before .before .before .before .before .pre .1 .0, c .before .before .before .before .before .before .before .before .before .before .before .before .before .before .before .before .before .before .before .before .before .before .before .before .before .before .before .before .before .before .before .before .before .before .before .pre .1 .1 .1, c .before .size-of .ensures)
 
-add-t30 : tie.Need-add-t30
-add-t30 c = omega (arith, c .before .before .before .before .before .before .before .before .before .before .before .before .before .before .before .before .before .before .before .before .before .before .before .before .before .before .before .before .before .before .before .before .pre .1 .0, c .before .before .before .before .before .before .before .before .before .before .before .before .before .before .before .before .before .before .before .before .before .before .before .before .before .before .before .before .before .before .before .before .pre .1 .1 .0, c .before .before .before .before .before .before .before .before .before .before .before .before .before .before .before .before .before .before .before .before .before .before .before .before .before .before .before .before .before .before .before .before .pre .1 .1 .1)
+add-t33 : tie.Need-add-t33
+add-t33 c = omega (arith, c .before .before .before .before .before .before .before .before .before .before .before .before .before .before .before .before .before .before .before .before .before .before .before .before .before .before .before .before .before .before .before .before .before .before .before .before .pre .1 .0, c .before .before .before .before .before .before .before .before .before .before .before .before .before .before .before .before .before .before .before .before .before .before .before .before .before .before .before .before .before .before .before .before .before .before .before .before .pre .1 .1 .0, c .before .before .before .before .before .before .before .before .before .before .before .before .before .before .before .before .before .before .before .before .before .before .before .before .before .before .before .before .before .before .before .before .before .before .before .before .pre .1 .1 .1)
 
 same-length : tie.Need-same-length
 same-length c = search needs
@@ -48,7 +49,12 @@ same-length-6 : tie.Need-same-length-6
 same-length-6 c = search needs
 
 returns : tie.Need-returns
-returns c = let a = c .before .before .before .before .before .before .before .before .before .before .before .before .before .before .before .before .before .before .before .before .before .before .before .before .before .before .before .before .before .before .before .before .args in let h = c .before .before .before .before .before .before .before .before .before .before .before .before .before .before .before .before .before .before .happen .ensures in took (a .index) (lent (now (a .stations)) (now (a .carts)) (now (a .messages)) (now (a .lines)) (now (a .texts))) _ (now (a .output)) _ (a .p) _ _ _ _ (c .before .before .before .before .before .before .before .before .before .before .before .before .before .before .before .before .before .before .before .before .before .before .before .before .before .before .before .before .before .before .before .before .pre .0) (h .1) (c .before .before .before .before .before .print .ensures) (ap (λ (k : ℕ). a .p .read + k) (c .before .before .size-of .ensures)) refl refl
+returns c =
+    let s = c .before .before .before .before .before .before .before .before .before .before .before .before .before .before .before .before .before .before .before .before .before .before .before .before .before .before .before .before .before .before .before .before .before .before .before .before in
+    let a = s .args in
+    let h = c .before .before .before .before .before .before .before .before .before .before .before .before .before .before .before .before .before .before .before .before .before .happen .ensures in
+    took (a .index) (lent (now (a .stations)) (now (a .carts)) (now (a .messages)) (now (a .lines)) (now (a .texts))) _ (now (a .output)) _ (a .p) _ _ _ _ (s .pre .0) (h .0 .1) (line-written (a .index) _ (h .1) (c .before .before .before .before .before .print .ensures))
+    (ap (λ (k : ℕ). a .p .read + k) (c .before .before .size-of .ensures)) refl refl
 
 pub take-event-spec : {M : Type 1} → statement M
 take-event-spec =
@@ -57,8 +63,8 @@ take-event-spec =
     happen-requires
     print-requires
     size-of-requires
-    add-t29
-    add-t30
+    add-t32
+    add-t33
     same-length
     same-length-2
     same-length-3
