@@ -5,14 +5,15 @@ use mathlib.Core.List.{List}
 use Prim.Native.Nat.{ℕ, zero, suc, _<_, _≤_, _^_}
 use native.Mathlib.Omega.{arith}
 use lib.Dec.{ltb, eqb}
-use borrow.Author.Tests.{lt-ltb, le-ltb, eqb-true}
+use borrow.Author.Tests.{lt-ltb, le-ltb, eqb-true, ne-eqb}
 use native.Mathlib.Nat.{pow-suc}
 use Rattle.protocol.specs.CartSets.{has, without}
 use Rattle.protocol.specs.Folds.{update2}
-use Rattle.protocol.proofs.Tests.{and-second-false, and-false, by-test, on-cond, on-update2}
+use Rattle.protocol.proofs.Tests.{and-left, and-second-false, and-false, by-test, eqb-self, on-cond, on-update2}
 use Rattle.protocol.proofs.SetLaws.{same-members, without-lt, has-without}
-use Rattle.stations.specs.View.{Stations, withCopy}
+use Rattle.stations.specs.View.{Stations, rooms, withCopy}
 use Rattle.messages.specs.View.{Rooms}
+use Rattle.catchup.specs.Naming.{Covers}
 use Rattle.handoff.specs.Struck.{withCopies, isBelow, isPassed, struckCopy, struckIn}
 
 module _ (S : Stations) (R : Rooms) (t m x : ℕ) where
@@ -77,3 +78,16 @@ module _ (S : Stations) (R : Rooms) (t c m x : ℕ) where
 
   pub is-kept : (b : Bool) → b ≡ isBelow S R t m x → b ≡ false → S ≡ struckIn S R t c m x
   is-kept b e n = same-copy S m t ∙ ap (withCopy S m t) (rw (sym e ∙ n) refl)
+
+-- where the cart is struck, the room names it no more
+pub struck-covers : (S : Stations) (t c m set r w : ℕ) {U : Stations} → Covers S t c set → r ≡ without (S .copy m t) c → U ≡ withCopy S m t r → w ≡ without set m → Covers U t c w
+struck-covers S t c m set r w C er f ew = rw (f, ew) (record { inside = inside; others = others })
+  where
+    inside : (k : ℕ) → has (without set m) k ≡ true → k < rooms
+    inside k h = C .inside k (and-left (has set k) (not (eqb m k)) (sym (has-without set m k) ∙ h))
+
+    others : (k : ℕ) → has (without set m) k ≡ false → has (update2 (S .copy) m t r k t) c ≡ false
+    others k h =
+        on-update2 (λ (y : ℕ). has y c ≡ false) (S .copy) m t r k t
+        (λ p q. ap (λ (y : ℕ). has y c) er ∙ has-without (S .copy m t) c c ∙ ap (λ (b : Bool). has (S .copy m t) c && not b) (eqb-self c) ∙ and-false (has (S .copy m t) c))
+        (λ d. C .others k (sym (and-true (has set k)) ∙ ap (λ (b : Bool). has set k && not b) (sym (ne-eqb m k (λ e. d (sym e) refl))) ∙ sym (has-without set m k) ∙ h))

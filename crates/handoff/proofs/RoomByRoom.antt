@@ -1,6 +1,6 @@
 -- A STATION'S ENTRIES CHANGED ROOM BY ROOM: what a loop over the rooms leaves of the queues, and of the copies.
 use mathlib.Core.Path.{_≡_, refl, sym, ap, _∙_, fun-ext, subst}
-use mathlib.Core.Bool.{Bool, true, false, not, cond, _&&_}
+use mathlib.Core.Bool.{Bool, true, false, cond, _&&_}
 use mathlib.Core.List.{List}
 use mathlib.Core.Option.{some}
 use Prim.Native.Nat.{ℕ, _+_, _<_}
@@ -11,15 +11,14 @@ use lib.ListN.{getD}
 use borrow.Author.Tests.{lt-ltb, le-ltb, eqb-true}
 use Rattle.protocol.specs.Folds.{update2}
 use Rattle.protocol.specs.CartSets.{has, without}
-use Rattle.protocol.proofs.Tests.{by-test, by-lt, and-false, on-cond, on-update2, eqb-self}
-use Rattle.protocol.proofs.SetLaws.{without-lt, has-without}
+use Rattle.protocol.proofs.Tests.{by-test, by-lt, and-false, on-update2, eqb-self}
+use Rattle.protocol.proofs.SetLaws.{without-lt}
 use Rattle.cartset.specs.Masks.{least}
 use Rattle.cartset.proofs.Walk.{Ahead, nothing-between, ahead-next, ahead-skips, ahead-end}
 use Rattle.stations.specs.View.{Stations, withQueue, withCopy}
 use Rattle.messages.specs.View.{Rooms}
-use Rattle.catchup.specs.Naming.{Covers}
 use Rattle.handoff.specs.Left.{withQueues, unqueued}
-use Rattle.handoff.specs.Struck.{withCopies, isPassed, struckCopy, struckIn, struckFrom}
+use Rattle.handoff.specs.Struck.{withCopies, struckCopy, struckIn, struckFrom}
 use Rattle.handoff.proofs.PassedLaws.{same-entry, same-copy, not-named}
 
 -- ENTRIES g m u, of room m at station u: those at station t go by f
@@ -137,12 +136,3 @@ module _ (S : Stations) (R : Rooms) (t c : ℕ) (row : List ℕ) where
     strike-all A =
         e ∙ ap (withCopies S)
         (changed-all (S .copy) t (struckCopy S R t c row) set k A (λ r z. absent r (others r z)) ∙ fun-ext (λ m. fun-ext (λ u. by-both m u)))
-
-  -- who is struck is named by no more copies
-  pub struck-covers : (set : ℕ) {T : Stations} → Covers S t c set → T ≡ struckFrom S R t c row → Covers T t c set
-  struck-covers set C e = rw e (record {
-    inside = C .inside;
-    others = λ m h. on-cond (λ (x : ℕ). has x c ≡ false) (eqb t t && isPassed S R t row m)
-        (λ q. has-without (S .copy m t) c c ∙ ap (λ (b : Bool). b && not (eqb c c)) (C .others m h))
-        (λ q. C .others m h);
-  })

@@ -141,7 +141,8 @@ fn is_passed(
     number < next
 }
 
-// The cart is struck from the station's copy of the set of the message in room m, of that initiator, if it is past that message.
+// The cart is struck from the station's copy of the set of the message in room m, of that initiator, if it is past that message. Answers the rooms
+// that may name it then: a room where it was struck no longer does.
 fn strike_from(
     stations: &mut [u64],
     messages: &[u64],
@@ -150,22 +151,26 @@ fn strike_from(
     initiator: Station,
     next: u64,
     m: usize,
-)
+    naming: u64,
+) -> u64
     requires { ⌜ HasStation (now stations) (station .0) × HasRooms (now messages) × (station .0 < 16) × (cart .0 < 64) × (m < rooms) × (initiator .0 < initiators) ⌝ }
-    requires { ⌜ initiator .0 ≡ roomsIn (now messages) .initiator m ⌝ }
+    requires { ⌜ (initiator .0 ≡ roomsIn (now messages) .initiator m) × Covers (stationsIn (now stations)) (station .0) (cart .0) naming ⌝ }
     ensures { λ _. ⌜ stationsIn (now (stations .exit)) ≡ struckIn (stationsIn (now (stations .entry))) (roomsIn (now (messages .entry))) (station .0) (cart .0) m next ⌝ }
     ensures { λ _. ⌜ headIn (now (stations .exit)) ≡ headIn (now (stations .entry)) ⌝ }
     ensures { λ _. ⌜ length (now (stations .exit)) ≡ length (now (stations .entry)) ⌝ }
+    ensures { λ r. ⌜ Covers (stationsIn (now (stations .exit))) (station .0) (cart .0) r ⌝ }
 {
     if !is_passed(stations, messages, station, initiator, next, m) {
-        return;
+        return naming;
     }
     let copy = cartset::without_cart(stations::copy_of(stations, m, station), cart.0);
     stations::put_copy(stations, m, station, copy);
+    cartset::without_cart(naming, m as u64)
 }
 
 // "from each buffered copy naming the cart with a number below the cart's next number, the cart is struck". Only rooms that may
-// name it are looked at. The row stays where it is: only the one entry that a message asks for is handed on.
+// name it are looked at, and those that may name it then are answered, so that catch-up looks at no other. The row stays where it is: only the one
+// entry that a message asks for is handed on.
 fn strike(
     stations: &mut [u64],
     messages: &[u64],
@@ -173,13 +178,15 @@ fn strike(
     cart: CartNumber,
     naming: u64,
     row: [u64; 16],
-)
+) -> u64
     requires { ⌜ Covers (stationsIn (now stations)) (station .0) (cart .0) naming ⌝ }
     requires { ⌜ HasStation (now stations) (station .0) × HasRooms (now messages) × (station .0 < 16) × (cart .0 < 64) ⌝ }
     ensures { λ _. ⌜ stationsIn (now (stations .exit)) ≡ struckFrom (stationsIn (now (stations .entry))) (roomsIn (now (messages .entry))) (station .0) (cart .0) row ⌝ }
     ensures { λ _. ⌜ headIn (now (stations .exit)) ≡ headIn (now (stations .entry)) ⌝ }
     ensures { λ _. ⌜ length (now (stations .exit)) ≡ length (now (stations .entry)) ⌝ }
+    ensures { λ r. ⌜ Covers (stationsIn (now (stations .exit))) (station .0) (cart .0) r ⌝ }
 {
+    let mut ahead = naming;
     let mut left = naming;
     while 0 < left {
         let m = cartset::first(left) as usize;
@@ -187,7 +194,7 @@ fn strike(
         let initiator = passes_by(stations, messages, station, cart, m);
         let s = initiator as usize;
         if s < INITIATORS {
-            strike_from(
+            ahead = strike_from(
                 stations,
                 messages,
                 station,
@@ -195,9 +202,11 @@ fn strike(
                 Station(initiator),
                 row[s],
                 m,
+                ahead,
             );
         }
     }
+    ahead
 }
 
 // The cart is queued for each nearest message, and is on the station's local list.
@@ -233,11 +242,11 @@ fn dock(
     ensures { λ r. ⌜ Docked (now (stations .entry)) (now (stations .exit)) (now (messages .entry)) (station .0) (cart .0) row (r .row) (r .passed) ⌝ }
 {
     let naming = stations::rooms_naming(stations, station, cart);
-    strike(stations, messages, station, cart, naming, row);
-    let stopped = catchup::stops_of(stations, messages, station, cart, naming, row);
+    let ahead = strike(stations, messages, station, cart, naming, row);
+    let stopped = catchup::stops_of(stations, messages, station, cart, ahead, row);
     let nearest = stopped.nearest;
     let upto = stopped.upto;
-    join(stations, messages, station, cart, naming, nearest);
+    join(stations, messages, station, cart, ahead, nearest);
     Caught {
         row: upto,
         passed: catchup::passed_over(row, upto),

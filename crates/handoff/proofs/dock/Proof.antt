@@ -1,25 +1,16 @@
 -- `handoff::dock` meets its contract.
 use mathlib.Core.Path.{refl, _∙_}
+use native.Mathlib.Omega.{arith}
 use borrow.Author.Needs.{needs}
 use Rattle.stations.specs.View.{stationsIn}
 use Rattle.messages.specs.View.{roomsIn}
 use Rattle.queue.specs.Rooms.{tablesFloor}
-use Rattle.catchup.specs.Naming.{Covers}
 use Rattle.catchup.proofs.NamingLaws.{naming-covers}
 use Rattle.catchup.proofs.RowLaws.{rises-little, rise-is}
 use Rattle.catchup.proofs.AllAtOnce.{own-rooms}
 use Rattle.handoff.proofs.RiseLaws.{few-still}
-use Rattle.handoff.proofs.RoomByRoom.{struck-covers}
 use Rattle.handoff.proofs.dock.Statement.{statement}
 use Rattle.handoff.proofs.dock.Tie as tie
-
--- once the cart is struck, the rooms that named it still cover those that do
-covers : (c : tie.After-strike) → Covers (stationsIn (c .strike .last .0)) (c .before .before .before .before .before .before .args .station .0) (c .before .before .before .before .before .before .args .cart .0) (c .before .before .rooms-naming .result)
-covers c =
-    let a = c .before .before .before .before .before .before .args in
-    let n = c .before .before .rooms-naming in
-    let all = naming-covers (a .stations .now) (a .station .0) (a .cart .0) (n .result) (n .ensures) in
-    struck-covers (stationsIn (a .stations .now)) (roomsIn (a .messages .now)) (a .station .0) (a .cart .0) (a .row) (n .result) all (c .strike .ensures .0)
 
 rooms-naming-requires : tie.Need-rooms-naming-requires
 rooms-naming-requires c κs = search needs
@@ -31,15 +22,18 @@ strike-requires c κs =
     (naming-covers (a .stations .now) (a .station .0) (a .cart .0) (n .result) (n .ensures), search needs)
 
 stops-of-requires : tie.Need-stops-of-requires
-stops-of-requires c κs = (covers (c .before .before .before), search needs)
+stops-of-requires c κs = search needs
 
 join-requires : tie.Need-join-requires
 join-requires c κs =
-    let a = c .before .before .before .before .before .before .before .before .before .before .before .before .before .args in
-    let S = c .before .before .before .before .before .before .before .strike .last .0 in
-    let s = c .before .before .before .stops-of in (
-      own-rooms (tablesFloor S (a .messages .now)) (a .station .0) (a .cart .0) (a .row) (s .result .nearest) (s .ensures .0) (roomsIn (a .messages .now)) (stationsIn S) (c .before .before .before .before .before .before .before .before .before .rooms-naming .result) refl refl (covers (c .before .before .before .before .before .before .before)),
-      search needs,
+    let o = c .before .before .before in
+    let k = o .before .before .before .before in
+    let b = k .before .before .before .before .before .before in
+    let a = b .args in
+    let S = k .strike .last .0 in
+    let s = o .stops-of in (
+      own-rooms (tablesFloor S (a .messages .now)) (a .station .0) (a .cart .0) (a .row) (s .result .nearest) (s .ensures .0) (roomsIn (a .messages .now)) (stationsIn S) (k .strike .result) refl refl (k .strike .ensures .1 .1 .1),
+      (omega (arith, b .pre .0 .0, k .strike .ensures .1 .1 .0), b .pre .0 .1, b .pre .0 .3),
     )
 
 passed-over-requires : tie.Need-passed-over-requires
@@ -67,7 +61,7 @@ returns c =
       is-nearest = s .ensures .0;
       stations = j .ensures .0;
       head = j .ensures .1 .0 ∙ k .ensures .1 .0;
-      table = j .ensures .1 .1 ∙ k .ensures .1 .1;
+      table = j .ensures .1 .1 ∙ k .ensures .1 .1 .0;
       caught-up = s .ensures .1;
       count = rise-is (tablesFloor (k .last .0) (a .messages .now)) (a .station .0) (a .cart .0) (a .row) (s .result .nearest) (s .ensures .0) (s .result .upto) (s .ensures .1) (p .result) (p .ensures);
     }

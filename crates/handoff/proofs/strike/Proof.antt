@@ -7,21 +7,23 @@ use borrow.Author.Needs.{needs}
 use Rattle.cartset.proofs.Walk.{Ahead, ahead-start, ahead-turn}
 use Rattle.stations.specs.View.{stationsIn, headIn}
 use Rattle.messages.specs.View.{roomsIn}
+use Rattle.catchup.specs.Naming.{Covers}
 use Rattle.handoff.proofs.RoomByRoom.{struckTo, strike-none, strike-by, strike-kept, strike-skips, strike-all}
 use Rattle.handoff.proofs.strike.Statement.{statement}
 use Rattle.handoff.proofs.strike.Tie as tie
 
--- the walk over the rooms that may name the cart has come to room k, and the cart is struck in the rooms before it
+-- the walk over the rooms that may name the cart has come to room k, and the cart is struck in the rooms before it; those ahead may name it still
 abbrev Inv-loop : tie.InvT-loop
-Inv-loop stations₀ messages station cart naming row left₀ stations left =
+Inv-loop stations₀ messages station cart naming row ahead₀ left₀ stations ahead left =
     (k : ℕ)
     × Ahead 32 naming left k
     × (length stations ≡ length stations₀)
     × (headIn stations ≡ headIn stations₀)
     × (stationsIn stations ≡ struckTo (stationsIn stations₀) (roomsIn messages) (station .0) (cart .0) row k)
+    × Covers (stationsIn stations) (station .0) (cart .0) ahead
 
 abbrev μ-loop : tie.MeasureT-loop
-μ-loop stations₀ messages station cart naming row left₀ stations left = left
+μ-loop stations₀ messages station cart naming row ahead₀ left₀ stations ahead left = left
 
 loop-holds : tie.Need-loop-holds Inv-loop μ-loop
 loop-holds c =
@@ -31,6 +33,7 @@ loop-holds c =
       refl,
       refl,
       strike-none (stationsIn (a .stations .now)) (roomsIn (a .messages .now)) (a .station .0) (a .cart .0) (a .t6),
+      c .before .before .pre .0,
     )
 
 first-requires : tie.Need-first-requires Inv-loop μ-loop
@@ -66,7 +69,7 @@ strike-from-requires c κs =
     let turn = ahead-turn 32 (a .naming) (l .left) (l .inv .0) m (l .inv .1) (omega arith) (f .ensures) (w .result) (w .ensures m (f .ensures)) in
     let i = turn .inside in
     let is = c .before .before .passes-by .ensures .there (c .before .if1 .taken) in
-    search needs
+    (search needs, (is, l .inv .5))
 
 loop-less : tie.Need-loop-less Inv-loop μ-loop
 loop-less c =
@@ -94,9 +97,10 @@ loop-again c =
     let k = c .before .before .strike-from in (
       m + 1,
       turn .ahead,
-      k .ensures .1 .1 ∙ l .inv .2,
+      k .ensures .1 .1 .0 ∙ l .inv .2,
       k .ensures .1 .0 ∙ l .inv .3,
       strike-by S R t (a .cart .0) (a .t6) m (b .result) come (b .ensures .there (c .before .before .before .before .if1 .taken)) (k .ensures .0),
+      k .ensures .1 .1 .1,
     )
 
 loop-less-2 : tie.Need-loop-less-2 Inv-loop μ-loop
@@ -122,7 +126,7 @@ loop-again-2 c =
     let t = a .station .0 in
     let b = c .before .passes-by in
     let come = strike-skips S R t (a .cart .0) (a .t6) (a .naming) (c .before .before .before .before .before .before .before .before .before .pre .0 .others) (l .inv .0) (l .inv .4) (l .left) m (l .inv .1) (omega arith) (f .ensures) in
-    (m + 1, turn .ahead, l .inv .2, l .inv .3, strike-kept S R t (a .cart .0) (a .t6) m come (b .ensures .nowhere (c .if1 .left) (a .t6)) refl)
+    (m + 1, turn .ahead, l .inv .2, l .inv .3, strike-kept S R t (a .cart .0) (a .t6) m come (b .ensures .nowhere (c .if1 .left) (a .t6)) refl, l .inv .5)
 
 same-length : tie.Need-same-length Inv-loop μ-loop
 same-length c = search needs
@@ -134,7 +138,7 @@ returns c =
     let none : l .left ≡ 0 = omega arith in
     let A : Ahead 32 (a .naming) 0 (l .inv .0) = rw none at (l .inv .1) in (
       strike-all (stationsIn (a .stations .now)) (roomsIn (a .messages .now)) (a .station .0) (a .cart .0) (a .t6) (a .naming) (c .before .before .before .before .pre .0 .others) (l .inv .0) (l .inv .4) A,
-      (l .inv .3, l .inv .2),
+      (l .inv .3, (l .inv .2, l .inv .5)),
     )
 
 pub strike-spec : {M : Type 1} → statement M

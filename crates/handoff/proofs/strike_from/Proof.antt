@@ -1,10 +1,12 @@
 -- `handoff::strike_from` meets its contract.
-use mathlib.Core.Path.{refl}
+use mathlib.Core.Path.{refl, ap, _∙_}
+use Prim.Native.Nat.{ℕ}
 use borrow.Author.Needs.{needs}
 use borrow.Author.Tests.{not-true, not-false}
+use Rattle.protocol.specs.CartSets.{without}
 use Rattle.stations.specs.View.{stationsIn}
 use Rattle.messages.specs.View.{roomsIn}
-use Rattle.handoff.proofs.PassedLaws.{is-struck, is-kept}
+use Rattle.handoff.proofs.PassedLaws.{is-struck, is-kept, struck-covers}
 use Rattle.handoff.proofs.strike_from.Statement.{statement}
 use Rattle.handoff.proofs.strike_from.Tie as tie
 
@@ -17,10 +19,11 @@ same-length c = search needs
 -- nothing is written
 returns : tie.Need-returns
 returns c =
-    let a = c .before .before .before .before .before .args in
+    let s = c .before .before .before .before .before in
+    let a = s .args in
     let p = c .before .is-passed in (
       is-kept (stationsIn (a .stations .now)) (roomsIn (a .messages .now)) (a .station .0) (a .cart .0) (a .m) (a .next) (p .result) (p .ensures) (not-true _ (c .if1 .taken)),
-      (refl, refl),
+      (refl, (refl, s .pre .1 .1)),
     )
 
 copy-of-requires : tie.Need-copy-of-requires
@@ -35,16 +38,26 @@ put-copy-requires c κs = search needs
 same-length-2 : tie.Need-same-length-2
 same-length-2 c = search needs
 
+without-cart-requires-2 : tie.Need-without-cart-requires-2
+without-cart-requires-2 c κs = search needs
+
 returns-2 : tie.Need-returns-2
 returns-2 c =
-    let a = c .before .before .before .before .before .before .before .before .before .before .before .before .args in
-    let p = c .before .before .before .before .before .before .before .before .is-passed in
-    let k = c .before .before .before .before .before .copy-of in
-    let w = c .before .before .before .before .without-cart in
-    let put = c .before .before .put-copy in (
-      is-struck (stationsIn (a .stations .now)) (roomsIn (a .messages .now)) (a .station .0) (a .cart .0) (a .m) (a .next) (k .result) (w .result) (p .result)
-          (p .ensures) (not-false _ (c .before .before .before .before .before .before .before .if1 .left)) (k .ensures) (w .ensures) (put .ensures .0),
-      put .ensures .1,
+    let q = c .before .before .before in
+    let k = q .before .before .before in
+    let e = k .before .before in
+    let p = e .before in
+    let s = p .before .before .before .before in
+    let a = s .args in
+    let S = stationsIn (a .stations .now) in
+    let w = q .before .before .without-cart in
+    let put = q .put-copy .ensures in (
+      is-struck S (roomsIn (a .messages .now)) (a .station .0) (a .cart .0) (a .m) (a .next) (k .copy-of .result) (w .result) (p .is-passed .result) (p .is-passed .ensures)
+          (not-false _ (e .if1 .left)) (k .copy-of .ensures) (w .ensures) (put .0),
+      (
+        put .1 .0,
+        (put .1 .1, struck-covers S (a .station .0) (a .cart .0) (a .m) (a .naming) (w .result) _ (s .pre .1 .1) (w .ensures ∙ ap (λ (x : ℕ). without x (a .cart .0)) (k .copy-of .ensures)) (put .0) (c .without-cart2 .ensures)),
+      ),
     )
 
 pub strike-from-spec : {M : Type 1} → statement M
@@ -57,5 +70,6 @@ strike-from-spec =
     copy-of-requires
     without-cart-requires
     put-copy-requires
+    without-cart-requires-2
     same-length-2
     returns-2)
