@@ -1,6 +1,7 @@
 -- The ways through the test whether a message would stop the cart.
-use mathlib.Core.Path.{_≡_, ap, sym, _∙_}
+use mathlib.Core.Path.{_≡_, refl, ap, sym, _∙_}
 use mathlib.Core.Bool.{Bool, true, false, not}
+use mathlib.Core.List.{List}
 use Prim.Native.Nat.{ℕ, _<_, _≤_}
 use native.Mathlib.Omega.{arith}
 use lib.Dec.{eqb, ltb, leb}
@@ -8,10 +9,14 @@ use borrow.Author.Tests.{ltb-true, le-leb, lt-leb, lt-ltb, le-ltb, eqb-false, le
 use Rattle.protocol.specs.CartSets.{has}
 use Rattle.protocol.specs.Floor.{Floor}
 use Rattle.protocol.proofs.Tests.{by-test, clash, and-left, and-right, and-intro, and-false, same-test}
-use Rattle.messages.specs.View.{Rooms}
+use Rattle.stations.specs.View.{stationsIn}
+use Rattle.messages.specs.View.{Rooms, roomsIn}
+use Rattle.queue.specs.Rooms.{tablesFloor}
+use Rattle.catchup.specs.Naming.{namedBy}
 use Rattle.catchup.specs.Nearest.{wouldStop}
 use Rattle.catchup.specs.Arrival.{stopsBefore}
 use Rattle.catchup.proofs.ClosedForm.{would, would-intro}
+use Rattle.catchup.proofs.NamingLaws.{by-none}
 
 module _ (F : Floor) (t c s x m : ℕ) where
   refused : (wouldStop F t c s x m ≡ true → ⊥) → false ≡ wouldStop F t c s x m
@@ -80,3 +85,10 @@ module _ (R : Rooms) (t m x u n : ℕ) (is-number : n ≡ R .number m) where
 
   pub by-waiting : (w : ℕ) (b : Bool) → n < u → x ≤ n → w ≡ R .waiting m → b ≡ has w t → b ≡ stopsBefore R t m x u
   by-waiting w b low far ew eb = rw (lt-ltb (R .number m) u (omega arith), le-leb x (R .number m) (omega arith)) (eb ∙ ap (λ (k : ℕ). has k t) ew)
+
+-- a message that is about none of sixteen initiators' numbers stops the cart nowhere
+pub stops-nowhere : (S M : List ℕ) (t c m i : ℕ) → i ≡ namedBy (stationsIn S) (roomsIn M) t c m → 16 ≤ i → (s x : ℕ) → s < 16 → wouldStop (tablesFloor S M) t c s x m ≡ false
+stops-nowhere S M t c m i e h s x l =
+    by-none (stationsIn S) (roomsIn M) t c m i e h
+    (λ n. sym (not-in-copy (tablesFloor S M) t c s x m (stationsIn S .copy m t) (has (stationsIn S .copy m t) c) refl refl n))
+    (λ q. other-initiator (tablesFloor S M) t c s x m (λ z. omega (arith, h, l, q, z)))

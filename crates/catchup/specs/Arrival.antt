@@ -14,12 +14,6 @@ use Rattle.messages.specs.View.{Rooms}
 use Rattle.queue.specs.Rooms.{roomCode, roomIn}
 use Rattle.catchup.specs.Nearest.{wouldStop, nearestAmong, stopBy}
 
--- the message in room m can stop cart c at t, if at all, only among the numbers of initiator i; with an i of 16 or more, nowhere
-pub record CanStop (F : Floor) (t c m i : ℕ) : Type 0 where
-  pub there : i < 16 → i ≡ F .initiator m
-  pub named : i < 16 → has (F .copy m t) c ≡ true
-  pub nowhere : 16 ≤ i → (s x : ℕ) → s < 16 → wouldStop F t c s x m ≡ false
-
 -- does the message in room m, which names the cart, stop it at t from x on and before u
 abbrev pub stopsBefore : Rooms → ℕ → ℕ → ℕ → ℕ → Bool
 stopsBefore R t m x u = (ltb (R .number m) u && leb x (R .number m)) && has (R .waiting m) t

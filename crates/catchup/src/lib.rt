@@ -11,9 +11,9 @@ ghost use Rattle.protocol.specs.Folds.{listOf};
 ghost use Rattle.stations.specs.View.{initiators, rooms, HasStation, stationsIn, headIn};
 ghost use Rattle.messages.specs.View.{roomsIn};
 ghost use Rattle.queue.specs.Rooms.{tablesFloor, HasRooms, roomCode, roomIn};
-ghost use Rattle.catchup.specs.Naming.{Covers};
+ghost use Rattle.catchup.specs.Naming.{Covers, namedBy};
 ghost use Rattle.catchup.specs.Nearest.{wouldStop, nearerWith, nearestAmong, stopBy};
-ghost use Rattle.catchup.specs.Arrival.{CanStop, stopsBefore, levelIn, nearestRow, stopIn, Rises, rise, isFound, occurs, OwnRooms, queuedFor};
+ghost use Rattle.catchup.specs.Arrival.{stopsBefore, levelIn, nearestRow, stopIn, Rises, rise, isFound, occurs, OwnRooms, queuedFor};
 
 // "Stations 1 to 16": as many initiators.
 const INITIATORS: usize = 16;
@@ -110,8 +110,9 @@ pub fn nearest_of(
     nearest
 }
 
-// Whose next number the message in room m can stop: its initiator's where its copy names the cart, and else none, which is 16.
-fn initiator_for(
+// Whose next number the message in room m is about: its initiator's where its copy names the cart, and else nobody's, which is 16. Most copies do
+// not, so this is asked before anything else.
+pub fn initiator_for(
     stations: &[u64],
     messages: &[u64],
     station: Station,
@@ -119,7 +120,7 @@ fn initiator_for(
     m: usize,
 ) -> u64
     requires { ⌜ HasStation (now stations) (station .0) × HasRooms (now messages) × (cart .0 < 64) × (m < rooms) ⌝ }
-    ensures { λ r. ⌜ CanStop (tablesFloor (now (stations .entry)) (now (messages .entry))) (station .0) (cart .0) m r ⌝ }
+    ensures { λ r. ⌜ r ≡ namedBy (stationsIn (now (stations .entry))) (roomsIn (now (messages .entry))) (station .0) (cart .0) m ⌝ }
 {
     if cartset::has(stations::copy_of(stations, m, station), cart.0) {
         return messages::initiator_of(messages, m).0;

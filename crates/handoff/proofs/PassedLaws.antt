@@ -11,9 +11,11 @@ use Rattle.protocol.specs.CartSets.{has, without}
 use Rattle.protocol.specs.Folds.{update2}
 use Rattle.protocol.proofs.Tests.{and-left, and-second-false, and-false, by-test, eqb-self, on-cond, on-update2}
 use Rattle.protocol.proofs.SetLaws.{same-members, without-lt, has-without}
-use Rattle.stations.specs.View.{Stations, rooms, withCopy}
+use Rattle.stations.specs.View.{Stations, rooms, stationsIn, withCopy}
+use Rattle.stations.proofs.TableLaws.{expected-beyond}
 use Rattle.messages.specs.View.{Rooms}
-use Rattle.catchup.specs.Naming.{Covers}
+use Rattle.catchup.specs.Naming.{Covers, namedBy}
+use Rattle.catchup.proofs.NamingLaws.{by-none}
 use Rattle.handoff.specs.Struck.{withCopies, isBelow, isPassed, struckCopy, struckIn}
 
 module _ (S : Stations) (R : Rooms) (t m x : ℕ) where
@@ -60,10 +62,18 @@ module _ (S : Stations) (R : Rooms) (t : ℕ) (row : List ℕ) (m : ℕ) where
       (λ e. without-absent (S .copy m t) c (ap (λ (z : ℕ). has z c) (sym ek) ∙ sym eb ∙ n)) (λ e. refl)
 
   -- nothing is expected of an initiator that there is not
-  pub from-nobody : (c i : ℕ) → i ≡ R .initiator m → S .expected t i ≡ 0 → struckCopy S R t c row m (S .copy m t) ≡ S .copy m t
+  from-nobody : (c i : ℕ) → i ≡ R .initiator m → S .expected t i ≡ 0 → struckCopy S R t c row m (S .copy m t) ≡ S .copy m t
   from-nobody c i e z =
       rw (and-second-false (has (R .waiting m) t) (ltb (R .number m) (S .expected t (R .initiator m)))
       (le-ltb (R .number m) (S .expected t (R .initiator m)) (let y : S .expected t (R .initiator m) ≡ 0 = rw e at z in omega arith)))
+
+-- a message that is about none of sixteen initiators' numbers: nothing is struck from its copy
+pub passed-nowhere : (l : List ℕ) (R : Rooms) (t c m i : ℕ) (row : List ℕ) → i ≡ namedBy (stationsIn l) R t c m → 16 ≤ i
+    → struckCopy (stationsIn l) R t c row m (stationsIn l .copy m t) ≡ stationsIn l .copy m t
+passed-nowhere l R t c m i row e h =
+    by-none (stationsIn l) R t c m i e h
+    (λ n. not-named (stationsIn l) R t row m c (stationsIn l .copy m t) (has (stationsIn l .copy m t) c) refl refl n)
+    (λ q. from-nobody (stationsIn l) R t row m c i q (expected-beyond l t i h))
 
 -- ONE COPY WRITTEN, OR NONE
 pub same-entry : (g : ℕ → ℕ → ℕ) (m t : ℕ) → g ≡ update2 g m t (g m t)

@@ -1,8 +1,7 @@
 -- A CART STRUCK FROM COPIES.
-use mathlib.Core.Path.{_≡_}
 use mathlib.Core.Bool.{Bool, cond, _&&_}
 use mathlib.Core.List.{List}
-use Prim.Native.Nat.{ℕ, _<_, _≤_}
+use Prim.Native.Nat.{ℕ}
 use lib.Dec.{eqb, ltb}
 use Rattle.protocol.specs.CartSets.{has, without}
 use Rattle.protocol.specs.Handoff.{entryOf}
@@ -28,11 +27,6 @@ struckCopy S R t c row m x = cond (isPassed S R t row m) (without x c) x
 -- cart c is struck from the copy in room m at station t if that message is buffered there with a number below x
 abbrev pub struckIn : Stations → Rooms → ℕ → ℕ → ℕ → ℕ → Stations
 struckIn S R t c m x = withCopy S m t (cond (isBelow S R t m x) (without (S .copy m t) c) (S .copy m t))
-
--- whether cart c is struck from the copy in room m at station t goes by its next number for initiator i; with an i of 16 or more, it is not
-pub record PassesBy (S : Stations) (R : Rooms) (t c m i : ℕ) : Type 0 where
-  pub there : i < 16 → i ≡ R .initiator m
-  pub nowhere : 16 ≤ i → (row : List ℕ) → struckCopy S R t c row m (S .copy m t) ≡ S .copy m t
 
 -- "from each buffered copy naming the cart with a number below the cart's next number, the cart is struck": cart c with that row, at station t
 abbrev pub struckFrom : Stations → Rooms → ℕ → ℕ → List ℕ → Stations

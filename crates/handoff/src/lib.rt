@@ -19,7 +19,7 @@ ghost use Rattle.catchup.specs.Naming.{Covers};
 ghost use Rattle.catchup.specs.Arrival.{OwnRooms};
 ghost use Rattle.handoff.specs.Moved.{Moved};
 ghost use Rattle.handoff.specs.Left.{unqueued, left, Left};
-ghost use Rattle.handoff.specs.Struck.{isBelow, struckIn, PassesBy, struckFrom};
+ghost use Rattle.handoff.specs.Struck.{isBelow, struckIn, struckFrom};
 ghost use Rattle.handoff.specs.Arrived.{allZero, joined, Docked, Arrived};
 
 // "Stations 1 to 16": as many initiators.
@@ -100,24 +100,6 @@ pub fn on_deregister(
     );
 }
 
-// Whose next number says whether the cart is past the message in room m: its initiator's where "the buffered copy" names the cart, and else
-// nobody's, which is 16. Most copies do not, so this is asked before anything else.
-fn passes_by(
-    stations: &[u64],
-    messages: &[u64],
-    station: Station,
-    cart: CartNumber,
-    m: usize,
-) -> u64
-    requires { ⌜ HasStation (now stations) (station .0) × HasRooms (now messages) × (cart .0 < 64) × (m < rooms) ⌝ }
-    ensures { λ r. ⌜ PassesBy (stationsIn (now (stations .entry))) (roomsIn (now (messages .entry))) (station .0) (cart .0) m r ⌝ }
-{
-    if cartset::has(stations::copy_of(stations, m, station), cart.0) {
-        return messages::initiator_of(messages, m).0;
-    }
-    INITIATORS as u64
-}
-
 // Is the message in room m, of that initiator, buffered at the station, "with a number below the cart's next number"?
 fn is_passed(
     stations: &[u64],
@@ -191,7 +173,7 @@ fn strike(
     while 0 < left {
         let m = cartset::first(left) as usize;
         left = cartset::without_first(left);
-        let initiator = passes_by(stations, messages, station, cart, m);
+        let initiator = catchup::initiator_for(stations, messages, station, cart, m);
         let s = initiator as usize;
         if s < INITIATORS {
             ahead = strike_from(

@@ -5,7 +5,11 @@ use native.Mathlib.Omega.{arith}
 use borrow.Author.Needs.{needs}
 use Rattle.cartset.proofs.Walk.{Ahead, Turn, ahead-start, ahead-turn, ahead-end}
 use Rattle.protocol.specs.Floor.{Floor}
+use Rattle.stations.specs.View.{stationsIn}
+use Rattle.messages.specs.View.{roomsIn}
 use Rattle.queue.specs.Rooms.{tablesFloor}
+use Rattle.catchup.proofs.NamingLaws.{by-initiator}
+use Rattle.catchup.proofs.StopLaws.{stops-nowhere}
 use Rattle.catchup.proofs.OnePass.{Known, known-start, known-skips, known-nowhere, known-later, known-sooner, known-all}
 use Rattle.catchup.proofs.stops_of.Statement.{statement}
 use Rattle.catchup.proofs.stops_of.Tie as tie
@@ -101,11 +105,12 @@ loop-again c =
     let m = c .before .before .before .before .before .before .first .result in
     let i = c .before .before .before .before .initiator-for in
     let low = c .before .before .before .if1 .taken in
+    let is = by-initiator (stationsIn (a .stations .now)) (roomsIn (a .messages .now)) (a .station .0) (a .cart .0) m (i .result) (i .ensures) low in
     let b = c .before .before .stops-before in
     let n = c .number-of in (
       m + 1,
       turn (c .before .before .before .before .before) .ahead,
-      known-sooner (floor (c .before .before .before .before .before .before .before .before .before .before .before .before)) (a .station .0) (a .cart .0) (a .t6) (l .upto) (l .nearest) m (known (c .before .before .before .before .before)) (i .result) (i .ensures .there low) low (i .ensures .named low) (b .result) (b .ensures) (n .result .0) (c .before .if2 .taken) (n .ensures),
+      known-sooner (floor (c .before .before .before .before .before .before .before .before .before .before .before .before)) (a .station .0) (a .cart .0) (a .t6) (l .upto) (l .nearest) m (known (c .before .before .before .before .before)) (i .result) (is .0) low (is .1) (b .result) (b .ensures) (n .result .0) (c .before .if2 .taken) (n .ensures),
     )
 
 loop-less-2 : tie.Need-loop-less-2 Inv-loop μ-loop
@@ -118,10 +123,11 @@ loop-again-2 c =
     let m = c .before .before .before .before .before .first .result in
     let i = c .before .before .before .initiator-for in
     let low = c .before .before .if1 .taken in
+    let is = by-initiator (stationsIn (a .stations .now)) (roomsIn (a .messages .now)) (a .station .0) (a .cart .0) m (i .result) (i .ensures) low in
     let b = c .before .stops-before in (
       m + 1,
       turn (c .before .before .before .before) .ahead,
-      known-later (floor (c .before .before .before .before .before .before .before .before .before .before .before)) (a .station .0) (a .cart .0) (a .t6) (l .upto) (l .nearest) m (known (c .before .before .before .before)) (i .result) (i .ensures .there low) low (i .ensures .named low) (b .result) (b .ensures) (c .if2 .left),
+      known-later (floor (c .before .before .before .before .before .before .before .before .before .before .before)) (a .station .0) (a .cart .0) (a .t6) (l .upto) (l .nearest) m (known (c .before .before .before .before)) (i .result) (is .0) low (is .1) (b .result) (b .ensures) (c .if2 .left),
     )
 
 loop-less-3 : tie.Need-loop-less-3 Inv-loop μ-loop
@@ -132,7 +138,7 @@ loop-again-3 c =
     let a = c .before .before .before .before .before .before .before .before .before .args in
     let l = c .before .before .before .before .before .loop in
     let m = c .before .before .before .first .result in
-    (m + 1, turn (c .before .before) .ahead, known-nowhere (floor (c .before .before .before .before .before .before .before .before .before)) (a .station .0) (a .cart .0) (a .t6) (l .upto) (l .nearest) m (known (c .before .before)) (c .before .initiator-for .ensures .nowhere (c .if1 .left)))
+    (m + 1, turn (c .before .before) .ahead, known-nowhere (floor (c .before .before .before .before .before .before .before .before .before)) (a .station .0) (a .cart .0) (a .t6) (l .upto) (l .nearest) m (known (c .before .before)) (stops-nowhere (a .stations .now) (a .messages .now) (a .station .0) (a .cart .0) m (c .before .initiator-for .result) (c .before .initiator-for .ensures) (c .if1 .left)))
 
 returns : tie.Need-returns Inv-loop μ-loop
 returns c =

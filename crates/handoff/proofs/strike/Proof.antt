@@ -8,6 +8,8 @@ use Rattle.cartset.proofs.Walk.{Ahead, ahead-start, ahead-turn}
 use Rattle.stations.specs.View.{stationsIn, headIn}
 use Rattle.messages.specs.View.{roomsIn}
 use Rattle.catchup.specs.Naming.{Covers}
+use Rattle.catchup.proofs.NamingLaws.{by-initiator}
+use Rattle.handoff.proofs.PassedLaws.{passed-nowhere}
 use Rattle.handoff.proofs.RoomByRoom.{struckTo, strike-none, strike-by, strike-kept, strike-skips, strike-all}
 use Rattle.handoff.proofs.strike.Statement.{statement}
 use Rattle.handoff.proofs.strike.Tie as tie
@@ -42,8 +44,8 @@ first-requires c κs = search needs
 without-first-requires : tie.Need-without-first-requires Inv-loop μ-loop
 without-first-requires c κs = search needs
 
-passes-by-requires : tie.Need-passes-by-requires Inv-loop μ-loop
-passes-by-requires c κs =
+initiator-for-requires : tie.Need-initiator-for-requires Inv-loop μ-loop
+initiator-for-requires c κs =
     let a = c .before .before .before .before .before .before .before .args in
     let l = c .before .before .before .before .loop in
     let f = c .before .before .first in
@@ -68,7 +70,7 @@ strike-from-requires c κs =
     let m = f .result in
     let turn = ahead-turn 32 (a .naming) (l .left) (l .inv .0) m (l .inv .1) (omega arith) (f .ensures) (w .result) (w .ensures m (f .ensures)) in
     let i = turn .inside in
-    let is = c .before .before .passes-by .ensures .there (c .before .if1 .taken) in
+    let is = by-initiator (stationsIn (l .stations)) (roomsIn (a .messages .now)) (a .station .0) (a .cart .0) m _ (c .before .before .initiator-for .ensures) (c .before .if1 .taken) .0 in
     (search needs, (is, l .inv .5))
 
 loop-less : tie.Need-loop-less Inv-loop μ-loop
@@ -92,14 +94,14 @@ loop-again c =
     let S = stationsIn (a .stations .now) in
     let R = roomsIn (a .messages .now) in
     let t = a .station .0 in
-    let b = c .before .before .before .before .before .passes-by in
+    let b = c .before .before .before .before .before .initiator-for in
     let come = strike-skips S R t (a .cart .0) (a .t6) (a .naming) (c .before .before .before .before .before .before .before .before .before .before .before .before .before .pre .0 .others) (l .inv .0) (l .inv .4) (l .left) m (l .inv .1) (omega arith) (f .ensures) in
     let k = c .before .before .strike-from in (
       m + 1,
       turn .ahead,
       k .ensures .1 .1 .0 ∙ l .inv .2,
       k .ensures .1 .0 ∙ l .inv .3,
-      strike-by S R t (a .cart .0) (a .t6) m (b .result) come (b .ensures .there (c .before .before .before .before .if1 .taken)) (k .ensures .0),
+      strike-by S R t (a .cart .0) (a .t6) m (b .result) come (by-initiator (stationsIn (l .stations)) R t (a .cart .0) m (b .result) (b .ensures) (c .before .before .before .before .if1 .taken) .0) (k .ensures .0),
       k .ensures .1 .1 .1,
     )
 
@@ -124,9 +126,9 @@ loop-again-2 c =
     let S = stationsIn (a .stations .now) in
     let R = roomsIn (a .messages .now) in
     let t = a .station .0 in
-    let b = c .before .passes-by in
+    let b = c .before .initiator-for in
     let come = strike-skips S R t (a .cart .0) (a .t6) (a .naming) (c .before .before .before .before .before .before .before .before .before .pre .0 .others) (l .inv .0) (l .inv .4) (l .left) m (l .inv .1) (omega arith) (f .ensures) in
-    (m + 1, turn .ahead, l .inv .2, l .inv .3, strike-kept S R t (a .cart .0) (a .t6) m come (b .ensures .nowhere (c .if1 .left) (a .t6)) refl, l .inv .5)
+    (m + 1, turn .ahead, l .inv .2, l .inv .3, strike-kept S R t (a .cart .0) (a .t6) m come (passed-nowhere (l .stations) R t (a .cart .0) m (b .result) (a .t6) (b .ensures) (c .if1 .left)) refl, l .inv .5)
 
 same-length : tie.Need-same-length Inv-loop μ-loop
 same-length c = search needs
@@ -150,7 +152,7 @@ strike-spec =
     loop-holds
     first-requires
     without-first-requires
-    passes-by-requires
+    initiator-for-requires
     mul-strike-from
     array-read-strike-from
     strike-from-requires
