@@ -12,7 +12,7 @@ use Rattle.protocol.specs.Floor.{Floor}
 use Rattle.stations.specs.View.{Stations, rooms}
 use Rattle.messages.specs.View.{Rooms}
 use Rattle.queue.specs.Rooms.{roomCode, roomIn}
-use Rattle.catchup.specs.Nearest.{wouldStop, nearestAmong, stopBy}
+use Rattle.catchup.specs.Nearest.{nearestAmong, stopBy}
 
 -- does the message in room m, which names the cart, stop it at t from x on and before u
 abbrev pub stopsBefore : Rooms → ℕ → ℕ → ℕ → ℕ → Bool

@@ -110,8 +110,7 @@ pub fn nearest_of(
     nearest
 }
 
-// Whose next number the message in room m is about: its initiator's where its copy names the cart, and else nobody's, which is 16. Most copies do
-// not, so this is asked before anything else.
+// Whose next number the message in room m is about: its initiator's where its copy names the cart, and else nobody's, which is 16.
 pub fn initiator_for(
     stations: &[u64],
     messages: &[u64],

@@ -1,15 +1,15 @@
 -- A RADIO EVENT AND ITS BUFFER: "writes the text at the front of the lent buffer and leaves the rest".
-use mathlib.Core.Path.{_≡_, refl, sym, ap, _∙_, subst}
+use mathlib.Core.Path.{_≡_, sym, ap, _∙_, subst}
 use mathlib.Core.Bool.{true}
 use mathlib.Core.List.{List, [], _∷_, _++_}
-use Prim.Native.Nat.{ℕ, _≤_, _<_}
+use Prim.Native.Nat.{ℕ, _≤_}
 use native.Mathlib.Omega.{arith}
 use lib.ListN.{length, take, drop}
 use lib.Seq.{take-length, take-append-le}
 use denote.Enum.Declared.{tagOf}
 use types.Run.{OneOf}
 use Rattle.protocol.specs.Floor.{limits}
-use Rattle.protocol.specs.Events.{Event, Answer, refused, accepted, bufferAfter}
+use Rattle.protocol.specs.Events.{Event, Answer, refused, bufferAfter}
 use Rattle.protocol.specs.Form.{passesForm}
 use Rattle.protocol.specs.Step.{answer}
 use Rattle.messages.specs.Texts.{HasText, longest, textIn}

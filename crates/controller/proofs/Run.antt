@@ -1,10 +1,10 @@
 -- A RUN OF CALLS IS THE WRITTEN RUN over the same events, so demand 3 speaks of it.
 use mathlib.Core.Path.{_≡_, refl, sym, ap, ap₂, _∙_, subst}
 use mathlib.Core.List.{List, [], _∷_, map}
-use Prim.Native.Nat.{ℕ, _<_}
+use Prim.Native.Nat.{ℕ}
 use Rattle.protocol.specs.Floor.{Floor, limits}
-use Rattle.protocol.specs.Events.{Event, Answer, Report, start, accepted}
-use Rattle.protocol.specs.Step.{step, answer, floorAfter, answers}
+use Rattle.protocol.specs.Events.{Answer, Report, start, accepted}
+use Rattle.protocol.specs.Step.{floorAfter, answers}
 use Rattle.protocol.specs.TwoLists.{Lists, bothEmpty, listsStep, listsAfter, owes, TwoListRule}
 use Rattle.protocol.proofs.Theorems.{two-list-rule}
 use Rattle.view.specs.View.{Lent, floorIn}

@@ -1,6 +1,6 @@
 -- A RECORD TO EVERY STATION IN THE FLOOR: the lines that the words then say, that the words lie right again, and the room that it asks.
 use mathlib.Core.Path.{_≡_, refl, sym, ap, _∙_, fun-ext}
-use mathlib.Core.Bool.{Bool, true, false}
+use mathlib.Core.Bool.{true, false}
 use mathlib.Core.List.{List, [], _∷_, _++_, map}
 use Prim.Native.Nat.{ℕ, zero, suc, _+_, _*_, _≤_, _<_}
 use native.Mathlib.Omega.{arith}
@@ -15,7 +15,7 @@ use Rattle.messages.specs.View.{roomsIn}
 use Rattle.lines.specs.declared.Record as word
 use Rattle.lines.specs.Lines.{lineOf}
 use Rattle.view.specs.Records.{recordIn, linesIn, roomRight}
-use Rattle.view.specs.View.{lent, everyWord}
+use Rattle.view.specs.View.{lent}
 use Rattle.view.proofs.LinesView.{line-in, line-beyond, line-below, by-line, map-append}
 use Rattle.view.proofs.Laid.{Laid, words-append}
 use Rattle.everyline.specs.ToEvery.{PushedToEvery}

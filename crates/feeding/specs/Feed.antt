@@ -1,8 +1,5 @@
 -- WHERE THE PIECE OF INPUT STANDS.
-use mathlib.Core.Path.{_≡_}
-use mathlib.Core.List.{List}
-use Prim.Native.Nat.{ℕ, _+_, _≤_, _<_}
-use lib.ListN.{length}
+use Prim.Native.Nat.{ℕ, _≤_}
 use Rattle.feeding.specs.declared.Feed.{Feed}
 
 -- in a piece of n octets

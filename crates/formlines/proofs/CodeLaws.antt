@@ -1,13 +1,13 @@
 -- What the functions need: tests answered one after the other.
-use mathlib.Core.Path.{refl, sym, ap, ap₂, _∙_, _≡_}
+use mathlib.Core.Path.{refl, sym, ap₂, _∙_, _≡_}
 use mathlib.Core.Bool.{Bool, true, false, _&&_, not}
 use Prim.Native.Nat.{ℕ, _-_, _^_, _≤_, _<_}
 use native.Mathlib.Omega.{arith}
 use lib.Dec.{eqb, leb, ltb}
 use lib.Pow.{pow-pos}
 use borrow.Author.Tests.{ltb-true, lt-ltb, le-ltb, leb-true, le-leb, not-true, not-false}
-use Rattle.protocol.specs.CartSets.{has, setOf}
-use Rattle.protocol.proofs.Tests.{and-left, and-right, same-test}
+use Rattle.protocol.specs.CartSets.{setOf}
+use Rattle.protocol.proofs.Tests.{and-left, same-test}
 use Rattle.cartset.proofs.MaskLaws.{setOf-all}
 use Rattle.messages.specs.View.{Rooms}
 use Rattle.view.specs.Records.{isIn}

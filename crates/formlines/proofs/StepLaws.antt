@@ -1,7 +1,7 @@
 -- One record, and one line, as the functions go: each test in its turn.
 use mathlib.Core.Path.{refl, sym, ap, ap₂, _∙_, _≡_}
-use mathlib.Core.Bool.{Bool, true, false, cond, _&&_, not}
-use mathlib.Core.List.{List, [], _∷_, map}
+use mathlib.Core.Bool.{Bool, true, false, _&&_, not}
+use mathlib.Core.List.{List, [], map}
 use Prim.Native.Nat.{ℕ, suc, _+_, _-_, _*_, _^_, _≤_, _<_}
 use native.Mathlib.Omega.{arith}
 use lib.Dec.{eqb, ltb}
@@ -11,7 +11,7 @@ use Rattle.protocol.specs.Floor.{Carts}
 use Rattle.protocol.proofs.Tests.{and-false, and-left, and-right}
 use Rattle.lines.specs.declared.Record as word
 use Rattle.lines.specs.Words.{headOf, lengthOf, nextOf}
-use Rattle.lines.specs.Lines.{recordOf, lineOf, recordsFrom}
+use Rattle.lines.specs.Lines.{recordOf, recordsFrom}
 use Rattle.lines.proofs.Visit.{line-from, from-none, from-some}
 use Rattle.messages.specs.View.{Rooms}
 use Rattle.view.specs.Records.{kindOf, indexOf, numberOf, isIn}

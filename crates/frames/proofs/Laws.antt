@@ -13,7 +13,7 @@ use borrow.Author.Tests.{ne-eqb, lt-ltb, le-ltb, eqb-true}
 use Rattle.protocol.proofs.Tests.{by-test, by-lt, on-cond}
 use Rattle.protocol.specs.Floor.{limits}
 use Rattle.protocol.specs.Folds.{isEmpty}
-use Rattle.protocol.specs.Events.{Event, start, enter, send, wire, radio, move}
+use Rattle.protocol.specs.Events.{start, enter, send, wire, radio, move}
 use Rattle.protocol.specs.Frames.{Fields, Reading, bigEndian, fieldsOf, unlisted, eventOf, fieldsRefusal, frameRefusal, frameOf, readAt, end, refusedFrame, taken}
 use Rattle.frames.specs.declared.Halves.{Halves}
 use Rattle.frames.specs.Decoded.{octetsOf, fieldsIn}

@@ -1,5 +1,5 @@
 -- FRAMES: "Sixteen octets, fields packed most significant bit first"; "a frame is either taken apart into one event or refused".
-use mathlib.Core.Bool.{Bool, cond, not}
+use mathlib.Core.Bool.{cond, not}
 use mathlib.Core.List.{List, [], _∷_}
 use Prim.Native.Nat.{ℕ, suc, _+_, _-_, _*_, _/_, _%_}
 use lib.Dec.{eqb, ltb}

@@ -1,5 +1,5 @@
 -- THE HAND-OFF MODULE (document 001, 3.5): catch-up, and a cart's way: enter, move, deregister, register.
-use mathlib.Core.Bool.{Bool, cond, _&&_}
+use mathlib.Core.Bool.{cond, _&&_}
 use mathlib.Core.Option.{Option, none, some}
 use mathlib.Core.List.{List, []}
 use Prim.Native.Nat.{ℕ, zero, suc, _-_}

@@ -1,7 +1,6 @@
 -- ONE EVENT IS ONE STEP: the floor that it leaves, its answer, and runs of events.
 use mathlib.Core.Bool.{cond}
 use mathlib.Core.List.{List, [], _∷_}
-use Prim.Native.Nat.{ℕ}
 use lib.Dec.{eqb}
 use Rattle.protocol.specs.Floor.{Limits, Floor, justStarted}
 use Rattle.protocol.specs.Events.{Event, start, enter, send, wire, radio, move, Answer, refused, accepted, Done, done}

@@ -1,13 +1,13 @@
 -- Laws of octets written one after the other.
 use mathlib.Core.Path.{_≡_, refl, sym, ap, ap₂, _∙_}
 use mathlib.Core.List.{List, [], _∷_, _++_, append-assoc, append-nil}
-use Prim.Native.Nat.{ℕ, suc, _+_, _-_, _*_, _≤_, _<_}
+use Prim.Native.Nat.{ℕ, suc, _+_, _-_, _≤_, _<_}
 use native.Mathlib.Numerals.{add-one}
 use native.Mathlib.Nat.{add-zero}
 use native.Mathlib.Omega.{arith}
 use lib.ListN.{length, getD, take, drop, set, length-append, length-drop, length-set, take-append-drop, drop-of-length-le}
-use lib.Seq.{length-take-le, append-snoc, set-split, take-set-le, take-length, take-take, take-append-le, take-append-add}
-use lib.Seq.{take-add, take-append-seam, drop-at, drop-append-add, drop-drop, getD-drop, paste, paste-suc}
+use lib.Seq.{length-take-le, append-snoc, set-split, take-set-le, take-length, take-append-le, take-append-add}
+use lib.Seq.{take-append-seam, drop-at, drop-append-add, drop-drop, getD-drop, paste, paste-suc}
 use Rattle.report.specs.Lines.{written, Wrote, Began}
 
 -- what is written first ends at at + length a

@@ -3,7 +3,7 @@ use mathlib.Core.Path.{_≡_, refl, sym, ap, ap₂, _∙_, subst}
 use mathlib.Core.Bool.{Bool, true, false, not, cond, _&&_}
 use mathlib.Core.List.{List, [], _∷_, _++_}
 use Prim.{tt}
-use Prim.Native.Nat.{ℕ, zero, suc, _+_, _-_, _*_, _≤_, _<_}
+use Prim.Native.Nat.{ℕ, suc, _+_, _≤_}
 use native.Mathlib.Omega.{arith}
 use lib.Dec.{eqb}
 use lib.ListN.{length, drop, length-append}
@@ -15,9 +15,9 @@ use Rattle.protocol.specs.Floor.{Floor, limits}
 use Rattle.protocol.specs.Events.{refused}
 use Rattle.protocol.specs.Events as events
 use Rattle.protocol.specs.Step.{step, answer}
-use Rattle.protocol.specs.Frames.{Reading, end, refusedFrame, taken, readAt}
+use Rattle.protocol.specs.Frames.{Reading, refusedFrame, taken, readAt}
 use Rattle.protocol.specs.Printed.{lineOf}
-use Rattle.view.specs.View.{Lent, lent, floorIn}
+use Rattle.view.specs.View.{Lent, floorIn}
 use Rattle.view.proofs.Lengths.{lengths-of}
 use Rattle.report.specs.Lines.{written, Wrote, longestLine, longestRefusal, lineRoom}
 use Rattle.report.proofs.Octets.{written-length, written-then}

@@ -5,7 +5,6 @@ use mathlib.Core.List.{List}
 use mathlib.Core.Option.{Option}
 use Prim.Native.Nat.{ℕ, _+_, _-_, _*_}
 use lib.ListN.{length}
-use Rattle.protocol.specs.Folds.{update}
 use Rattle.protocol.specs.CartSets.{minus, with, without}
 use Rattle.protocol.specs.Floor.{Floor}
 use Rattle.cartset.specs.Masks.{disjoint}

@@ -1,5 +1,4 @@
 -- `exported::put_answer_words` meets its contract.
-use mathlib.Core.Path.{_∙_}
 use Rattle.exported.proofs.Words.{words-are}
 use denote.Ref.{now}
 use borrow.Author.Needs.{needs}

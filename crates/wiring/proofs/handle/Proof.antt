@@ -1,5 +1,5 @@
 -- `wiring::handle` meets its contract.
-use mathlib.Core.Path.{_≡_, sym, _∙_}
+use mathlib.Core.Path.{sym, _∙_}
 use native.Mathlib.Omega.{arith}
 use denote.Ref.{now}
 use Rattle.wiring.proofs.WireMeets.{has-head, is-multicast, multicast-asks, meets-multicast, ack-list-asks, meets-ack-list, delete-asks, meets-delete, deregister-asks, meets-deregister, register-asks, meets-register}
