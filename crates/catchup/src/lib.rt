@@ -135,7 +135,7 @@ fn later(a: u64, b: u64) -> u64
 }
 
 // Where each next number stops if no message stops the cart: at the expected number, or where it is if it is past that already.
-fn levels(stations: &[u64], station: Station, row: [u64; 16]) -> [u64; 16]
+pub fn levels(stations: &[u64], station: Station, row: [u64; 16]) -> [u64; 16]
     requires { ⌜ HasStation (now stations) (station .0) ⌝ }
     ensures { λ r. ⌜ r ≡ listOf 16 (levelIn (stationsIn (now (stations .entry))) (station .0) row) ⌝ }
 {

@@ -14,9 +14,10 @@ use Rattle.protocol.specs.CartSets.{has, without}
 use Rattle.protocol.proofs.Tests.{by-test, by-lt, and-false, on-update2, eqb-self}
 use Rattle.protocol.proofs.SetLaws.{without-lt}
 use Rattle.cartset.specs.Masks.{least}
-use Rattle.cartset.proofs.Walk.{Ahead, nothing-between, ahead-next, ahead-skips, ahead-end}
+use Rattle.cartset.proofs.Walk.{Ahead, nothing-between, ahead-start, ahead-next, ahead-skips, ahead-end}
 use Rattle.stations.specs.View.{Stations, withQueue, withCopy}
 use Rattle.messages.specs.View.{Rooms}
+use Rattle.catchup.specs.Naming.{Covers}
 use Rattle.handoff.specs.Left.{withQueues, unqueued}
 use Rattle.handoff.specs.Struck.{withCopies, struckCopy, struckIn, struckFrom}
 use Rattle.handoff.proofs.PassedLaws.{same-entry, same-copy, not-named}
@@ -136,3 +137,7 @@ module _ (S : Stations) (R : Rooms) (t c : ℕ) (row : List ℕ) where
     strike-all A =
         e ∙ ap (withCopies S)
         (changed-all (S .copy) t (struckCopy S R t c row) set k A (λ r z. absent r (others r z)) ∙ fun-ext (λ m. fun-ext (λ u. by-both m u)))
+
+  -- where no copy names the cart
+  pub struck-none : Covers S t c 0 → S ≡ struckFrom S R t c row
+  struck-none C = strike-all 0 (C .others) 0 strike-none (ahead-start 32 0 (omega arith) (C .inside))

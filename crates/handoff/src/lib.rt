@@ -211,6 +211,28 @@ fn join(
     stations::put_local(stations, station, local);
 }
 
+// A cart that no copy here names is struck from none, and no message stops it before the expected numbers.
+fn dock_unnamed(
+    stations: &mut [u64],
+    messages: &[u64],
+    station: Station,
+    cart: CartNumber,
+    row: [u64; 16],
+) -> Caught
+    requires { ⌜ HasStation (now stations) (station .0) × HasRooms (now messages) × (station .0 < 16) × (cart .0 < 64) ⌝ }
+    requires { ⌜ ((s : ℕ) → s < initiators → stationsIn (now stations) .expected (station .0) s ≤ 65535) ⌝ }
+    requires { ⌜ Covers (stationsIn (now stations)) (station .0) (cart .0) 0 ⌝ }
+    ensures { λ r. ⌜ Docked (now (stations .entry)) (now (stations .exit)) (now (messages .entry)) (station .0) (cart .0) row (r .row) (r .passed) ⌝ }
+{
+    let upto = catchup::levels(stations, station, row);
+    let nearest = [queue::NONE; 16];
+    join(stations, messages, station, cart, 0, nearest);
+    Caught {
+        row: upto,
+        passed: catchup::passed_over(row, upto),
+    }
+}
+
 // "the cart is struck. Then catch-up for every initiator in rising order"
 fn dock(
     stations: &mut [u64],
@@ -224,6 +246,9 @@ fn dock(
     ensures { λ r. ⌜ Docked (now (stations .entry)) (now (stations .exit)) (now (messages .entry)) (station .0) (cart .0) row (r .row) (r .passed) ⌝ }
 {
     let naming = stations::rooms_naming(stations, station, cart);
+    if naming == 0 {
+        return dock_unnamed(stations, messages, station, cart, row);
+    }
     let ahead = strike(stations, messages, station, cart, naming, row);
     let stopped = catchup::stops_of(stations, messages, station, cart, ahead, row);
     let nearest = stopped.nearest;

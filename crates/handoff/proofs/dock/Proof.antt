@@ -1,5 +1,5 @@
 -- `handoff::dock` meets its contract.
-use mathlib.Core.Path.{refl, _∙_}
+use mathlib.Core.Path.{refl, sym, _∙_}
 use native.Mathlib.Omega.{arith}
 use borrow.Author.Needs.{needs}
 use Rattle.stations.specs.View.{stationsIn}
@@ -15,11 +15,27 @@ use Rattle.handoff.proofs.dock.Tie as tie
 rooms-naming-requires : tie.Need-rooms-naming-requires
 rooms-naming-requires c κs = search needs
 
+-- no copy names the cart
+dock-unnamed-requires : tie.Need-dock-unnamed-requires
+dock-unnamed-requires c κs =
+    let t = c .before in
+    let n = t .before .rooms-naming in
+    let s = t .before .before .before .before .before in
+    let a = s .args in
+    (s .pre .0, (s .pre .1, naming-covers (a .stations .now) (a .station .0) (a .cart .0) 0 (sym (t .if1 .taken) ∙ n .ensures)))
+
+same-length : tie.Need-same-length
+same-length c = search needs
+
+returns : tie.Need-returns
+returns c = c .before .before .dock-unnamed .ensures
+
+-- some do
 strike-requires : tie.Need-strike-requires
 strike-requires c κs =
-    let a = c .before .before .before .before .before .args in
-    let n = c .before .rooms-naming in
-    (naming-covers (a .stations .now) (a .station .0) (a .cart .0) (n .result) (n .ensures), search needs)
+    let n = c .before .before in
+    let a = n .before .before .before .before .args in
+    (naming-covers (a .stations .now) (a .station .0) (a .cart .0) (n .rooms-naming .result) (n .rooms-naming .ensures), search needs)
 
 stops-of-requires : tie.Need-stops-of-requires
 stops-of-requires c κs = search needs
@@ -28,7 +44,7 @@ join-requires : tie.Need-join-requires
 join-requires c κs =
     let o = c .before .before .before in
     let k = o .before .before .before .before in
-    let b = k .before .before .before .before .before .before in
+    let b = k .before .before .before .before .before .before .before in
     let a = b .args in
     let S = k .strike .last .0 in
     let s = o .stops-of in (
@@ -38,30 +54,34 @@ join-requires c κs =
 
 passed-over-requires : tie.Need-passed-over-requires
 passed-over-requires c κs =
-    let a = c .before .before .before .before .before .before .before .before .before .before .before .before .before .before .before .before .args in
-    let k = c .before .before .before .before .before .before .before .before .before .before .strike in
-    let s = c .before .before .before .before .before .before .stops-of in
-    let few = few-still (stationsIn (a .stations .now)) (roomsIn (a .messages .now)) (a .station .0) (a .cart .0) (a .row) (k .ensures .0) (c .before .before .before .before .before .before .before .before .before .before .before .before .before .before .before .before .pre .1) in
-    rises-little (tablesFloor (k .last .0) (a .messages .now)) (a .station .0) (a .cart .0) (a .row) (s .result .nearest) (s .ensures .0) (s .result .upto) (s .ensures .1) few
+    let o = c .before .before .before .before .before .before in
+    let k = o .before .before .before .before in
+    let b = k .before .before .before .before .before .before .before in
+    let a = b .args in
+    let s = o .stops-of in
+    let few = few-still (stationsIn (a .stations .now)) (roomsIn (a .messages .now)) (a .station .0) (a .cart .0) (a .row) (k .strike .ensures .0) (b .pre .1) in
+    rises-little (tablesFloor (k .strike .last .0) (a .messages .now)) (a .station .0) (a .cart .0) (a .row) (s .result .nearest) (s .ensures .0) (s .result .upto) (s .ensures .1) few
 
-same-length : tie.Need-same-length
-same-length c = search needs
+same-length-2 : tie.Need-same-length-2
+same-length-2 c = search needs
 
-returns : tie.Need-returns
-returns c =
-    let a = c .before .before .before .before .before .before .before .before .before .before .before .before .before .before .before .before .before .args in
-    let k = c .before .before .before .before .before .before .before .before .before .before .before .strike in
-    let s = c .before .before .before .before .before .before .before .stops-of in
-    let j = c .before .before .before .join in
+returns-2 : tie.Need-returns-2
+returns-2 c =
+    let j = c .before .before .before in
+    let o = j .before .before .before .before in
+    let e = o .before .before .before .before in
+    let a = e .before .before .before .before .before .before .before .args in
+    let k = e .strike in
+    let s = o .stops-of in
     let p = c .passed-over in
     record {
       struck = k .last .0;
       is-struck = k .ensures .0;
       nearest = s .result .nearest;
       is-nearest = s .ensures .0;
-      stations = j .ensures .0;
-      head = j .ensures .1 .0 ∙ k .ensures .1 .0;
-      table = j .ensures .1 .1 ∙ k .ensures .1 .1 .0;
+      stations = j .join .ensures .0;
+      head = j .join .ensures .1 .0 ∙ k .ensures .1 .0;
+      table = j .join .ensures .1 .1 ∙ k .ensures .1 .1 .0;
       caught-up = s .ensures .1;
       count = rise-is (tablesFloor (k .last .0) (a .messages .now)) (a .station .0) (a .cart .0) (a .row) (s .result .nearest) (s .ensures .0) (s .result .upto) (s .ensures .1) (p .result) (p .ensures);
     }
@@ -71,9 +91,12 @@ dock-spec =
     tie.close
     (tie.spec
     rooms-naming-requires
+    dock-unnamed-requires
+    same-length
+    returns
     strike-requires
     stops-of-requires
     join-requires
     passed-over-requires
-    same-length
-    returns)
+    same-length-2
+    returns-2)
