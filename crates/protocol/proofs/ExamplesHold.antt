@@ -19,7 +19,7 @@ use Rattle.protocol.specs.Blank.{BlankBeyond}
 use Rattle.protocol.specs.Refusals.{neverEntered, refusalIf}
 use Rattle.protocol.specs.Step.{accept}
 use Rattle.protocol.specs.Frames.{bigEndian, fieldsOf, unlisted, eventOf, fieldsRefusal, frameRefusal, frameOf}
-use Rattle.protocol.specs.Printed.{decimal, decimalDigits, hexadecimal, lineOf, printedRun}
+use Rattle.protocol.specs.Printed.{decimal, decimalDigits, hexadecimal, restOf, lineOf, printedRun}
 use Rattle.protocol.specs.Examples.{Given, Row, Shown, answered, events, examples, form, frames, nearTheLast, outcome, passes, printed}
 use Rattle.protocol.proofs.Tests.{and-false}
 use Rattle.protocol.proofs.Ready.{Ready, quick-answers, quick-lines, quickAnswer, quickAnswers, quickLines, quickStep, ready-unstarted}
@@ -70,7 +70,7 @@ near-the-last-blank =
     }
 
 computed : map (λ r. quickOutcome (r .given)) examples ≡ map (λ r. r .shown) examples
-unfolding quickOutcome quickLines quickAnswers quickStep quickAnswer refusalIf accept frameOf frameRefusal fieldsRefusal fieldsOf bigEndian unlisted eventOf lineOf decimal decimalDigits hexadecimal onEnter onSend onWire onRadio onMove handle onMulticast onAckList onDelete onDeregister onRegister arrive passedOver catchUpEach catchUp catchUpStop climb bufferedFor roomOf freeRoom struck withMessage buffer receive sendAcks allAcked handOver queueHead headAmong neverEntered passesForm test every count sum first listOf has union minus with without setOf
+unfolding quickOutcome quickLines quickAnswers quickStep quickAnswer refusalIf accept frameOf frameRefusal fieldsRefusal fieldsOf bigEndian unlisted eventOf restOf lineOf decimal decimalDigits hexadecimal onEnter onSend onWire onRadio onMove handle onMulticast onAckList onDelete onDeregister onRegister arrive passedOver catchUpEach catchUp catchUpStop climb bufferedFor roomOf freeRoom struck withMessage buffer receive sendAcks allAcked handOver queueHead headAmong neverEntered passesForm test every count sum first listOf has union minus with without setOf
 computed = refl
 
 -- THE TABLE

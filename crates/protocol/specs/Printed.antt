@@ -40,10 +40,14 @@ textField (x ∷ l) = 32 ∷ hexadecimal (x ∷ l)
 abbrev pub reportFields : Report → List ℕ
 reportFields l = field (l .kind) ++ field (l .a) ++ field (l .b) ++ field (l .p) ++ field (l .w) ++ cond (eqb (l .kind) 4) (textField (l .text)) []
 
--- "index from 0, kind, a, b, p, w. Refused: index, no, refusal", and a line end
+-- "index from 0, kind, a, b, p, w. Refused: index, no, refusal": what stands behind the index, and a line end
+unfoldable pub restOf : Answer → List ℕ
+restOf (accepted l) = reportFields l ++ (10 ∷ [])
+restOf (refused r) = (32 ∷ 110 ∷ 111 ∷ field r) ++ (10 ∷ [])
+
+-- the whole line
 unfoldable pub lineOf : ℕ → Answer → List ℕ
-lineOf index (accepted l) = decimal index ++ reportFields l ++ (10 ∷ [])
-lineOf index (refused r) = decimal index ++ (32 ∷ 110 ∷ 111 ∷ field r) ++ (10 ∷ [])
+lineOf index a = decimal index ++ restOf a
 
 -- the printed lines of the frames in these octets, at most so many, from a floor and an index; "Refusals 1 to 4 end the run; end of input at
 -- a frame's border ends it silently"

@@ -10,8 +10,8 @@ use lib.Dec.{eqb}
 use borrow.Author.Tests.{eq-eqb, ne-eqb}
 use Rattle.protocol.proofs.Tests.{by-lt}
 use Rattle.protocol.specs.Events.{Report, Answer, accepted, refused}
-use Rattle.protocol.specs.Printed.{digitChar, decimal, hexadecimal, field, textField, reportFields, lineOf}
-use Rattle.report.specs.Lines.{written, Wrote, Began, octetsOf, restOf}
+use Rattle.protocol.specs.Printed.{digitChar, decimal, hexadecimal, field, textField, reportFields, restOf, lineOf}
+use Rattle.report.specs.Lines.{written, Wrote, Began, octetsOf}
 use Rattle.report.proofs.Octets.{wrote-one, wrote-all, wrote-then, wrote-wider, began-all, began-then, began-more, pair-stored}
 use Rattle.report.proofs.Numbers.{digit-small, decimal-one, some-digit, word-of, digit-written, hex-length, hex-front}
 
@@ -135,12 +135,7 @@ rest-long (accepted r) = let z = length-append (reportFields r) (10 ∷ []) in l
 rest-long (refused n) = let z = length-append (32 ∷ 110 ∷ 111 ∷ field n) (10 ∷ []) in omega arith
 
 -- the index and the rest are the line
-line-is : (index : ℕ) (a : Answer) → decimal index ++ restOf a ≡ lineOf index a
-unfolding restOf lineOf
-line-is index (accepted r) = sym (append-assoc (decimal index) (reportFields r) (10 ∷ []))
-line-is index (refused n) = sym (append-assoc (decimal index) (32 ∷ 110 ∷ 111 ∷ field n) (10 ∷ []))
-
 pub line-written : (index : ℕ) (a : Answer) {most : ℕ} {l l₁ l₂ : List ℕ} {at p q : ℕ} → Began 3 20 (decimal index) l l₁ at p → Wrote most (restOf a) l₁ l₂ p q
     → Wrote (20 + most) (lineOf index a) l l₂ at q
-line-written index a {most} {l} {l₁} {l₂} {at} {p} {q} u v =
-    subst (λ (x : List ℕ). Wrote (20 + most) x l l₂ at q) (line-is index a) (began-then (rest-long a) u v)
+unfolding lineOf
+line-written index a u v = began-then (rest-long a) u v

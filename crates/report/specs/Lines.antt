@@ -4,7 +4,7 @@ use mathlib.Core.List.{List, [], _∷_, _++_}
 use Prim.Native.Nat.{ℕ, zero, suc, _+_, _*_, _/_, _%_, _≤_, _<_}
 use lib.ListN.{length, take, drop, getD}
 use Rattle.protocol.specs.Events as events
-use Rattle.protocol.specs.Printed.{digitChar, decimal, field, reportFields}
+use Rattle.protocol.specs.Printed.{digitChar, decimal}
 use Rattle.report.specs.declared.Report.{Report}
 
 -- WRITING
@@ -36,11 +36,6 @@ reportIn r text = record { kind = r .kind; a = r .a; b = r .b; p = r .p; w = r .
 
 abbrev pub acceptedIn : Report → List ℕ → events.Answer
 acceptedIn r text = events.accepted (reportIn r text)
-
--- what stands behind the index of a line
-unfoldable pub restOf : events.Answer → List ℕ
-restOf (events.accepted l) = reportFields l ++ (10 ∷ [])
-restOf (events.refused r) = (32 ∷ 110 ∷ 111 ∷ field r) ++ (10 ∷ [])
 
 -- the longest line: a number has at most 20 digits, and a text at most 32 octets
 abbrev pub longestRest : ℕ

@@ -7,8 +7,8 @@ ghost use Prim.Native.Nat.{_+_, _*_, _/_, _%_, _<_, _≤_};
 ghost use lib.Dec.{ltb};
 ghost use lib.ListN.{length, take, drop};
 ghost use Rattle.protocol.specs.Events.{refused};
-ghost use Rattle.protocol.specs.Printed.{digitChar, decimal, hexadecimal, field, textField, reportFields, lineOf};
-ghost use Rattle.report.specs.Lines.{written, Wrote, Began, Spells, Tabled, lastDigits, octetsOf, reportIn, acceptedIn, restOf, longestRest, restRoom, shortRest, longestRefusal};
+ghost use Rattle.protocol.specs.Printed.{digitChar, decimal, hexadecimal, field, textField, reportFields, restOf, lineOf};
+ghost use Rattle.report.specs.Lines.{written, Wrote, Began, Spells, Tabled, lastDigits, octetsOf, reportIn, acceptedIn, longestRest, restRoom, shortRest, longestRefusal};
 
 // What an accepted event reports.
 pub struct Report {

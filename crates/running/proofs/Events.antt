@@ -43,7 +43,8 @@ use Rattle.answers.proofs.Values.{others}
 use Rattle.printing.specs.Reports.{reportOf}
 use Rattle.printing.proofs.Values.{accepted-is}
 use Rattle.report.specs.declared.Report.{Report}
-use Rattle.report.specs.Lines.{Wrote, reportIn, restOf, longestRest, shortRest}
+use Rattle.protocol.specs.Printed.{restOf}
+use Rattle.report.specs.Lines.{Wrote, reportIn, longestRest, shortRest}
 use Rattle.running.specs.declared.Told.{Told}
 use Rattle.running.specs.Ready.{Ready}
 use Rattle.running.specs.Told.{toldIn, Within}
