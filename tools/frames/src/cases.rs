@@ -8,11 +8,10 @@ use plain::{CartNo, Floor, Place, Refusal, StationNo, Step};
 use crate::generate::give;
 
 /// The runs that have a name, and what they are for.
-pub const CASES: [(&str, &str); 5] = [
+pub const CASES: [(&str, &str); 4] = [
     ("most_records_3x2", "the most records that a run has on lines, three stations and two carts"),
     ("most_records_16x64", "the same on the full floor: 2,592"),
     ("held_and_drained", "32 held, a send is refused with 14, then none held; twice"),
-    ("late_33000", "a cart that enters after 33,000 numbers"),
     ("late_60000", "a cart that enters after 60,000 numbers"),
 ];
 
@@ -22,7 +21,6 @@ pub fn case(name: &str) -> Option<Vec<u8>> {
         "most_records_3x2" => most_records(3, 2),
         "most_records_16x64" => most_records(16, 64),
         "held_and_drained" => held_and_drained(),
-        "late_33000" => late(33_000),
         "late_60000" => late(60_000),
         _ => return None,
     })

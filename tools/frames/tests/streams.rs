@@ -54,11 +54,7 @@ fn the_frames_of_the_example_are_those_of_its_script() {
 #[test]
 fn the_runs_that_have_a_name_are_the_stored_ones() {
     for (name, _) in CASES {
-        let octets = case(name).unwrap();
-        // The longest is too long to store.
-        if name != "late_60000" {
-            assert!(stored(name) == Some(octets), "{name} is not the stored run");
-        }
+        assert!(stored(name) == case(name), "{name} is not the stored run");
     }
     assert_eq!(case("another"), None);
 }
