@@ -58,9 +58,11 @@ fn main() -> Result<(), Box<dyn Error>> {
     let Some(last) = programs.last() else { return Err("no program".into()) };
     let count = lines(frames, last)? as f64;
     let mut least = vec![Vec::new(); programs.len()];
-    for _ in 0..rounds.parse::<usize>()? {
-        for (program, least) in programs.iter().zip(&mut least) {
-            keep_least(least, &run(library, frames, program)?)?;
+    for round in 0..rounds.parse::<usize>()? {
+        for turn in 0..programs.len() {
+            // Who goes first changes from round to round.
+            let k = if round % 2 == 0 { turn } else { programs.len() - 1 - turn };
+            keep_least(&mut least[k], &run(library, frames, &programs[k])?)?;
         }
     }
     let sums: Vec<u64> = least.iter().map(|times| times.iter().sum()).collect();
