@@ -1,15 +1,25 @@
 -- WHAT A CALL LEAVES: it was handed a floor in lent parts L and left L′, for event e, and answered a.
 use mathlib.Core.Path.{_≡_}
+use mathlib.Core.Bool.{true}
 use Prim.Native.Nat.{ℕ}
-use Rattle.protocol.specs.Floor.{limits}
+use Rattle.protocol.specs.Floor.{Product, limitsOf}
 use Rattle.protocol.specs.Events.{Event, Answer, refused}
+use Rattle.protocol.specs.Form.{passesForm}
 use Rattle.protocol.specs.Step.{step, answer}
 use Rattle.view.specs.View.{Lent, floorIn}
 
 pub record Met (L L′ : Lent) (e : Event) (a : Answer) : Type 0 where
   -- the answer is the written one
-  pub answers : a ≡ answer limits (floorIn L) e
+  pub answers : a ≡ answer (limitsOf (L .product)) (floorIn L) e
   -- "Every accepted event leaves stations, carts, queues and wires" as the written step does
-  pub floor : floorIn L′ ≡ step limits (floorIn L) e
+  pub floor : floorIn L′ ≡ step (limitsOf (L .product)) (floorIn L) e
   -- "A refusal gives its number alone and changes no floor": no word of it
   pub untouched : (r : ℕ) → a ≡ refused r → L′ ≡ L
+
+-- ONE STEP FOR EVERY PRODUCT: parts that pass the form rule of some product
+abbrev pub Passing : (Product → Lent) → Type 0
+Passing lent = (P : Product) × (passesForm (limitsOf P) (floorIn (lent P)) ≡ true)
+
+-- and the event is met by the limits of each product whose form rule they pass
+abbrev pub MetByEach : (Product → Lent) → (Product → Lent) → Event → Answer → Type 0
+MetByEach before after e a = (P : Product) → passesForm (limitsOf P) (floorIn (before P)) ≡ true → Met (before P) (after P) e a

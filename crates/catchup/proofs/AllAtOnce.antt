@@ -10,7 +10,7 @@ use lib.ListN.{getD}
 use borrow.Author.Tests.{eqb-true, eq-eqb, lt-ltb, le-ltb, ltb-true}
 use Rattle.protocol.specs.Folds.{sum}
 use Rattle.protocol.specs.CartSets.{has}
-use Rattle.protocol.specs.Floor.{Floor, limits}
+use Rattle.protocol.specs.Floor.{Limits, Floor}
 use Rattle.protocol.specs.Handoff.{Stop, catchUpStop}
 use Rattle.protocol.proofs.Tests.{by-test, by-lt, by-eq, same-test, clash, and-left, and-right}
 use Rattle.protocol.proofs.Counting.{sum-ext}
@@ -24,7 +24,7 @@ use Rattle.catchup.specs.Nearest.{nearestAmong}
 use Rattle.catchup.specs.Arrival.{nearestRow, stopIn, risen, isFound, occurs, OwnRooms}
 use Rattle.catchup.proofs.ClosedForm.{IsNearest, nearest-is, Would, would}
 use Rattle.catchup.proofs.RowLaws.{entry-says}
-use Rattle.catchup.proofs.Stops.{Agree, row-stops-there, stop-found}
+use Rattle.catchup.proofs.Stops.{Agree, NoneBeyond, row-stops-there, stop-found}
 
 same-found : (o : Option ℕ) (m : ℕ) → isFound o m ≡ foundIs o m
 same-found none m = refl
@@ -71,8 +71,8 @@ module _ (F : Floor) (t c : ℕ) (row nearest : List ℕ) (is-nearest : nearest 
           by-lt i n (λ l. lt-ltb i n l ∙ sym (lt-ltb i (suc n) (omega arith))) (λ l. le-ltb i n l ∙ sym (le-ltb i (suc n) (by-eq i n (λ q. absurd (d q)) (λ q. omega arith))))
 
   -- it is in every set that has all the rooms whose copies name the cart
-  pub own-rooms : (R : Rooms) (S : Stations) (set : ℕ) → F .initiator ≡ R .initiator → F .copy ≡ S .copy → Covers S t c set → OwnRooms R set nearest
-  own-rooms R S set er es C = record { inside = C .inside; among = λ m e. among m e; own = λ m e. (rw (← er) (is-low m e), rw (← er) (is-own m e)) }
+  pub own-rooms : (b : ℕ) (R : Rooms) (S : Stations) (set : ℕ) → F .initiator ≡ R .initiator → F .copy ≡ S .copy → Covers b S t c set → OwnRooms b R set nearest
+  own-rooms b R S set er es C = record { inside = C .inside; among = λ m e. among m e; own = λ m e. (rw (← er) (is-low m e), rw (← er) (is-own m e)) }
     where
       said : (m : ℕ) → occurs nearest 16 m ≡ true → (ltb (F .initiator m) 16 && isFound (roomIn (getD nearest (F .initiator m) 0)) m) ≡ true
       said m e = sym (occurs-once 16 (omega arith) m) ∙ e
@@ -93,20 +93,20 @@ module _ (F : Floor) (t c : ℕ) (row nearest : List ℕ) (is-nearest : nearest 
 
 -- ON EVERY FLOOR WHOSE STATIONS AND MESSAGES ARE THE TWO TABLES, for a cart with that row of next numbers
 
-module _ (F : Floor) (stations messages : List ℕ) (agree : Agree F (tablesFloor stations messages)) (t c : ℕ) (row nearest : List ℕ)
+module _ (N : Limits) (F : Floor) (stations messages : List ℕ) (agree : Agree F (tablesFloor stations messages)) (t c : ℕ) (beyond : NoneBeyond N F t c) (row nearest : List ℕ)
     (is-nearest : nearest ≡ nearestRow (tablesFloor stations messages) t c row 32) (is-row : (s : ℕ) → s < 16 → getD row s 0 ≡ F .next c s) where
   -- each next number goes where the protocol's goes
-  pub all-raised : (s : ℕ) → s < 16 → stopIn (tablesFloor stations messages) t row nearest s ≡ catchUpStop limits F t c s .upto
-  all-raised s h = ap (λ (r : Stop). r .upto) (row-stops-there F stations messages agree t c s row nearest is-nearest h (is-row s h))
+  pub all-raised : (s : ℕ) → s < 16 → stopIn (tablesFloor stations messages) t row nearest s ≡ catchUpStop N F t c s .upto
+  all-raised s h = ap (λ (r : Stop). r .upto) (row-stops-there N F stations messages agree t c beyond s row nearest is-nearest h (is-row s h))
 
   -- the count of the numbers passed over is the protocol's
-  pub all-passed : risen (tablesFloor stations messages) t row nearest 16 ≡ sum 16 (λ s. catchUpStop limits F t c s .upto - F .next c s)
+  pub all-passed : risen (tablesFloor stations messages) t row nearest 16 ≡ sum 16 (λ s. catchUpStop N F t c s .upto - F .next c s)
   all-passed =
-      sum-ext 16 (λ s. stopIn (tablesFloor stations messages) t row nearest s - getD row s 0) (λ s. catchUpStop limits F t c s .upto - F .next c s)
+      sum-ext 16 (λ s. stopIn (tablesFloor stations messages) t row nearest s - getD row s 0) (λ s. catchUpStop N F t c s .upto - F .next c s)
       (λ s h. ap₂ _-_ (all-raised s h) (is-row s h))
 
   -- the cart is queued for what the protocol's stops find
-  pub all-queued : (m : ℕ) → occurs nearest 16 m ≡ (ltb (F .initiator m) 16 && foundIs (catchUpStop limits F t c (F .initiator m) .found) m)
+  pub all-queued : (m : ℕ) → occurs nearest 16 m ≡ (ltb (F .initiator m) 16 && foundIs (catchUpStop N F t c (F .initiator m) .found) m)
   all-queued m =
       occurs-once (tablesFloor stations messages) t c row nearest is-nearest 16 (omega arith) m
       ∙ ap (λ (f : ℕ → ℕ). ltb (f m) 16 && isFound (roomIn (getD nearest (f m) 0)) m) (sym (agree .initiator))
@@ -114,9 +114,9 @@ module _ (F : Floor) (stations messages : List ℕ) (agree : Agree F (tablesFloo
       (λ l. ap (λ (b : Bool). ltb (F .initiator m) 16 && b) (found (F .initiator m) l))
       (λ l. rw (le-ltb (F .initiator m) 16 l))
     where
-      found : (s : ℕ) → s < 16 → isFound (roomIn (getD nearest s 0)) m ≡ foundIs (catchUpStop limits F t c s .found) m
+      found : (s : ℕ) → s < 16 → isFound (roomIn (getD nearest s 0)) m ≡ foundIs (catchUpStop N F t c s .found) m
       found s l =
           same-found (roomIn (getD nearest s 0)) m
           ∙ ap (λ (o : Option ℕ). foundIs o m)
           (sym (stop-found (tablesFloor stations messages) t s (getD row s 0) (roomIn (getD nearest s 0)))
-          ∙ ap (λ (r : Stop). r .found) (row-stops-there F stations messages agree t c s row nearest is-nearest l (is-row s l)))
+          ∙ ap (λ (r : Stop). r .found) (row-stops-there N F stations messages agree t c beyond s row nearest is-nearest l (is-row s l)))

@@ -16,10 +16,14 @@ use Rattle.catchup.specs.Naming.{Covers, namedBy}
 pub naming-word : (S : Stations) (t c : ℕ) → namingIn S t c < 2 ^ 64
 naming-word S t c = let z = setOf-lt rooms (λ m. has (S .copy m t) c) in omega arith
 
+-- they are rooms that a station's row has words for
+pub naming-inside : (l : List ℕ) (t c m : ℕ) → has (namingIn (stationsIn l) t c) m ≡ true → m < rooms
+naming-inside l t c m h = member-below rooms (namingIn (stationsIn l) t c) m (setOf-lt rooms (λ k. has (stationsIn l .copy k t) c)) h
+
 -- they are all that name it
-pub naming-covers : (l : List ℕ) (t c n : ℕ) → n ≡ namingIn (stationsIn l) t c → Covers (stationsIn l) t c n
-naming-covers l t c n e = rw e (record {
-  inside = λ m h. member-below rooms (namingIn (stationsIn l) t c) m (setOf-lt rooms (λ k. has (stationsIn l .copy k t) c)) h;
+pub naming-covers : (l : List ℕ) (t c b : ℕ) → ((m : ℕ) → has (namingIn (stationsIn l) t c) m ≡ true → m < b) → (n : ℕ) → n ≡ namingIn (stationsIn l) t c → Covers b (stationsIn l) t c n
+naming-covers l t c b low n e = rw e (record {
+  inside = low;
   others = λ m h. by-lt m rooms
       (λ b. sym (has-setOf rooms (λ k. has (stationsIn l .copy k t) c) m b) ∙ h)
       (λ b. ap (λ (x : ℕ). has x c) (copy-beyond l m t b) ∙ has-zero c);

@@ -98,7 +98,7 @@ said-of nearest (suc n) s m l h e =
     (let z : getD nearest n 0 ≡ m = rw q at e in rw (z, room-in m h) (eqb-self m)))
     (λ q. ap (λ (b : Bool). b || isFound (roomIn (getD nearest n 0)) m) (said-of nearest n s m (omega arith) h e))
 
-module _ (R : Rooms) (set : ℕ) (nearest : List ℕ) (own : OwnRooms R set nearest) where
+module _ {b : ℕ} (R : Rooms) (set : ℕ) (nearest : List ℕ) (own : OwnRooms b R set nearest) where
   -- a room that is not in the set
   pub said-within : (m : ℕ) → has set m ≡ false → occurs nearest 16 m ≡ false
   said-within m n = by-test (occurs nearest 16 m) (λ e. clash (has set m) (own .among m e) n) (λ e. e)

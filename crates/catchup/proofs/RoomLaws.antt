@@ -58,6 +58,14 @@ module _ (F : Floor) (t c s x : ℕ) where
   pub nearest-fits : (m h : ℕ) → m ≤ 32 → h ≡ roomCode (nearestAmong F t c s x m) → h ≤ 32
   nearest-fits m h l e = let z = code-fits (nearestAmong F t c s x m) m l (nearest-below m) in omega arith
 
+  -- a room that was found is one of those looked at
+  pub nearest-low : (m h : ℕ) → h ≡ roomCode (nearestAmong F t c s x m) → (h ≡ 32 → ⊥) → h < m
+  nearest-low m h e n = low (nearestAmong F t c s x m) (nearest-below m) e
+    where
+      low : (o : Option ℕ) → Below m o → h ≡ roomCode o → h < m
+      low none b q = absurd (n q)
+      low (some k) b q = omega arith
+
   pub nearest-next : (m : ℕ) → nearestAmong F t c s x (m + 1) ≡ nearerWith F t c s x m (nearestAmong F t c s x m)
   unfolding nearestAmong
   nearest-next m = rw (add-one, nearestAmong) refl

@@ -85,7 +85,7 @@ module _ (row upto : List ℕ) where
   rise-none = refl
 
   -- the count of the first n initiators fits a word
-  pub rise-fits : Rises row upto → (n : ℕ) → n ≤ 16 → rise row upto n ≤ 65535 * n
+  pub rise-fits : Rises row upto → (n : ℕ) → n ≤ 16 → rise row upto n ≤ 4294967295 * n
   unfolding sum
   rise-fits b zero h = omega arith
   rise-fits b (suc n) h = let z = b n (omega arith) in omega (arith, z .1, rise-fits b n (omega arith))
@@ -109,13 +109,13 @@ module _ (F : Floor) (t c : ℕ) (row nearest : List ℕ) (is-nearest : nearest 
     stop-entry s h = ap (λ (l : List ℕ). getD l s 0) is-stop ∙ listOf-at 16 (stopIn F t row nearest) 0 s h
 
     -- no next number falls, and a cart stops below the expected number, or there
-    pub rises-little : ((s : ℕ) → s < 16 → F .expected t s ≤ 65535) → Rises row upto
-    rises-little b s h = subst (λ (u : ℕ). (getD row s 0 ≤ u) × (u - getD row s 0 ≤ 65535))
+    pub rises-little : ((s : ℕ) → s < 16 → F .expected t s ≤ 4294967295) → Rises row upto
+    rises-little b s h = subst (λ (u : ℕ). (getD row s 0 ≤ u) × (u - getD row s 0 ≤ 4294967295))
         (ap (λ (o : Option ℕ). stopBy F t s (getD row s 0) o .upto) (sym (entry-says s h)) ∙ sym (stop-entry s h))
         (between (nearestAmong F t c s (getD row s 0) 32) (nearest-is F t c s (getD row s 0) 32))
       where
         between : (o : Option ℕ) → IsNearest F t c s (getD row s 0) 32 o
-            → (getD row s 0 ≤ stopBy F t s (getD row s 0) o .upto) × (stopBy F t s (getD row s 0) o .upto - getD row s 0 ≤ 65535)
+            → (getD row s 0 ≤ stopBy F t s (getD row s 0) o .upto) × (stopBy F t s (getD row s 0) o .upto - getD row s 0 ≤ 4294967295)
         between none n = (omega arith, omega (arith, b s h))
         between (some k) n =
             let far = would F t c s (getD row s 0) k (n .1 .0) .far in

@@ -2,17 +2,20 @@
 use mathlib.Core.Path.{_≡_, refl, sym, ap, _∙_}
 use mathlib.Core.List.{List}
 use mathlib.Core.Option.{Option, none, some}
-use Prim.Native.Nat.{ℕ, zero, suc, _<_}
+
+use mathlib.Core.Bool.{false}
+use Prim.Native.Nat.{ℕ, zero, suc, _<_, _≤_}
+use Rattle.protocol.specs.CartSets.{has}
 use native.Mathlib.Omega.{arith}
 use lib.ListN.{getD}
-use Rattle.protocol.specs.Floor.{Floor, limits, onStations, onMessages, setCopy, unstarted}
+use Rattle.protocol.specs.Floor.{Limits, Floor, onStations, onMessages, setCopy, unstarted}
 use Rattle.protocol.specs.Handoff.{catchUpStop}
 use Rattle.view.specs.View.{Lent, floorIn}
 use Rattle.queue.specs.Rooms.{tablesFloor, roomCode, roomIn}
 use Rattle.catchup.specs.Nearest.{wouldStop, nearerWith, nearestAmong, stopBy}
 use Rattle.catchup.specs.Arrival.{nearestRow}
 use Rattle.catchup.proofs.ClosedForm.{closed-form}
-use Rattle.catchup.proofs.RoomLaws.{nearest-decoded}
+use Rattle.catchup.proofs.RoomLaws.{nearest-decoded, nearest-skips}
 use Rattle.catchup.proofs.RowLaws.{entry-says}
 
 -- two floors agree in all that a catch-up asks for but the next numbers
@@ -66,26 +69,31 @@ module _ (t c s x : ℕ) where
       ∙ (λ i. stopBy (partsOnly (a .expected i) (a .initiator i) (a .number i) (a .waiting i) (a .copy i)) t s x o)
       ∙ sym (stop-parts G o)
 
-module _ (F : Floor) (stations messages : List ℕ) (agree : Agree F (tablesFloor stations messages)) (t c s : ℕ) where
+-- no room beyond the limit has a copy that names the cart
+abbrev pub NoneBeyond : Limits → Floor → ℕ → ℕ → Type 0
+NoneBeyond N F t c = (N .held ≤ 32) × ((m : ℕ) → N .held ≤ m → has (F .copy m t) c ≡ false)
+
+module _ (N : Limits) (F : Floor) (stations messages : List ℕ) (agree : Agree F (tablesFloor stations messages)) (t c : ℕ) (beyond : NoneBeyond N F t c) (s : ℕ) where
   -- by the option that was found
   found-stops : (o : Option ℕ) (x : ℕ) → x ≡ F .next c s → o ≡ nearestAmong (tablesFloor stations messages) t c s x 32
-      → stopBy (tablesFloor stations messages) t s x o ≡ catchUpStop limits F t c s
+      → stopBy (tablesFloor stations messages) t s x o ≡ catchUpStop N F t c s
   found-stops o x e f =
-      sym (closed-form limits F t c s
+      sym (closed-form N F t c s
+      ∙ ap (stopBy F t s (F .next c s)) (sym (nearest-skips F t c s (F .next c s) (N .held) 32 (beyond .0) (λ r h l. beyond .1 r h)))
       ∙ ap (λ (y : ℕ). stopBy F t s y (nearestAmong F t c s y 32)) (sym e)
       ∙ ap (stopBy F t s x) (agree-nearest t c s x F (tablesFloor stations messages) agree 32 ∙ sym f)
       ∙ agree-stop t c s x F (tablesFloor stations messages) agree o)
 
   -- THE STOP OF ONE INITIATOR, by what `nearest_of` answers
   pub stops-there : (h : ℕ) → h ≡ roomCode (nearestAmong (tablesFloor stations messages) t c s (F .next c s) 32)
-      → stopBy (tablesFloor stations messages) t s (F .next c s) (roomIn h) ≡ catchUpStop limits F t c s
+      → stopBy (tablesFloor stations messages) t s (F .next c s) (roomIn h) ≡ catchUpStop N F t c s
   stops-there h e =
       found-stops (roomIn h) (F .next c s) refl
       (ap roomIn e ∙ nearest-decoded (tablesFloor stations messages) t c s (F .next c s) 32 (omega arith))
 
   -- THE STOP OF EACH INITIATOR, by what `stops_of` answers
   pub row-stops-there : (row nearest : List ℕ) → nearest ≡ nearestRow (tablesFloor stations messages) t c row 32 → s < 16 → getD row s 0 ≡ F .next c s
-      → stopBy (tablesFloor stations messages) t s (getD row s 0) (roomIn (getD nearest s 0)) ≡ catchUpStop limits F t c s
+      → stopBy (tablesFloor stations messages) t s (getD row s 0) (roomIn (getD nearest s 0)) ≡ catchUpStop N F t c s
   row-stops-there row nearest e l f =
       found-stops (roomIn (getD nearest s 0)) (getD row s 0) f (entry-says (tablesFloor stations messages) t c row nearest e s l)
 

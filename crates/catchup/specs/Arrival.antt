@@ -32,7 +32,7 @@ stopIn F t row nearest s = stopBy F t s (getD row s 0) (roomIn (getD nearest s 0
 
 -- no next number falls, and "last number 65,534": none rises by more than can be sent
 abbrev pub Rises : List ℕ → List ℕ → Type 0
-Rises row upto = (s : ℕ) → s < 16 → (getD row s 0 ≤ getD upto s 0) × (getD upto s 0 - getD row s 0 ≤ 65535)
+Rises row upto = (s : ℕ) → s < 16 → (getD row s 0 ≤ getD upto s 0) × (getD upto s 0 - getD row s 0 ≤ 4294967295)
 
 -- how far the next numbers of the first n initiators rise, from one row to the other
 abbrev pub rise : List ℕ → List ℕ → ℕ → ℕ
@@ -52,9 +52,9 @@ unfoldable pub occurs : List ℕ → ℕ → ℕ → Bool
 occurs nearest zero m = false
 occurs nearest (suc n) m = occurs nearest n m || isFound (roomIn (getD nearest n 0)) m
 
--- each room that one of the words says is in the set, and its initiator's own word says it
-pub record OwnRooms (R : Rooms) (set : ℕ) (nearest : List ℕ) : Type 0 where
-  pub inside : (m : ℕ) → has set m ≡ true → m < rooms
+-- each room that one of the words says is in the set, whose rooms are below n, and its initiator's own word says it
+pub record OwnRooms (n : ℕ) (R : Rooms) (set : ℕ) (nearest : List ℕ) : Type 0 where
+  pub inside : (m : ℕ) → has set m ≡ true → m < n
   pub among : (m : ℕ) → occurs nearest 16 m ≡ true → has set m ≡ true
   pub own : (m : ℕ) → occurs nearest 16 m ≡ true → (R .initiator m < 16) × (getD nearest (R .initiator m) 0 ≡ m)
 

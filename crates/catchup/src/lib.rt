@@ -4,13 +4,15 @@
 use ids::CartNumber;
 use ids::Station;
 ghost use mathlib.Core.Path.{_≡_};
+ghost use mathlib.Core.Bool.{true};
 ghost use mathlib.Core.Option.{some};
-ghost use Prim.Native.Nat.{_+_, _-_, _<_, _≤_};
+ghost use Prim.Native.Nat.{ℕ, _+_, _-_, _<_, _≤_};
 ghost use lib.ListN.{length};
+ghost use Rattle.protocol.specs.CartSets.{has};
 ghost use Rattle.protocol.specs.Folds.{listOf};
-ghost use Rattle.stations.specs.View.{initiators, rooms, HasStation, stationsIn, headIn};
+ghost use Rattle.stations.specs.View.{initiators, rooms, HasStation, stationsIn, headIn, namingIn};
 ghost use Rattle.messages.specs.View.{roomsIn};
-ghost use Rattle.queue.specs.Rooms.{tablesFloor, HasRooms, roomCode, roomIn};
+ghost use Rattle.queue.specs.Rooms.{tablesFloor, roomCount, HasRooms, roomCode, roomIn};
 ghost use Rattle.catchup.specs.Naming.{Covers, namedBy};
 ghost use Rattle.catchup.specs.Nearest.{wouldStop, nearerWith, nearestAmong, stopBy};
 ghost use Rattle.catchup.specs.Arrival.{stopsBefore, levelIn, nearestRow, stopIn, Rises, rise, isFound, occurs, OwnRooms, queuedFor};
@@ -28,7 +30,7 @@ fn would_stop(
     next: u64,
     m: usize,
 ) -> bool
-    requires { ⌜ HasStation (now stations) (station .0) × HasRooms (now messages) × (station .0 < 16) × (cart .0 < 64) × (initiator .0 < initiators) × (m < rooms) ⌝ }
+    requires { ⌜ HasStation (now stations) (station .0) × HasRooms (now messages) × (station .0 < 16) × (cart .0 < 64) × (initiator .0 < initiators) × (m < roomCount (now messages)) ⌝ }
     ensures { λ r. ⌜ r ≡ wouldStop (tablesFloor (now (stations .entry)) (now (messages .entry))) (station .0) (cart .0) (initiator .0) next m ⌝ }
 {
     let waiting = messages::waiting_of(messages, m);
@@ -63,7 +65,7 @@ fn nearer(
     m: usize,
     nearest: usize,
 ) -> usize
-    requires { ⌜ HasStation (now stations) (station .0) × HasRooms (now messages) × (station .0 < 16) × (cart .0 < 64) × (initiator .0 < initiators) × (m < rooms) × (nearest ≤ rooms) ⌝ }
+    requires { ⌜ HasStation (now stations) (station .0) × HasRooms (now messages) × (station .0 < 16) × (cart .0 < 64) × (initiator .0 < initiators) × (m < roomCount (now messages)) × (nearest ≤ rooms) × ((nearest ≡ 32 → ⊥) → nearest < roomCount (now messages)) ⌝ }
     ensures { λ r. ⌜ r ≡ roomCode (nearerWith (tablesFloor (now (stations .entry)) (now (messages .entry))) (station .0) (cart .0) (initiator .0) next m (roomIn nearest)) ⌝ }
 {
     if !would_stop(stations, messages, station, cart, initiator, next, m) {
@@ -89,6 +91,7 @@ pub fn nearest_of(
     next: u64,
 ) -> usize
     requires { ⌜ HasStation (now stations) (station .0) × HasRooms (now messages) × (station .0 < 16) × (cart .0 < 64) × (initiator .0 < initiators) ⌝ }
+    requires { ⌜ ((m : ℕ) → has (namingIn (stationsIn (now stations)) (station .0) (cart .0)) m ≡ true → m < roomCount (now messages)) ⌝ }
     ensures { λ r. ⌜ r ≡ roomCode (nearestAmong (tablesFloor (now (stations .entry)) (now (messages .entry))) (station .0) (cart .0) (initiator .0) next 32) ⌝ }
 {
     let mut nearest = queue::NONE;
@@ -118,7 +121,7 @@ pub fn initiator_for(
     cart: CartNumber,
     m: usize,
 ) -> u64
-    requires { ⌜ HasStation (now stations) (station .0) × HasRooms (now messages) × (cart .0 < 64) × (m < rooms) ⌝ }
+    requires { ⌜ HasStation (now stations) (station .0) × HasRooms (now messages) × (cart .0 < 64) × (m < roomCount (now messages)) ⌝ }
     ensures { λ r. ⌜ r ≡ namedBy (stationsIn (now (stations .entry))) (roomsIn (now (messages .entry))) (station .0) (cart .0) m ⌝ }
 {
     if cartset::has(stations::copy_of(stations, m, station), cart.0) {
@@ -153,7 +156,7 @@ pub fn levels(stations: &[u64], station: Station, row: [u64; 16]) -> [u64; 16]
 
 // Does the message in room m, which names the cart, stop it from the next number on and before upto?
 fn stops_before(messages: &[u64], station: Station, m: usize, next: u64, upto: u64) -> bool
-    requires { ⌜ HasRooms (now messages) × (station .0 < 16) × (m < rooms) ⌝ }
+    requires { ⌜ HasRooms (now messages) × (station .0 < 16) × (m < roomCount (now messages)) ⌝ }
     ensures { λ r. ⌜ r ≡ stopsBefore (roomsIn (now (messages .entry))) (station .0) m next upto ⌝ }
 {
     let number = messages::number_of(messages, m).0;
@@ -183,7 +186,7 @@ pub fn stops_of(
     naming: u64,
     row: [u64; 16],
 ) -> Stopped
-    requires { ⌜ Covers (stationsIn (now stations)) (station .0) (cart .0) naming ⌝ }
+    requires { ⌜ Covers (roomCount (now messages)) (stationsIn (now stations)) (station .0) (cart .0) naming ⌝ }
     requires { ⌜ HasStation (now stations) (station .0) × HasRooms (now messages) × (station .0 < 16) × (cart .0 < 64) ⌝ }
     ensures { λ r. ⌜ r .nearest ≡ nearestRow (tablesFloor (now (stations .entry)) (now (messages .entry))) (station .0) (cart .0) row 32 ⌝ }
     ensures { λ r. ⌜ r .upto ≡ listOf 16 (stopIn (tablesFloor (now (stations .entry)) (now (messages .entry))) (station .0) row (r .nearest)) ⌝ }
@@ -228,7 +231,7 @@ pub fn stop_of(
     next: u64,
     nearest: usize,
 ) -> u64
-    requires { ⌜ HasStation (now stations) (station .0) × HasRooms (now messages) × (initiator .0 < initiators) ⌝ }
+    requires { ⌜ HasStation (now stations) (station .0) × HasRooms (now messages) × (initiator .0 < initiators) × (nearest < 32 → nearest < roomCount (now messages)) ⌝ }
     ensures { λ r. ⌜ r ≡ stopBy (tablesFloor (now (stations .entry)) (now (messages .entry))) (station .0) (initiator .0) next (roomIn nearest) .upto ⌝ }
 {
     if nearest < queue::NONE {
@@ -269,7 +272,7 @@ pub fn enqueue_all(
     naming: u64,
     nearest: [usize; 16],
 )
-    requires { ⌜ OwnRooms (roomsIn (now messages)) naming nearest ⌝ }
+    requires { ⌜ OwnRooms (roomCount (now messages)) (roomsIn (now messages)) naming nearest ⌝ }
     requires { ⌜ HasStation (now stations) (station .0) × HasRooms (now messages) × (cart .0 < 64) ⌝ }
     ensures { λ _. ⌜ stationsIn (now (stations .exit)) ≡ queuedFor (stationsIn (now (stations .entry))) (station .0) (cart .0) (occurs nearest 16) ⌝ }
     ensures { λ _. ⌜ headIn (now (stations .exit)) ≡ headIn (now (stations .entry)) ⌝ }

@@ -1,4 +1,4 @@
--- A FLOOR THAT BREAKS THE FORM RULE is refused with 5: the first check of every event but a start, whose own 5 is in Starts, and a send, whose
+-- A FLOOR THAT BREAKS THE FORM RULE is refused with 5: the first check of every event but a start, whose own 5 is in `starting`, and a send, whose
 -- first is 4.
 use mathlib.Core.Path.{_≡_, refl, sym, _∙_}
 use mathlib.Core.Bool.{Bool, true, false}
@@ -7,7 +7,7 @@ use Prim.Native.Nat.{ℕ, _≤_, _<_}
 use native.Mathlib.Omega.{arith}
 use lib.ListN.{length}
 use borrow.Author.Tests.{lt-ltb, le-ltb}
-use Rattle.protocol.specs.Floor.{limits}
+use Rattle.protocol.specs.Floor.{limitsOf}
 use Rattle.protocol.specs.Events.{Event, enter, send, wire, radio, move, refused}
 use Rattle.protocol.specs.Form.{passesForm}
 use Rattle.protocol.specs.Refusals.{refusal, refusalIf}
@@ -16,11 +16,11 @@ use Rattle.answers.specs.Met.{Met}
 use Rattle.answers.proofs.Meets.{refusal-broken, meets-refused}
 
 -- what the form test answered, in the way of the code that asked
-module _ (L : Lent) (e : Event) (tested : Bool) (test-is : tested ≡ passesForm limits (floorIn L)) (no : tested ≡ false) where
-  pub meets-broken : refusalIf limits (floorIn L) true e ≡ 5 → Met L L e (refused 5)
+module _ (L : Lent) (e : Event) (tested : Bool) (test-is : tested ≡ passesForm (limitsOf (L .product)) (floorIn L)) (no : tested ≡ false) where
+  pub meets-broken : refusalIf (limitsOf (L .product)) (floorIn L) true e ≡ 5 → Met L L e (refused 5)
   meets-broken q = meets-refused L e 5 (refusal-broken L e (sym test-is ∙ no) ∙ q) (λ z. omega arith)
 
-module _ (L : Lent) (tested : Bool) (test-is : tested ≡ passesForm limits (floorIn L)) (no : tested ≡ false) where
+module _ (L : Lent) (tested : Bool) (test-is : tested ≡ passesForm (limitsOf (L .product)) (floorIn L)) (no : tested ≡ false) where
   pub broken-enter : (t c : ℕ) → Met L L (enter t c) (refused 5)
   unfolding refusalIf
   broken-enter t c = meets-broken L (enter t c) tested test-is no refl

@@ -1,4 +1,4 @@
 pub mod Broken
-pub mod Starts
+pub mod Floors
 pub mod Radios
 pub mod Run

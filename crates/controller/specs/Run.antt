@@ -2,7 +2,7 @@
 use mathlib.Core.Path.{_≡_}
 use mathlib.Core.List.{List, [], _∷_, map}
 use Prim.Native.Nat.{ℕ, _<_}
-use Rattle.protocol.specs.Floor.{limits}
+use Rattle.protocol.specs.Floor.{limitsOf}
 use Rattle.protocol.specs.Events.{Event, Answer}
 use Rattle.protocol.specs.Step.{floorAfter, answers}
 use Rattle.protocol.specs.TwoLists.{Lists, bothEmpty, listsStep, owes, TwoListRule}
@@ -15,10 +15,10 @@ pub record Call : Type 0 where
   pub answered : Answer
   pub left : Lent
 
--- every call met its event, the first of them handed L
+-- every call met its event, the first of them handed L, and left parts that are lent for the same product
 unfoldable pub Calls : Lent → List Call → Type 0
 Calls L [] = Unit {0}
-Calls L (k ∷ ks) = Met L (k .left) (k .event) (k .answered) × Calls (k .left) ks
+Calls L (k ∷ ks) = Met L (k .left) (k .event) (k .answered) × ((k .left .product ≡ L .product) × Calls (k .left) ks)
 
 -- the lent parts after all of them
 unfoldable pub leftBy : Lent → List Call → Lent
@@ -36,7 +36,7 @@ eventsOf ks = map (λ (k : Call). k .event) ks
 -- THE CLAIM of a run of calls on a floor of so many carts, from L on, that an accepted start left: answers and floor are those of the written
 -- run over the same events, and the two-list rule holds of what was sent and received in these calls
 pub record RunIs (L : Lent) (carts : ℕ) (ks : List Call) : Type 0 where
-  pub floor : floorIn (leftBy L ks) ≡ floorAfter limits (floorIn L) (eventsOf ks)
-  pub answered : map (λ (k : Call). k .answered) ks ≡ answers limits (floorIn L) (eventsOf ks)
+  pub floor : floorIn (leftBy L ks) ≡ floorAfter (limitsOf (L .product)) (floorIn L) (eventsOf ks)
+  pub answered : map (λ (k : Call). k .answered) ks ≡ answers (limitsOf (L .product)) (floorIn L) (eventsOf ks)
   pub two-lists : (s c : ℕ) → c < carts
-      → TwoListRule (owes limits (floorAfter limits (floorIn L) (eventsOf ks)) s c) (listsOf bothEmpty ks .sent s c) (listsOf bothEmpty ks .received s c)
+      → TwoListRule (owes (limitsOf (L .product)) (floorAfter (limitsOf (L .product)) (floorIn L) (eventsOf ks)) s c) (listsOf bothEmpty ks .sent s c) (listsOf bothEmpty ks .received s c)

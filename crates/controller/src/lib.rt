@@ -8,39 +8,41 @@ use receiving::Handing;
 ghost use mathlib.Core.Path.{_≡_};
 ghost use mathlib.Core.List.{[]};
 ghost use lib.ListN.{length};
-ghost use Rattle.protocol.specs.Floor.{limits};
+ghost use Rattle.protocol.specs.Floor.{wholeFloor, limits};
 ghost use Rattle.protocol.specs.Events.{start, enter, send, wire, radio, move, bufferAfter};
-ghost use Rattle.protocol.specs.Refusals.{wrongSize};
+ghost use Rattle.protocol.specs.Form.{passesForm};
 ghost use Rattle.protocol.specs.Step.{answer};
 ghost use Rattle.view.specs.View.{lent, floorIn};
 ghost use Rattle.answers.specs.Answers.{answerIn};
 ghost use Rattle.answers.specs.Met.{Met};
 
-// The mark that says started.
-const STARTED: u64 = 1;
-
-// "Stations 1 to 16", "Carts 1 to 64".
+// "Stations 1 to 16", "Carts 1 to 64", "At most 32 held messages", "last number 65,534".
 const STATIONS: u64 = 16;
 
 const CARTS: u64 = 64;
 
+const HELD: usize = 32;
+
+const LAST: u64 = 65534;
+
 // "text 0 to 32 octets".
 const TEXT: usize = 32;
 
-// 7: "stations not 1 to 16, or carts not 1 to 64".
-fn wrong_size(n: u64, k: u64) -> bool
-    ensures { λ r. ⌜ r ≡ wrongSize limits n k ⌝ }
+// The lent floor passes the form rule.
+fn passes(stations: &[u64], carts: &[u64], messages: &[u64], lines: &[u64], texts: &[u8]) -> bool
+    ensures { λ r. ⌜ r ≡ passesForm limits (floorIn (lent wholeFloor (now (stations .entry)) (now (carts .entry)) (now (messages .entry)) (now (lines .entry)) (now (texts .entry)))) ⌝ }
 {
-    if n == 0 {
-        return true;
-    }
-    if STATIONS < n {
-        return true;
-    }
-    if k == 0 {
-        return true;
-    }
-    CARTS < k
+    formtest::passes(
+        stations,
+        carts,
+        messages,
+        lines,
+        texts,
+        STATIONS,
+        CARTS,
+        HELD,
+        LAST,
+    )
 }
 
 // Start, of so many stations and carts: it looks at the lengths of the lent parts, at the mark and at the two numbers, "and it writes all the
@@ -54,19 +56,21 @@ pub fn start(
     n: u64,
     k: u64,
 ) -> Answer
-    ensures { λ a. ⌜ Met (lent (now (stations .entry)) (now (carts .entry)) (now (messages .entry)) (now (lines .entry)) (now (texts .entry))) (lent (now (stations .exit)) (now (carts .exit)) (now (messages .exit)) (now (lines .exit)) (now (texts .entry))) (start n k) (answerIn a []) ⌝ }
+    ensures { λ a. ⌜ Met (lent wholeFloor (now (stations .entry)) (now (carts .entry)) (now (messages .entry)) (now (lines .entry)) (now (texts .entry))) (lent wholeFloor (now (stations .exit)) (now (carts .exit)) (now (messages .exit)) (now (lines .exit)) (now (texts .entry))) (start n k) (answerIn a []) ⌝ }
 {
-    if !formtest::lengths_ok(stations, carts, messages, lines, texts) {
-        return Answer::Refused(5);
-    }
-    if stations::mark_of(stations) == STARTED {
-        return Answer::Refused(6);
-    }
-    if wrong_size(n, k) {
-        return Answer::Refused(7);
-    }
-    sending::start_floor(stations, carts, messages, lines, n, k);
-    Answer::Started(n, k)
+    starting::start(
+        stations,
+        carts,
+        messages,
+        lines,
+        texts,
+        n,
+        k,
+        STATIONS,
+        CARTS,
+        HELD,
+        LAST,
+    )
 }
 
 // "Enter (station, cart)".
@@ -79,9 +83,9 @@ pub fn enter(
     station: Station,
     cart: CartNumber,
 ) -> Answer
-    ensures { λ a. ⌜ Met (lent (now (stations .entry)) (now (carts .entry)) (now (messages .entry)) (now (lines .entry)) (now (texts .entry))) (lent (now (stations .exit)) (now (carts .exit)) (now (messages .entry)) (now (lines .entry)) (now (texts .entry))) (enter (station .0) (cart .0)) (answerIn a []) ⌝ }
+    ensures { λ a. ⌜ Met (lent wholeFloor (now (stations .entry)) (now (carts .entry)) (now (messages .entry)) (now (lines .entry)) (now (texts .entry))) (lent wholeFloor (now (stations .exit)) (now (carts .exit)) (now (messages .entry)) (now (lines .entry)) (now (texts .entry))) (enter (station .0) (cart .0)) (answerIn a []) ⌝ }
 {
-    if !formtest::passes(stations, carts, messages, lines, texts) {
+    if !passes(stations, carts, messages, lines, texts) {
         return Answer::Refused(5);
     }
     rolling::enter(stations, carts, messages, lines, texts, station, cart)
@@ -98,15 +102,25 @@ pub fn send(
     set: u64,
     text: &[u8],
 ) -> Answer
-    ensures { λ a. ⌜ Met (lent (now (stations .entry)) (now (carts .entry)) (now (messages .entry)) (now (lines .entry)) (now (texts .entry))) (lent (now (stations .exit)) (now (carts .entry)) (now (messages .exit)) (now (lines .exit)) (now (texts .exit))) (send (station .0) set (now (text .entry))) (answerIn a []) ⌝ }
+    ensures { λ a. ⌜ Met (lent wholeFloor (now (stations .entry)) (now (carts .entry)) (now (messages .entry)) (now (lines .entry)) (now (texts .entry))) (lent wholeFloor (now (stations .exit)) (now (carts .entry)) (now (messages .exit)) (now (lines .exit)) (now (texts .exit))) (send (station .0) set (now (text .entry))) (answerIn a []) ⌝ }
 {
     if TEXT < text.len() {
         return Answer::Refused(4);
     }
-    if !formtest::passes(stations, carts, messages, lines, texts) {
+    if !passes(stations, carts, messages, lines, texts) {
         return Answer::Refused(5);
     }
-    posting::send(stations, carts, messages, lines, texts, station, set, text)
+    posting::send(
+        stations,
+        carts,
+        messages,
+        lines,
+        texts,
+        station,
+        set,
+        text,
+        LAST,
+    )
 }
 
 // "Wire (from, to)".
@@ -119,9 +133,9 @@ pub fn wire(
     from: Station,
     to: Station,
 ) -> Answer
-    ensures { λ a. ⌜ Met (lent (now (stations .entry)) (now (carts .entry)) (now (messages .entry)) (now (lines .entry)) (now (texts .entry))) (lent (now (stations .exit)) (now (carts .exit)) (now (messages .exit)) (now (lines .exit)) (now (texts .entry))) (wire (from .0) (to .0)) (answerIn a []) ⌝ }
+    ensures { λ a. ⌜ Met (lent wholeFloor (now (stations .entry)) (now (carts .entry)) (now (messages .entry)) (now (lines .entry)) (now (texts .entry))) (lent wholeFloor (now (stations .exit)) (now (carts .exit)) (now (messages .exit)) (now (lines .exit)) (now (texts .entry))) (wire (from .0) (to .0)) (answerIn a []) ⌝ }
 {
-    if !formtest::passes(stations, carts, messages, lines, texts) {
+    if !passes(stations, carts, messages, lines, texts) {
         return Answer::Refused(5);
     }
     wiring::wire(stations, carts, messages, lines, texts, from, to)
@@ -139,10 +153,10 @@ pub fn radio(
     cart: CartNumber,
     buffer: &mut [u8],
 ) -> Answer
-    ensures { λ a. ⌜ Met (lent (now (stations .entry)) (now (carts .entry)) (now (messages .entry)) (now (lines .entry)) (now (texts .entry))) (lent (now (stations .exit)) (now (carts .exit)) (now (messages .entry)) (now (lines .exit)) (now (texts .entry))) (radio (station .0) (cart .0) (length (now (buffer .entry)))) (answerIn a (now (buffer .exit))) ⌝ }
-    ensures { λ a. ⌜ now (buffer .exit) ≡ bufferAfter (answer limits (floorIn (lent (now (stations .entry)) (now (carts .entry)) (now (messages .entry)) (now (lines .entry)) (now (texts .entry)))) (radio (station .0) (cart .0) (length (now (buffer .entry))))) (now (buffer .entry)) ⌝ }
+    ensures { λ a. ⌜ Met (lent wholeFloor (now (stations .entry)) (now (carts .entry)) (now (messages .entry)) (now (lines .entry)) (now (texts .entry))) (lent wholeFloor (now (stations .exit)) (now (carts .exit)) (now (messages .entry)) (now (lines .exit)) (now (texts .entry))) (radio (station .0) (cart .0) (length (now (buffer .entry)))) (answerIn a (now (buffer .exit))) ⌝ }
+    ensures { λ a. ⌜ now (buffer .exit) ≡ bufferAfter (answer limits (floorIn (lent wholeFloor (now (stations .entry)) (now (carts .entry)) (now (messages .entry)) (now (lines .entry)) (now (texts .entry)))) (radio (station .0) (cart .0) (length (now (buffer .entry))))) (now (buffer .entry)) ⌝ }
 {
-    if !formtest::passes(stations, carts, messages, lines, texts) {
+    if !passes(stations, carts, messages, lines, texts) {
         return Answer::Refused(5);
     }
     let room = buffer.len();
@@ -164,9 +178,9 @@ pub fn move_cart(
     cart: CartNumber,
     to: Station,
 ) -> Answer
-    ensures { λ a. ⌜ Met (lent (now (stations .entry)) (now (carts .entry)) (now (messages .entry)) (now (lines .entry)) (now (texts .entry))) (lent (now (stations .entry)) (now (carts .exit)) (now (messages .entry)) (now (lines .exit)) (now (texts .entry))) (move (cart .0) (to .0)) (answerIn a []) ⌝ }
+    ensures { λ a. ⌜ Met (lent wholeFloor (now (stations .entry)) (now (carts .entry)) (now (messages .entry)) (now (lines .entry)) (now (texts .entry))) (lent wholeFloor (now (stations .entry)) (now (carts .exit)) (now (messages .entry)) (now (lines .exit)) (now (texts .entry))) (move (cart .0) (to .0)) (answerIn a []) ⌝ }
 {
-    if !formtest::passes(stations, carts, messages, lines, texts) {
+    if !passes(stations, carts, messages, lines, texts) {
         return Answer::Refused(5);
     }
     rolling::move_cart(stations, carts, messages, lines, texts, cart, to)

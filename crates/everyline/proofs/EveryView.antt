@@ -7,7 +7,7 @@ use native.Mathlib.Omega.{arith}
 use lib.Dec.{eqb, ltb}
 use borrow.Author.Tests.{eqb-true, ltb-true, lt-ltb}
 use Rattle.protocol.specs.Folds.{sum}
-use Rattle.protocol.specs.Floor.{Record, put, toEvery}
+use Rattle.protocol.specs.Floor.{Record, put, toEvery, Product}
 use Rattle.protocol.specs.Form.{bit}
 use Rattle.protocol.proofs.Tests.{by-test, clash, and-left, and-right, and-intro, eqb-self}
 use Rattle.protocol.proofs.Counting.{sum-term}
@@ -51,11 +51,12 @@ module _ (l l′ : List ℕ) (s n : ℕ) (r : word.Record) (ls : s < 16) (ln : n
       joined i j e = let z = picked n s i j e in rw (← z .0) (p .line j (z .1))
 
 -- THE WORDS LIE RIGHT AGAIN, when the record says its room right
-module _ (S C M W T W′ : List ℕ) (X : Laid (lent S C M W T)) (s n : ℕ) (r : word.Record) (ls : s < 16) (ln : n ≤ 16) (p : PushedToEvery W W′ s n r) where
-  pub laid-every : ((j : ℕ) → j < n → roomRight (roomsIn M) s j r ≡ true) → Laid (lent S C M W′ T)
+module _ {P : Product} (S C M W T W′ : List ℕ) (X : Laid (lent P S C M W T)) (s n : ℕ) (r : word.Record) (ls : s < 16) (ln : n ≤ 16) (p : PushedToEvery W W′ s n r) where
+  pub laid-every : ((j : ℕ) → j < n → roomRight (roomsIn M) s j r ≡ true) → Laid (lent P S C M W′ T)
   laid-every right =
       record {
         chains = p .formed;
+        few = X .few;
         canonical = X .canonical;
         local = X .local;
         short = X .short;

@@ -10,7 +10,7 @@ ghost use mathlib.Core.Bool.{true};
 ghost use mathlib.Core.List.{[]};
 ghost use Prim.Native.Nat.{_≤_};
 ghost use lib.ListN.{length};
-ghost use Rattle.protocol.specs.Floor.{limits};
+ghost use Rattle.protocol.specs.Floor.{wholeFloor, limits};
 ghost use Rattle.protocol.specs.Events.{start, enter, send, wire, radio, move, bufferAfter};
 ghost use Rattle.protocol.specs.Form.{passesForm};
 ghost use Rattle.protocol.specs.Step.{answer};
@@ -68,7 +68,7 @@ pub extern "C" fn mekhturia_start(
     out: &mut [u64],
 )
     requires { ⌜ 7 ≤ length (now out) ⌝ }
-    ensures { λ _. ⌜ Told (lent (now (stations .entry)) (now (carts .entry)) (now (messages .entry)) (now (lines .entry)) (now (texts .entry))) (lent (now (stations .exit)) (now (carts .exit)) (now (messages .exit)) (now (lines .exit)) (now (texts .entry))) (start n k) [] (now (out .entry)) (now (out .exit)) ⌝ }
+    ensures { λ _. ⌜ Told (lent wholeFloor (now (stations .entry)) (now (carts .entry)) (now (messages .entry)) (now (lines .entry)) (now (texts .entry))) (lent wholeFloor (now (stations .exit)) (now (carts .exit)) (now (messages .exit)) (now (lines .exit)) (now (texts .entry))) (start n k) [] (now (out .entry)) (now (out .exit)) ⌝ }
 {
     let answer = controller::start(stations, carts, messages, lines, texts, n, k);
     put_answer_words(out, answer);
@@ -87,7 +87,7 @@ pub extern "C" fn mekhturia_enter(
     out: &mut [u64],
 )
     requires { ⌜ 7 ≤ length (now out) ⌝ }
-    ensures { λ _. ⌜ Told (lent (now (stations .entry)) (now (carts .entry)) (now (messages .entry)) (now (lines .entry)) (now (texts .entry))) (lent (now (stations .exit)) (now (carts .exit)) (now (messages .entry)) (now (lines .entry)) (now (texts .entry))) (enter station cart) [] (now (out .entry)) (now (out .exit)) ⌝ }
+    ensures { λ _. ⌜ Told (lent wholeFloor (now (stations .entry)) (now (carts .entry)) (now (messages .entry)) (now (lines .entry)) (now (texts .entry))) (lent wholeFloor (now (stations .exit)) (now (carts .exit)) (now (messages .entry)) (now (lines .entry)) (now (texts .entry))) (enter station cart) [] (now (out .entry)) (now (out .exit)) ⌝ }
 {
     let answer = controller::enter(
         stations,
@@ -115,7 +115,7 @@ pub extern "C" fn mekhturia_send(
     out: &mut [u64],
 )
     requires { ⌜ 7 ≤ length (now out) ⌝ }
-    ensures { λ _. ⌜ Told (lent (now (stations .entry)) (now (carts .entry)) (now (messages .entry)) (now (lines .entry)) (now (texts .entry))) (lent (now (stations .exit)) (now (carts .entry)) (now (messages .exit)) (now (lines .exit)) (now (texts .exit))) (send station set (now (text .entry))) [] (now (out .entry)) (now (out .exit)) ⌝ }
+    ensures { λ _. ⌜ Told (lent wholeFloor (now (stations .entry)) (now (carts .entry)) (now (messages .entry)) (now (lines .entry)) (now (texts .entry))) (lent wholeFloor (now (stations .exit)) (now (carts .entry)) (now (messages .exit)) (now (lines .exit)) (now (texts .exit))) (send station set (now (text .entry))) [] (now (out .entry)) (now (out .exit)) ⌝ }
 {
     let answer = controller::send(
         stations,
@@ -143,7 +143,7 @@ pub extern "C" fn mekhturia_wire(
     out: &mut [u64],
 )
     requires { ⌜ 7 ≤ length (now out) ⌝ }
-    ensures { λ _. ⌜ Told (lent (now (stations .entry)) (now (carts .entry)) (now (messages .entry)) (now (lines .entry)) (now (texts .entry))) (lent (now (stations .exit)) (now (carts .exit)) (now (messages .exit)) (now (lines .exit)) (now (texts .entry))) (wire from to) [] (now (out .entry)) (now (out .exit)) ⌝ }
+    ensures { λ _. ⌜ Told (lent wholeFloor (now (stations .entry)) (now (carts .entry)) (now (messages .entry)) (now (lines .entry)) (now (texts .entry))) (lent wholeFloor (now (stations .exit)) (now (carts .exit)) (now (messages .exit)) (now (lines .exit)) (now (texts .entry))) (wire from to) [] (now (out .entry)) (now (out .exit)) ⌝ }
 {
     let answer = controller::wire(
         stations,
@@ -171,8 +171,8 @@ pub extern "C" fn mekhturia_radio(
     out: &mut [u64],
 )
     requires { ⌜ 7 ≤ length (now out) ⌝ }
-    ensures { λ _. ⌜ Told (lent (now (stations .entry)) (now (carts .entry)) (now (messages .entry)) (now (lines .entry)) (now (texts .entry))) (lent (now (stations .exit)) (now (carts .exit)) (now (messages .entry)) (now (lines .exit)) (now (texts .entry))) (radio station cart (length (now (buffer .entry)))) (now (buffer .exit)) (now (out .entry)) (now (out .exit)) ⌝ }
-    ensures { λ _. ⌜ now (buffer .exit) ≡ bufferAfter (answer limits (floorIn (lent (now (stations .entry)) (now (carts .entry)) (now (messages .entry)) (now (lines .entry)) (now (texts .entry)))) (radio station cart (length (now (buffer .entry))))) (now (buffer .entry)) ⌝ }
+    ensures { λ _. ⌜ Told (lent wholeFloor (now (stations .entry)) (now (carts .entry)) (now (messages .entry)) (now (lines .entry)) (now (texts .entry))) (lent wholeFloor (now (stations .exit)) (now (carts .exit)) (now (messages .entry)) (now (lines .exit)) (now (texts .entry))) (radio station cart (length (now (buffer .entry)))) (now (buffer .exit)) (now (out .entry)) (now (out .exit)) ⌝ }
+    ensures { λ _. ⌜ now (buffer .exit) ≡ bufferAfter (answer limits (floorIn (lent wholeFloor (now (stations .entry)) (now (carts .entry)) (now (messages .entry)) (now (lines .entry)) (now (texts .entry)))) (radio station cart (length (now (buffer .entry))))) (now (buffer .entry)) ⌝ }
 {
     let answer = controller::radio(
         stations,
@@ -200,7 +200,7 @@ pub extern "C" fn mekhturia_move(
     out: &mut [u64],
 )
     requires { ⌜ 7 ≤ length (now out) ⌝ }
-    ensures { λ _. ⌜ Told (lent (now (stations .entry)) (now (carts .entry)) (now (messages .entry)) (now (lines .entry)) (now (texts .entry))) (lent (now (stations .entry)) (now (carts .exit)) (now (messages .entry)) (now (lines .exit)) (now (texts .entry))) (move cart to) [] (now (out .entry)) (now (out .exit)) ⌝ }
+    ensures { λ _. ⌜ Told (lent wholeFloor (now (stations .entry)) (now (carts .entry)) (now (messages .entry)) (now (lines .entry)) (now (texts .entry))) (lent wholeFloor (now (stations .entry)) (now (carts .exit)) (now (messages .entry)) (now (lines .exit)) (now (texts .entry))) (move cart to) [] (now (out .entry)) (now (out .exit)) ⌝ }
 {
     let answer = controller::move_cart(
         stations,
@@ -226,9 +226,9 @@ pub extern "C" fn mekhturia_step_enter(
     cart: u64,
     out: &mut [u64],
 )
-    requires { ⌜ passesForm limits (floorIn (lent (now stations) (now carts) (now messages) (now lines) (now texts))) ≡ true ⌝ }
+    requires { ⌜ passesForm limits (floorIn (lent wholeFloor (now stations) (now carts) (now messages) (now lines) (now texts))) ≡ true ⌝ }
     requires { ⌜ 7 ≤ length (now out) ⌝ }
-    ensures { λ _. ⌜ Told (lent (now (stations .entry)) (now (carts .entry)) (now (messages .entry)) (now (lines .entry)) (now (texts .entry))) (lent (now (stations .exit)) (now (carts .exit)) (now (messages .entry)) (now (lines .entry)) (now (texts .entry))) (enter station cart) [] (now (out .entry)) (now (out .exit)) ⌝ }
+    ensures { λ _. ⌜ Told (lent wholeFloor (now (stations .entry)) (now (carts .entry)) (now (messages .entry)) (now (lines .entry)) (now (texts .entry))) (lent wholeFloor (now (stations .exit)) (now (carts .exit)) (now (messages .entry)) (now (lines .entry)) (now (texts .entry))) (enter station cart) [] (now (out .entry)) (now (out .exit)) ⌝ }
 {
     let answer = rolling::enter(
         stations,
@@ -255,10 +255,10 @@ pub extern "C" fn mekhturia_step_send(
     text: &[u8],
     out: &mut [u64],
 )
-    requires { ⌜ passesForm limits (floorIn (lent (now stations) (now carts) (now messages) (now lines) (now texts))) ≡ true ⌝ }
+    requires { ⌜ passesForm limits (floorIn (lent wholeFloor (now stations) (now carts) (now messages) (now lines) (now texts))) ≡ true ⌝ }
     requires { ⌜ length (now text) ≤ 32 ⌝ }
     requires { ⌜ 7 ≤ length (now out) ⌝ }
-    ensures { λ _. ⌜ Told (lent (now (stations .entry)) (now (carts .entry)) (now (messages .entry)) (now (lines .entry)) (now (texts .entry))) (lent (now (stations .exit)) (now (carts .entry)) (now (messages .exit)) (now (lines .exit)) (now (texts .exit))) (send station set (now (text .entry))) [] (now (out .entry)) (now (out .exit)) ⌝ }
+    ensures { λ _. ⌜ Told (lent wholeFloor (now (stations .entry)) (now (carts .entry)) (now (messages .entry)) (now (lines .entry)) (now (texts .entry))) (lent wholeFloor (now (stations .exit)) (now (carts .entry)) (now (messages .exit)) (now (lines .exit)) (now (texts .exit))) (send station set (now (text .entry))) [] (now (out .entry)) (now (out .exit)) ⌝ }
 {
     let answer = posting::send(
         stations,
@@ -269,6 +269,7 @@ pub extern "C" fn mekhturia_step_send(
         Station(station),
         set,
         text,
+        65534,
     );
     put_answer_words(out, answer);
 }
@@ -285,9 +286,9 @@ pub extern "C" fn mekhturia_step_wire(
     to: u64,
     out: &mut [u64],
 )
-    requires { ⌜ passesForm limits (floorIn (lent (now stations) (now carts) (now messages) (now lines) (now texts))) ≡ true ⌝ }
+    requires { ⌜ passesForm limits (floorIn (lent wholeFloor (now stations) (now carts) (now messages) (now lines) (now texts))) ≡ true ⌝ }
     requires { ⌜ 7 ≤ length (now out) ⌝ }
-    ensures { λ _. ⌜ Told (lent (now (stations .entry)) (now (carts .entry)) (now (messages .entry)) (now (lines .entry)) (now (texts .entry))) (lent (now (stations .exit)) (now (carts .exit)) (now (messages .exit)) (now (lines .exit)) (now (texts .entry))) (wire from to) [] (now (out .entry)) (now (out .exit)) ⌝ }
+    ensures { λ _. ⌜ Told (lent wholeFloor (now (stations .entry)) (now (carts .entry)) (now (messages .entry)) (now (lines .entry)) (now (texts .entry))) (lent wholeFloor (now (stations .exit)) (now (carts .exit)) (now (messages .exit)) (now (lines .exit)) (now (texts .entry))) (wire from to) [] (now (out .entry)) (now (out .exit)) ⌝ }
 {
     let answer = wiring::wire(
         stations,
@@ -312,9 +313,9 @@ fn receive(
     cart: CartNumber,
     buffer: &mut [u8],
 ) -> Answer
-    requires { ⌜ passesForm limits (floorIn (lent (now stations) (now carts) (now messages) (now lines) (now texts))) ≡ true ⌝ }
-    ensures { λ a. ⌜ Met (lent (now (stations .entry)) (now (carts .entry)) (now (messages .entry)) (now (lines .entry)) (now (texts .entry))) (lent (now (stations .exit)) (now (carts .exit)) (now (messages .entry)) (now (lines .exit)) (now (texts .entry))) (radio (station .0) (cart .0) (length (now (buffer .entry)))) (answerIn a (now (buffer .exit))) ⌝ }
-    ensures { λ a. ⌜ now (buffer .exit) ≡ bufferAfter (answer limits (floorIn (lent (now (stations .entry)) (now (carts .entry)) (now (messages .entry)) (now (lines .entry)) (now (texts .entry)))) (radio (station .0) (cart .0) (length (now (buffer .entry))))) (now (buffer .entry)) ⌝ }
+    requires { ⌜ passesForm limits (floorIn (lent wholeFloor (now stations) (now carts) (now messages) (now lines) (now texts))) ≡ true ⌝ }
+    ensures { λ a. ⌜ Met (lent wholeFloor (now (stations .entry)) (now (carts .entry)) (now (messages .entry)) (now (lines .entry)) (now (texts .entry))) (lent wholeFloor (now (stations .exit)) (now (carts .exit)) (now (messages .entry)) (now (lines .exit)) (now (texts .entry))) (radio (station .0) (cart .0) (length (now (buffer .entry)))) (answerIn a (now (buffer .exit))) ⌝ }
+    ensures { λ a. ⌜ now (buffer .exit) ≡ bufferAfter (answer limits (floorIn (lent wholeFloor (now (stations .entry)) (now (carts .entry)) (now (messages .entry)) (now (lines .entry)) (now (texts .entry)))) (radio (station .0) (cart .0) (length (now (buffer .entry))))) (now (buffer .entry)) ⌝ }
 {
     let room = buffer.len();
     let handing = receiving::radio(stations, carts, messages, lines, texts, station, cart, room);
@@ -338,10 +339,10 @@ pub extern "C" fn mekhturia_step_radio(
     buffer: &mut [u8],
     out: &mut [u64],
 )
-    requires { ⌜ passesForm limits (floorIn (lent (now stations) (now carts) (now messages) (now lines) (now texts))) ≡ true ⌝ }
+    requires { ⌜ passesForm limits (floorIn (lent wholeFloor (now stations) (now carts) (now messages) (now lines) (now texts))) ≡ true ⌝ }
     requires { ⌜ 7 ≤ length (now out) ⌝ }
-    ensures { λ _. ⌜ Told (lent (now (stations .entry)) (now (carts .entry)) (now (messages .entry)) (now (lines .entry)) (now (texts .entry))) (lent (now (stations .exit)) (now (carts .exit)) (now (messages .entry)) (now (lines .exit)) (now (texts .entry))) (radio station cart (length (now (buffer .entry)))) (now (buffer .exit)) (now (out .entry)) (now (out .exit)) ⌝ }
-    ensures { λ _. ⌜ now (buffer .exit) ≡ bufferAfter (answer limits (floorIn (lent (now (stations .entry)) (now (carts .entry)) (now (messages .entry)) (now (lines .entry)) (now (texts .entry)))) (radio station cart (length (now (buffer .entry))))) (now (buffer .entry)) ⌝ }
+    ensures { λ _. ⌜ Told (lent wholeFloor (now (stations .entry)) (now (carts .entry)) (now (messages .entry)) (now (lines .entry)) (now (texts .entry))) (lent wholeFloor (now (stations .exit)) (now (carts .exit)) (now (messages .entry)) (now (lines .exit)) (now (texts .entry))) (radio station cart (length (now (buffer .entry)))) (now (buffer .exit)) (now (out .entry)) (now (out .exit)) ⌝ }
+    ensures { λ _. ⌜ now (buffer .exit) ≡ bufferAfter (answer limits (floorIn (lent wholeFloor (now (stations .entry)) (now (carts .entry)) (now (messages .entry)) (now (lines .entry)) (now (texts .entry)))) (radio station cart (length (now (buffer .entry))))) (now (buffer .entry)) ⌝ }
 {
     let answer = receive(
         stations,
@@ -368,9 +369,9 @@ pub extern "C" fn mekhturia_step_move(
     to: u64,
     out: &mut [u64],
 )
-    requires { ⌜ passesForm limits (floorIn (lent (now stations) (now carts) (now messages) (now lines) (now texts))) ≡ true ⌝ }
+    requires { ⌜ passesForm limits (floorIn (lent wholeFloor (now stations) (now carts) (now messages) (now lines) (now texts))) ≡ true ⌝ }
     requires { ⌜ 7 ≤ length (now out) ⌝ }
-    ensures { λ _. ⌜ Told (lent (now (stations .entry)) (now (carts .entry)) (now (messages .entry)) (now (lines .entry)) (now (texts .entry))) (lent (now (stations .entry)) (now (carts .exit)) (now (messages .entry)) (now (lines .exit)) (now (texts .entry))) (move cart to) [] (now (out .entry)) (now (out .exit)) ⌝ }
+    ensures { λ _. ⌜ Told (lent wholeFloor (now (stations .entry)) (now (carts .entry)) (now (messages .entry)) (now (lines .entry)) (now (texts .entry))) (lent wholeFloor (now (stations .entry)) (now (carts .exit)) (now (messages .entry)) (now (lines .exit)) (now (texts .entry))) (move cart to) [] (now (out .entry)) (now (out .exit)) ⌝ }
 {
     let answer = rolling::move_cart(
         stations,

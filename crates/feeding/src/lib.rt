@@ -7,6 +7,7 @@ ghost use Prim.Native.Nat.{_+_, _-_, _≤_, _<_};
 ghost use lib.ListN.{length, take, drop};
 ghost use Rattle.stations.specs.View.{headIn};
 ghost use Rattle.report.specs.Lines.{written, Tabled};
+ghost use Rattle.protocol.specs.Floor.{wholeFloor};
 ghost use Rattle.running.specs.Ready.{Ready};
 ghost use Rattle.view.specs.View.{lent};
 ghost use Rattle.feeding.specs.Feed.{Inside};
@@ -155,9 +156,9 @@ fn run_piece(
     numbers: &[u64],
     f: Feed,
 ) -> Feed
-    requires { ⌜ Ready (lent (now stations) (now carts) (now messages) (now lines) (now texts)) × Tabled (now numbers) ⌝ }
+    requires { ⌜ Ready (lent wholeFloor (now stations) (now carts) (now messages) (now lines) (now texts)) × Tabled (now numbers) ⌝ }
     requires { ⌜ Inside (length (now input)) f × (length (now input) ≡ 65536) × (f .index < 9223372036854775808) ⌝ }
-    ensures { λ r. ⌜ Ready (lent (now (stations .exit)) (now (carts .exit)) (now (messages .exit)) (now (lines .exit)) (now (texts .exit))) × Inside (length (now (input .entry))) r ⌝ }
+    ensures { λ r. ⌜ Ready (lent wholeFloor (now (stations .exit)) (now (carts .exit)) (now (messages .exit)) (now (lines .exit)) (now (texts .exit))) × Inside (length (now (input .entry))) r ⌝ }
     ensures { λ r. ⌜ length (now (output .exit)) ≡ length (now (output .entry)) ⌝ }
 {
     let at = f.at;
@@ -211,9 +212,9 @@ fn turn(
     numbers: &[u64],
     f: Feed,
 ) -> Feed
-    requires { ⌜ Ready (lent (now stations) (now carts) (now messages) (now lines) (now texts)) × Tabled (now numbers) ⌝ }
+    requires { ⌜ Ready (lent wholeFloor (now stations) (now carts) (now messages) (now lines) (now texts)) × Tabled (now numbers) ⌝ }
     requires { ⌜ Inside (length (now input)) f × (length (now input) ≡ 65536) × (f .index < 9223372036854775808) ⌝ }
-    ensures { λ r. ⌜ Ready (lent (now (stations .exit)) (now (carts .exit)) (now (messages .exit)) (now (lines .exit)) (now (texts .exit))) × Inside (length (now (input .exit))) r ⌝ }
+    ensures { λ r. ⌜ Ready (lent wholeFloor (now (stations .exit)) (now (carts .exit)) (now (messages .exit)) (now (lines .exit)) (now (texts .exit))) × Inside (length (now (input .exit))) r ⌝ }
     ensures { λ r. ⌜ (length (now (input .exit)) ≡ length (now (input .entry))) × (length (now (output .exit)) ≡ length (now (output .entry))) ⌝ }
 {
     let g = fed(from, input, f);
@@ -261,7 +262,7 @@ fn run_all(
     texts: &mut [u8],
     numbers: &[u64],
 )
-    requires { ⌜ Ready (lent (now stations) (now carts) (now messages) (now lines) (now texts)) × Tabled (now numbers) × (length (now input) ≡ 65536) ⌝ }
+    requires { ⌜ Ready (lent wholeFloor (now stations) (now carts) (now messages) (now lines) (now texts)) × Tabled (now numbers) × (length (now input) ≡ 65536) ⌝ }
 {
     let mut f = Feed {
         at: 0,

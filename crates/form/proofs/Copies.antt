@@ -4,7 +4,7 @@ use mathlib.Core.Bool.{Bool, true, false, not, _&&_, _||_}
 use mathlib.Core.List.{List}
 use mathlib.Core.Logic.{_⊎_, inl, inr, ⊎-elim}
 use mathlib.Core.Option.{some}
-use Prim.Native.Nat.{ℕ, _+_, _^_, _≤_, _<_}
+use Prim.Native.Nat.{ℕ, _+_, _*_, _^_, _≤_, _<_}
 use native.Mathlib.Omega.{arith}
 use lib.ListN.{length}
 use borrow.Author.Tests.{not-true, lt-ltb, le-ltb}
@@ -149,8 +149,8 @@ module _ (F : Floor) (m : ℕ) where
     pub copies-end : (r : Bool) → r ≡ test (over k x (nextAbove (F .next) s n)) → r ≡ test (copiesRule F m)
     copies-end r g = g ∙ same-answer (over k x (nextAbove (F .next) s n)) (copiesRule F m) received missing
 
--- a table of 1,972 words has nothing beyond sixteen stations
-module _ (l : List ℕ) (whole : length l ≡ 1972) where
+-- a table of no more rows has nothing beyond sixteen stations
+module _ (l : List ℕ) (n : ℕ) (whole : length l ≡ 116 + n * 116) (few : n ≤ 16) where
   pub copy-past : (m t : ℕ) → 16 ≤ t → stationsIn l .copy m t ≡ 0
   copy-past m t g = table.copy-past l t (omega arith) m
 

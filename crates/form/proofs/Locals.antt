@@ -1,20 +1,22 @@
 -- The masks of local carts, by one pass over the carts.
 use mathlib.Core.Path.{_≡_, sym, ap, _∙_}
-use mathlib.Core.Bool.{true}
+use mathlib.Core.Bool.{Bool, true}
 use mathlib.Core.List.{List, []}
-use Prim.Native.Nat.{ℕ, _+_, _≤_, _<_}
+use Prim.Native.Nat.{ℕ, _+_, _*_, _^_, _≤_, _<_}
 use native.Mathlib.Numerals.{add-one}
 use native.Mathlib.Omega.{arith}
 use lib.ListN.{length, getD, set, replicate, getD-replicate, length-set}
+use lib.Pow.{pow-mono}
 use lib.Seq.{getD-set-same, getD-set-other}
 use borrow.Author.Tests.{eqb-true, eq-eqb, ne-eqb}
-use Rattle.protocol.specs.Floor.{Place, outside, at, leaving, travelling, localTo}
-use Rattle.protocol.specs.CartSets.{with, setOf}
-use Rattle.protocol.proofs.Tests.{by-eq, eqb-self}
-use Rattle.protocol.proofs.SetLaws.{setOf-suc}
+use Rattle.protocol.specs.Floor.{wholeFloor, Place, outside, at, leaving, travelling, localTo}
+use Rattle.protocol.specs.CartSets.{has, with, setOf}
+use Rattle.protocol.proofs.Tests.{by-eq, by-lt, by-test, eqb-self}
+use Rattle.protocol.proofs.SetLaws.{setOf-suc, setOf-lt, has-setOf, member-below, same-members}
 use Rattle.stations.specs.View.{stationsIn}
 use Rattle.carts.specs.View.{cartsIn}
 use Rattle.view.specs.View.{lent, localRight}
+use Rattle.view.proofs.Lengths.{place-past}
 use Rattle.form.specs.Parts.{Home}
 
 -- A CART'S HOME
@@ -60,9 +62,22 @@ module _ (place : ℕ → Place) (locals : List ℕ) (n s : ℕ) (h : LocalsTo p
         (λ q. getD-set-other locals s t v 0 (λ e. q (sym e)) ∙ same t l q),
   )
 
+-- beyond the table there are no carts
+pub locals-all : (C : List ℕ) (k : ℕ) → length C ≡ k * 19 → k ≤ 64 → (t : ℕ)
+    → setOf k (λ d. localTo (cartsIn C .place d) t) ≡ setOf 64 (λ d. localTo (cartsIn C .place d) t)
+locals-all C k e h t =
+    let f : ℕ → Bool = λ d. localTo (cartsIn C .place d) t in
+    let low = setOf-lt k f in
+    let wide : 2 ^ k ≤ 2 ^ 64 = pow-mono h in
+    same-members 64 (setOf k f) (setOf 64 f) (omega arith) (setOf-lt 64 f)
+    (λ d l. by-lt d k
+    (λ b. has-setOf k f d b ∙ sym (has-setOf 64 f d l))
+    (λ b. by-test (has (setOf k f) d) (λ q. absurd (let z = member-below k (setOf k f) d low q in omega arith))
+    (λ q. q ∙ sym (has-setOf 64 f d l ∙ ap (λ (p : Place). localTo p t) (place-past C d (omega arith))))))
+
 -- the mask that a station keeps is right just when it is the one that the pass made
 pub mask-right : (S C : List ℕ) (t kept made : ℕ) → kept ≡ stationsIn S .local t → made ≡ setOf 64 (λ c. localTo (cartsIn C .place c) t)
-    → (localRight (lent S C [] [] []) t ≡ true → kept ≡ made) × (kept ≡ made → localRight (lent S C [] [] []) t ≡ true)
+    → (localRight (lent wholeFloor S C [] [] []) t ≡ true → kept ≡ made) × (kept ≡ made → localRight (lent wholeFloor S C [] [] []) t ≡ true)
 unfolding localRight
 mask-right S C t kept made e g =
     let right = setOf 64 (λ c. localTo (cartsIn C .place c) t) in

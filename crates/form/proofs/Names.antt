@@ -46,8 +46,8 @@ module _ (F : Floor) (s n m : ℕ) where
   message-no h = by-test (isMessage F s n m) (λ e. absurd (h e)) (λ e. sym e)
 
 -- that no room before another has its name says it of every two
-module _ (F : Floor) where
-  alone : True (all 32 (heldBefore F)) → True (all 32 (heldNames F))
+module _ (h₀ : ℕ) (F : Floor) where
+  alone : True (all h₀ (heldBefore F)) → True (all h₀ (heldNames h₀ F))
   alone h m l q = (
     h m l q .0,
     (
@@ -58,7 +58,7 @@ module _ (F : Floor) where
     ),
   )
 
-  apart : True (all 32 (heldNames F)) → True (all 32 (heldBefore F))
+  apart : True (all h₀ (heldNames h₀ F)) → True (all h₀ (heldBefore F))
   apart h m l q = (
     h m l q .0,
     (
@@ -69,8 +69,8 @@ module _ (F : Floor) where
     ),
   )
 
-  pub names-alone : test (all 32 (heldBefore F)) ≡ test (all 32 (heldNames F))
-  names-alone = same-answer (all 32 (heldBefore F)) (all 32 (heldNames F)) alone apart
+  pub names-alone : test (all h₀ (heldBefore F)) ≡ test (all h₀ (heldNames h₀ F))
+  names-alone = same-answer (all h₀ (heldBefore F)) (all h₀ (heldNames h₀ F)) alone apart
 
 -- DELETES, of n stations
 module _ (n waiting acked named : ℕ) where

@@ -7,7 +7,7 @@ use native.Mathlib.Omega.{arith}
 use lib.Pow.{pow-pos, pow-mono, pow-lt}
 use borrow.Author.Tests.{not-true, eqb-true}
 use Rattle.protocol.specs.CartSets.{has, union, minus, setOf}
-use Rattle.protocol.specs.Floor.{Floor, limits, isHeld, localTo}
+use Rattle.protocol.specs.Floor.{wholeFloor, Floor, limits, isHeld, localTo}
 use Rattle.protocol.specs.Claims.{Claim, True, test, all, both, when, is, eq}
 use Rattle.protocol.specs.Form.{entryRule}
 use Rattle.protocol.proofs.Tests.{by-test, by-lt, by-eq, clash, and-left, and-right, and-intro, or-right, or-cases}
@@ -24,7 +24,7 @@ use Rattle.form.proofs.Names.{free-not}
 use Rattle.form.proofs.Sets.{most-within}
 
 -- what the mask of a station says
-pub local-mask : (S C : List ℕ) (t : ℕ) → localRight (lent S C [] [] []) t ≡ true → stationsIn S .local t ≡ setOf 64 (λ c. localTo (cartsIn C .place c) t)
+pub local-mask : (S C : List ℕ) (t : ℕ) → localRight (lent wholeFloor S C [] [] []) t ≡ true → stationsIn S .local t ≡ setOf 64 (λ c. localTo (cartsIn C .place c) t)
 unfolding localRight
 local-mask S C t e = eqb-true (stationsIn S .local t) (setOf 64 (λ c. localTo (cartsIn C .place c) t)) e
 
@@ -84,9 +84,9 @@ module _ (S : Stations) (m t : ℕ) (sets queued strays copy acks queue local a 
     away = collect-more (λ u. minus (S .queue m u) (S .local u)) t strays d z (E .away) (hd ∙ ap₂ minus eu el) hz;
   }
 
--- THE ENTRIES of room m, once those of the sixteen stations are collected
-module _ (S C M : List ℕ) (m sets queued strays : ℕ) (E : Entries (stationsIn S) m 16 sets queued strays)
-    (right : (t : ℕ) → t < 16 → localRight (lent S C [] [] []) t ≡ true) where
+-- THE ENTRIES of room m, once those of the stations are collected
+module _ (S C M : List ℕ) (rows m sets queued strays : ℕ) (E : Entries (stationsIn S) m rows sets queued strays)
+    (right : (t : ℕ) → t < rows → localRight (lent wholeFloor S C [] [] []) t ≡ true) where
   abbrev F : Floor
   F = tables S C M
 
@@ -94,13 +94,13 @@ module _ (S C M : List ℕ) (m sets queued strays : ℕ) (E : Entries (stationsI
   T = stationsIn S
 
   abbrev rule : Claim
-  rule = all 16 (entryRule limits F m)
+  rule = all rows (entryRule limits F m)
 
   -- what the rule asks of cart c, if it is queued at station u
   abbrev asks : ℕ → ℕ → Claim
   asks u c = both (is (isHeld F m)) (both (is (localTo (F .place c) u)) (both (eq (F .next c (F .initiator m)) (F .number m)) (is (has (F .named m) c))))
 
-  asked : True rule → (u : ℕ) → u < 16 → (c : ℕ) → has (T .queue m u) c ≡ true → True (asks u c)
+  asked : True rule → (u : ℕ) → u < rows → (c : ℕ) → has (T .queue m u) c ≡ true → True (asks u c)
   asked h u l c q = let r = h u l in r .1 .1 .1 c (member-below (F .carts) (T .queue m u) c (r .1 .1 .0) q) q
 
   -- a set is of the floor just where all that are collected are
@@ -115,7 +115,7 @@ module _ (S C M : List ℕ) (m sets queued strays : ℕ) (E : Entries (stationsI
       (λ z. member-below (F .carts) (T .acks m u) c (r .1 .0) z)
       (λ z. member-below (F .carts) (T .queue m u) c (r .1 .1 .0) z)))
 
-  fit : sets < 2 ^ F .carts → (u : ℕ) → u < 16 → (T .copy m u < 2 ^ F .carts) × (T .acks m u < 2 ^ F .carts) × (T .queue m u < 2 ^ F .carts)
+  fit : sets < 2 ^ F .carts → (u : ℕ) → u < rows → (T .copy m u < 2 ^ F .carts) × (T .acks m u < 2 ^ F .carts) × (T .queue m u < 2 ^ F .carts)
   fit l u h = (
     members-lt (F .carts) (T .copy m u) (λ c q. below c (or-left (has (T .copy m u) c) (has (union (T .acks m u) (T .queue m u)) c) q)),
     members-lt (F .carts) (T .acks m u) (λ c q. below c (or-right (has (T .copy m u) c) (has (union (T .acks m u) (T .queue m u)) c) (has-union (T .acks m u) (T .queue m u) c ∙ or-left (has (T .acks m u) c) (has (T .queue m u) c) q))),
@@ -125,11 +125,15 @@ module _ (S C M : List ℕ) (m sets queued strays : ℕ) (E : Entries (stationsI
       below : (c : ℕ) → (has (T .copy m u) c || has (union (T .acks m u) (T .queue m u)) c) ≡ true → c < F .carts
       below c q = member-below (F .carts) sets c l (E .all .had u c h (has-union (T .copy m u) (union (T .acks m u) (T .queue m u)) c ∙ q))
 
-  mask : (u c : ℕ) → u < 16 → c < 64 → has (T .local u) c ≡ localTo (F .place c) u
+  -- a queued cart is of the floor
+  pub queued-below : sets < 2 ^ F .carts → (c : ℕ) → has queued c ≡ true → c < F .carts
+  queued-below l c q = let w = E .queue .of c q in member-below (F .carts) (T .queue m (w .0)) c (fit l (w .0) (w .1) .2) (w .2)
+
+  mask : (u c : ℕ) → u < rows → c < 64 → has (T .local u) c ≡ localTo (F .place c) u
   mask u c l k = ap (λ (y : ℕ). has y c) (local-mask S C u (right u l)) ∙ has-setOf 64 (λ d. localTo (F .place d) u) c k
 
   -- none is queued where it is not local
-  at-home : strays ≡ 0 → (u c : ℕ) → u < 16 → c < 64 → has (T .queue m u) c ≡ true → localTo (F .place c) u ≡ true
+  at-home : strays ≡ 0 → (u c : ℕ) → u < rows → c < 64 → has (T .queue m u) c ≡ true → localTo (F .place c) u ≡ true
   at-home z u c l k q =
       by-test (has (T .local u) c)
       (λ e. sym (mask u c l k) ∙ e)

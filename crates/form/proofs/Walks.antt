@@ -46,6 +46,10 @@ module _ (k set : ℕ) (P : ℕ → Claim) where
     pub walk-below : number < 64
     walk-below = lowest .inside
 
+    -- it is of the set
+    pub walk-member : has set number ≡ true
+    walk-member = W .inside number (lowest .member)
+
     -- it is beyond the first k, so all are
     pub walk-past : k ≤ number → true ≡ test (over k set P)
     walk-past g = yes (over k set P) (λ c l q. W .done c l q (lowest .before c (omega arith)))

@@ -2,39 +2,51 @@
 use mathlib.Core.Path.{_≡_}
 use mathlib.Core.Bool.{not}
 use mathlib.Core.List.{List, []}
-use Prim.Native.Nat.{ℕ, _^_}
+use Prim.Native.Nat.{ℕ, _+_, _*_, _≤_, _^_}
 use lib.ListN.{length}
 use Rattle.protocol.specs.CartSets.{has}
-use Rattle.protocol.specs.Floor.{Floor, limits, isHeld}
+use Rattle.protocol.specs.Floor.{wholeFloor, Limits, Floor, limits, isHeld}
 use Rattle.protocol.specs.Claims.{Claim, is, le, lt, eq, both, when, all}
 use Rattle.protocol.specs.Form.{stationRule, cartRule, cartsOnly, entryRule}
+use Rattle.stations.specs.View.{headIn, stationsIn}
 use Rattle.carts.specs.View.{canonicalIn}
 use Rattle.view.specs.View.{lent, floorIn, localRight, shortText}
 
 -- the floor that the three tables say, with nothing on its lines and no texts
 abbrev pub tables : List ℕ → List ℕ → List ℕ → Floor
-tables stations carts messages = floorIn (lent stations carts messages [] [])
+tables stations carts messages = floorIn (lent wholeFloor stations carts messages [] [])
 
--- they have their lengths
-pub record Sized (S C M : List ℕ) : Type 0 where
-  pub stations : length S ≡ 1972
-  pub carts : length C ≡ 1216
-  pub messages : length M ≡ 192
+-- they have rows for n stations, k carts and h rooms
+pub record Sized (n k h : ℕ) (S C M : List ℕ) : Type 0 where
+  pub stations : length S ≡ 116 + n * 116
+  pub carts : length C ≡ k * 19
+  pub messages : length M ≡ h * 6
+  pub few-stations : n ≤ 16
+  pub few-carts : k ≤ 64
+  pub few-rooms : h ≤ 32
 
--- THE WHOLE FLOOR: "An unstarted floor fails it", "Stations 1 to 16", "Carts 1 to 64"
-abbrev pub countsRule : Floor → Claim
-countsRule F =
+-- and for the floor's own stations and carts
+pub record OnTables (S C : List ℕ) : Type 0 where
+  pub rows : ℕ
+  pub whole : length S ≡ 116 + rows * 116
+  pub few : rows ≤ 16
+  pub stations : headIn S .stations ≤ rows
+  pub carts : headIn S .carts * 19 ≤ length C
+
+-- THE WHOLE FLOOR: "An unstarted floor fails it", and it has 1 to n stations, 1 to k carts
+abbrev pub countsRule : ℕ → ℕ → Floor → Claim
+countsRule n k F =
     both (is (F .started))
-    (both (both (lt 0 (F .stations)) (le (F .stations) (limits .stations))) (both (lt 0 (F .carts)) (le (F .carts) (limits .carts))))
+    (both (both (lt 0 (F .stations)) (le (F .stations) n)) (both (lt 0 (F .carts)) (le (F .carts) k)))
 
 -- EACH ROOM m: its sets are of the floor
 abbrev pub roomSets : Floor → ℕ → Claim
 roomSets F m =
     both (cartsOnly limits F (F .named m)) (both (cartsOnly limits F (F .acked m)) (lt (F .waiting m) (2 ^ F .stations)))
 
--- EACH HELD MESSAGE, in room m: no other held message has its name
-abbrev pub otherNames : Floor → ℕ → Claim
-otherNames F m = all (limits .held) (λ k. when (is (isHeld F k)) (when (eq (F .initiator m) (F .initiator k)) (when (eq (F .number m) (F .number k)) (eq m k))))
+-- EACH HELD MESSAGE, in room m: no other held message, in any of h rooms, has its name
+abbrev pub otherNames : ℕ → Floor → ℕ → Claim
+otherNames h F m = all h (λ k. when (is (isHeld F k)) (when (eq (F .initiator m) (F .initiator k)) (when (eq (F .number m) (F .number k)) (eq m k))))
 
 -- its initiator has given its number
 abbrev pub numberGiven : Floor → ℕ → Claim
@@ -45,8 +57,8 @@ abbrev pub deleteRight : Floor → ℕ → Claim
 deleteRight F m = all (F .stations) (λ t. when (is (not (has (F .waiting m) t))) (eq (F .acked m) (F .named m)))
 
 -- all of this, where it is held
-abbrev pub heldNames : Floor → ℕ → Claim
-heldNames F m = when (is (isHeld F m)) (both (numberGiven F m) (both (otherNames F m) (deleteRight F m)))
+abbrev pub heldNames : ℕ → Floor → ℕ → Claim
+heldNames h F m = when (is (isHeld F m)) (both (numberGiven F m) (both (otherNames h F m) (deleteRight F m)))
 
 -- EACH HELD MESSAGE AT EACH STATION t OF THE FLOOR: the copy has only named carts
 abbrev pub copyNamed : Floor → ℕ → ℕ → Claim
@@ -63,16 +75,21 @@ copySets F m t =
 abbrev pub copiesRule : Floor → ℕ → Claim
 copiesRule F m = when (is (isHeld F m)) (all (F .stations) (copySets F m))
 
--- ALL OF IT, of the three tables
-abbrev pub tablesRule : List ℕ → List ℕ → List ℕ → Claim
-tablesRule S C M =
-    both (countsRule (tables S [] []))
-    (both (all 16 (stationRule limits (tables S [] [])))
-    (both (all 64 (λ c. is (canonicalIn C c)))
-    (both (all 32 (λ m. is (shortText (lent [] [] M [] []) m)))
-    (both (all 16 (λ t. is (localRight (lent S C [] [] []) t)))
-    (both (all 64 (cartRule limits (tables S C [])))
-    (both (all 32 (roomSets (tables S [] M)))
-    (both (all 32 (heldNames (tables S [] M)))
-    (both (all 32 (λ m. all 16 (entryRule limits (tables S C M) m)))
-    (all 32 (copiesRule (tables S C M)))))))))))
+-- AT EACH STATION t: no room from h on has a copy or a queue entry
+abbrev pub roomsEnd : ℕ → List ℕ → ℕ → Claim
+roomsEnd h S t = all 32 (λ m. when (le h m) (both (eq (stationsIn S .copy m t) 0) (eq (stationsIn S .queue m t) 0)))
+
+-- ALL OF IT, of three tables with rows for n stations, k carts and h rooms; of the limits, only the last number is asked for
+abbrev pub tablesRule : Limits → ℕ → ℕ → ℕ → List ℕ → List ℕ → List ℕ → Claim
+tablesRule N n k h S C M =
+    both (countsRule n k (tables S [] []))
+    (both (all n (stationRule N (tables S [] [])))
+    (both (all k (λ c. is (canonicalIn C c)))
+    (both (all h (λ m. is (shortText (lent wholeFloor [] [] M [] []) m)))
+    (both (all n (λ t. is (localRight (lent wholeFloor S C [] [] []) t)))
+    (both (all k (cartRule limits (tables S C [])))
+    (both (all h (roomSets (tables S [] M)))
+    (both (all h (heldNames h (tables S [] M)))
+    (both (all h (λ m. all n (entryRule limits (tables S C M) m)))
+    (both (all h (copiesRule (tables S C M)))
+    (all n (roomsEnd h S)))))))))))

@@ -6,25 +6,25 @@ use ids::Station;
 ghost use mathlib.Core.Path.{_≡_};
 ghost use mathlib.Core.Bool.{true, not};
 ghost use mathlib.Core.List.{[]};
-ghost use Prim.Native.Nat.{ℕ, _<_};
+ghost use Prim.Native.Nat.{ℕ, _+_, _*_, _<_, _≤_};
 ghost use lib.ListN.{length, getD};
-ghost use Rattle.protocol.specs.Floor.{Floor, limits, localTo, entered, isMessage};
+ghost use Rattle.protocol.specs.Floor.{wholeFloor, Limits, Floor, limits, localTo, entered, isMessage};
 ghost use Rattle.protocol.specs.CartSets.{has, setOf};
 ghost use Rattle.protocol.specs.Claims.{test, all, is, both, when, lt, le, eq};
 ghost use Rattle.protocol.specs.Form.{stationRule, placeInside, cartRule, entryRule};
-ghost use Rattle.stations.specs.View.{rooms, headIn, stationsIn};
+ghost use Rattle.stations.specs.View.{rooms, HasHead, HasStation, headIn, stationsIn};
 ghost use Rattle.carts.specs.Words.{HasRow};
 ghost use Rattle.carts.specs.Records.{seen};
 ghost use Rattle.carts.specs.View.{cartsIn, canonicalIn};
 ghost use Rattle.messages.specs.View.{HasRoom};
 ghost use Rattle.view.specs.View.{lent, localRight, shortText};
-ghost use Rattle.form.specs.Tables.{tables, Sized, countsRule, roomSets, heldNames, copyNamed, copiesRule, tablesRule};
+ghost use Rattle.form.specs.Tables.{tables, Sized, OnTables, countsRule, roomSets, heldNames, copyNamed, copiesRule, roomsEnd, tablesRule};
 ghost use Rattle.form.specs.Parts.{Home, mostOf, heldBefore, Entries, missingAt, Few};
 
-// "An unstarted floor fails it", "Stations 1 to 16", "Carts 1 to 64".
-fn counts_ok(stations: &[u64]) -> bool
-    requires { ⌜ length (now stations) ≡ 1972 ⌝ }
-    ensures { λ r. ⌜ r ≡ test (countsRule (tables (now (stations .entry)) [] [])) ⌝ }
+// "An unstarted floor fails it"; it has no more stations and carts than there are rows for.
+fn counts_ok(stations: &[u64], rows: u64, wagons: u64) -> bool
+    requires { ⌜ HasHead (now stations) ⌝ }
+    ensures { λ r. ⌜ r ≡ test (countsRule rows wagons (tables (now (stations .entry)) [] [])) ⌝ }
 {
     if stations::mark_of(stations) != 1 {
         return false;
@@ -33,26 +33,26 @@ fn counts_ok(stations: &[u64]) -> bool
     if n == 0 {
         return false;
     }
-    if 16 < n {
+    if rows < n {
         return false;
     }
     let k = stations::cart_count(stations);
     if k == 0 {
         return false;
     }
-    if 64 < k {
+    if wagons < k {
         return false;
     }
     true
 }
 
-// "last number 65,534": no station has sent more, and one beyond the floor has sent nothing.
-fn station_ok(stations: &[u64], s: Station) -> bool
-    requires { ⌜ (length (now stations) ≡ 1972) × (s .0 < 16) ⌝ }
-    ensures { λ r. ⌜ r ≡ test (stationRule limits (tables (now (stations .entry)) [] []) (s .0)) ⌝ }
+// "the caller's last number": no station has sent more, and one beyond the floor has sent nothing.
+fn station_ok(stations: &[u64], s: Station, last: u64) -> bool
+    requires { ⌜ HasHead (now stations) × HasStation (now stations) (s .0) × (last ≤ 4294967294) ⌝ }
+    ensures { λ r. ⌜ ((M : Limits) → M .last ≡ last → r ≡ test (stationRule M (tables (now (stations .entry)) [] []) (s .0))) ⌝ }
 {
     let sent = stations::sent_of(stations, s);
-    if 65535 < sent {
+    if last + 1 < sent {
         return false;
     }
     if 0 < sent {
@@ -63,14 +63,14 @@ fn station_ok(stations: &[u64], s: Station) -> bool
     true
 }
 
-// The same of each of the sixteen.
-fn stations_ok(stations: &[u64]) -> bool
-    requires { ⌜ length (now stations) ≡ 1972 ⌝ }
-    ensures { λ r. ⌜ r ≡ test (all 16 (stationRule limits (tables (now (stations .entry)) [] []))) ⌝ }
+// The same of each of the n that there are rows for.
+fn stations_ok(stations: &[u64], n: u64, last: u64) -> bool
+    requires { ⌜ (length (now stations) ≡ 116 + n * 116) × (n ≤ 16) × (last ≤ 4294967294) ⌝ }
+    ensures { λ r. ⌜ ((M : Limits) → M .last ≡ last → r ≡ test (all n (stationRule M (tables (now (stations .entry)) [] [])))) ⌝ }
 {
     let mut s: u64 = 0;
-    while s < 16 {
-        if !station_ok(stations, Station(s)) {
+    while s < n {
+        if !station_ok(stations, Station(s), last) {
             return false;
         }
         s += 1;
@@ -79,12 +79,12 @@ fn stations_ok(stations: &[u64]) -> bool
 }
 
 // "A cart is outside, at a station, leaving .. or travelling": the place of each cart stands in the words that it is written in.
-fn places_ok(carts: &[u64]) -> bool
-    requires { ⌜ length (now carts) ≡ 1216 ⌝ }
-    ensures { λ r. ⌜ r ≡ test (all 64 (λ c. is (canonicalIn (now (carts .entry)) c))) ⌝ }
+fn places_ok(carts: &[u64], k: u64) -> bool
+    requires { ⌜ (length (now carts) ≡ k * 19) × (k ≤ 64) ⌝ }
+    ensures { λ r. ⌜ r ≡ test (all k (λ c. is (canonicalIn (now (carts .entry)) c))) ⌝ }
 {
     let mut number: u64 = 0;
-    while number < 64 {
+    while number < k {
         if !carts::is_canonical(carts, CartNumber(number)) {
             return false;
         }
@@ -94,12 +94,12 @@ fn places_ok(carts: &[u64]) -> bool
 }
 
 // "text 0 to 32 octets": no text is longer than its part.
-fn texts_ok(messages: &[u64]) -> bool
-    requires { ⌜ length (now messages) ≡ 192 ⌝ }
-    ensures { λ r. ⌜ r ≡ test (all 32 (λ m. is (shortText (lent [] [] (now (messages .entry)) [] []) m))) ⌝ }
+fn texts_ok(messages: &[u64], held: usize) -> bool
+    requires { ⌜ (length (now messages) ≡ held * 6) × (held ≤ 32) ⌝ }
+    ensures { λ r. ⌜ r ≡ test (all held (λ m. is (shortText (lent wholeFloor [] [] (now (messages .entry)) [] []) m))) ⌝ }
 {
     let mut m: usize = 0;
-    while m < 32 {
+    while m < held {
         if 32 < messages::length_of(messages, m) {
             return false;
         }
@@ -124,13 +124,13 @@ fn home_of(carts: &[u64], number: CartNumber) -> u64
 }
 
 // The local carts of each station, by one pass over the carts.
-fn locals_of(carts: &[u64]) -> [u64; 16]
-    requires { ⌜ length (now carts) ≡ 1216 ⌝ }
+fn locals_of(carts: &[u64], k: u64) -> [u64; 16]
+    requires { ⌜ (length (now carts) ≡ k * 19) × (k ≤ 64) ⌝ }
     ensures { λ r. ⌜ ((t : ℕ) → t < 16 → getD r t 0 ≡ setOf 64 (λ c. localTo (cartsIn (now (carts .entry)) .place c) t)) ⌝ }
 {
     let mut locals = [0u64; 16];
     let mut number: u64 = 0;
-    while number < 64 {
+    while number < k {
         let home = home_of(carts, CartNumber(number));
         if home < 16 {
             let s = home as usize;
@@ -142,13 +142,13 @@ fn locals_of(carts: &[u64]) -> [u64; 16]
 }
 
 // The masks of local carts are right.
-fn locals_ok(stations: &[u64], carts: &[u64]) -> bool
-    requires { ⌜ (length (now stations) ≡ 1972) × (length (now carts) ≡ 1216) ⌝ }
-    ensures { λ r. ⌜ r ≡ test (all 16 (λ t. is (localRight (lent (now (stations .entry)) (now (carts .entry)) [] [] []) t))) ⌝ }
+fn locals_ok(stations: &[u64], carts: &[u64], n: usize, k: u64) -> bool
+    requires { ⌜ (length (now stations) ≡ 116 + n * 116) × (n ≤ 16) × (length (now carts) ≡ k * 19) × (k ≤ 64) ⌝ }
+    ensures { λ r. ⌜ r ≡ test (all n (λ t. is (localRight (lent wholeFloor (now (stations .entry)) (now (carts .entry)) [] [] []) t))) ⌝ }
 {
-    let locals = locals_of(carts);
+    let locals = locals_of(carts, k);
     let mut t: usize = 0;
-    while t < 16 {
+    while t < n {
         if stations::local_of(stations, Station(t as u64)) != locals[t] {
             return false;
         }
@@ -209,14 +209,14 @@ fn row_blank(carts: &[u64], number: CartNumber) -> bool
     true
 }
 
-// No next number of the cart is above what was sent.
-fn row_sent(stations: &[u64], carts: &[u64], number: CartNumber) -> bool
-    requires { ⌜ (length (now stations) ≡ 1972) × HasRow (now carts) (number .0) ⌝ }
-    ensures { λ r. ⌜ r ≡ test (all 16 (λ s. le (cartsIn (now (carts .entry)) .next (number .0) s) (stationsIn (now (stations .entry)) .sent s))) ⌝ }
+// Of the initiators from n on, which have no row, the cart's next numbers are 0.
+fn row_ends(carts: &[u64], number: CartNumber, n: u64) -> bool
+    requires { ⌜ HasRow (now carts) (number .0) × (n ≤ 16) ⌝ }
+    ensures { λ r. ⌜ r ≡ test (all 16 (λ s. when (le n s) (eq (cartsIn (now (carts .entry)) .next (number .0) s) 0))) ⌝ }
 {
-    let mut s: u64 = 0;
+    let mut s = n;
     while s < 16 {
-        if stations::sent_of(stations, Station(s)) < carts::next_of(carts, number, Station(s)) {
+        if 0 < carts::next_of(carts, number, Station(s)) {
             return false;
         }
         s += 1;
@@ -224,10 +224,25 @@ fn row_sent(stations: &[u64], carts: &[u64], number: CartNumber) -> bool
     true
 }
 
+// No next number of the cart is above what was sent, by the n stations that there are rows for.
+fn row_sent(stations: &[u64], carts: &[u64], number: CartNumber, n: u64) -> bool
+    requires { ⌜ (length (now stations) ≡ 116 + n * 116) × (n ≤ 16) × HasRow (now carts) (number .0) ⌝ }
+    ensures { λ r. ⌜ r ≡ test (all 16 (λ s. le (cartsIn (now (carts .entry)) .next (number .0) s) (stationsIn (now (stations .entry)) .sent s))) ⌝ }
+{
+    let mut s: u64 = 0;
+    while s < n {
+        if stations::sent_of(stations, Station(s)) < carts::next_of(carts, number, Station(s)) {
+            return false;
+        }
+        s += 1;
+    }
+    row_ends(carts, number, n)
+}
+
 // "its place is on the floor; if it has entered, so is the cart, and if not its next numbers are 0; no next number is above what was sent",
 // which is so of a row of zeros.
-fn cart_ok(stations: &[u64], carts: &[u64], number: CartNumber) -> bool
-    requires { ⌜ (length (now stations) ≡ 1972) × (length (now carts) ≡ 1216) × (number .0 < 64) ⌝ }
+fn cart_ok(stations: &[u64], carts: &[u64], number: CartNumber, n: u64) -> bool
+    requires { ⌜ (length (now stations) ≡ 116 + n * 116) × (n ≤ 16) × HasRow (now carts) (number .0) ⌝ }
     ensures { λ r. ⌜ r ≡ test (cartRule limits (tables (now (stations .entry)) (now (carts .entry)) []) (number .0)) ⌝ }
 {
     let place = carts::place_of(carts, number);
@@ -240,17 +255,17 @@ fn cart_ok(stations: &[u64], carts: &[u64], number: CartNumber) -> bool
     if !place_ok(place, stations::station_count(stations)) {
         return false;
     }
-    row_sent(stations, carts, number)
+    row_sent(stations, carts, number, n)
 }
 
-// The same of each of the sixty-four.
-fn carts_ok(stations: &[u64], carts: &[u64]) -> bool
-    requires { ⌜ (length (now stations) ≡ 1972) × (length (now carts) ≡ 1216) ⌝ }
-    ensures { λ r. ⌜ r ≡ test (all 64 (cartRule limits (tables (now (stations .entry)) (now (carts .entry)) []))) ⌝ }
+// The same of each of the k that there are rows for.
+fn carts_ok(stations: &[u64], carts: &[u64], n: u64, k: u64) -> bool
+    requires { ⌜ (length (now stations) ≡ 116 + n * 116) × (n ≤ 16) × (length (now carts) ≡ k * 19) × (k ≤ 64) ⌝ }
+    ensures { λ r. ⌜ r ≡ test (all k (cartRule limits (tables (now (stations .entry)) (now (carts .entry)) []))) ⌝ }
 {
     let mut number: u64 = 0;
-    while number < 64 {
-        if !cart_ok(stations, carts, CartNumber(number)) {
+    while number < k {
+        if !cart_ok(stations, carts, CartNumber(number), n) {
             return false;
         }
         number += 1;
@@ -270,7 +285,7 @@ fn most_of(n: u64) -> u64
 
 // "its sets are of the floor": those of the message in room m.
 fn room_ok(stations: &[u64], messages: &[u64], m: usize) -> bool
-    requires { ⌜ (length (now stations) ≡ 1972) × (length (now messages) ≡ 192) × (m < rooms) ⌝ }
+    requires { ⌜ HasHead (now stations) × HasRoom (now messages) m ⌝ }
     ensures { λ r. ⌜ r ≡ test (roomSets (tables (now (stations .entry)) [] (now (messages .entry))) m) ⌝ }
 {
     let most = most_of(stations::cart_count(stations));
@@ -286,13 +301,13 @@ fn room_ok(stations: &[u64], messages: &[u64], m: usize) -> bool
     true
 }
 
-// The same of each of the thirty-two rooms.
-fn rooms_ok(stations: &[u64], messages: &[u64]) -> bool
-    requires { ⌜ (length (now stations) ≡ 1972) × (length (now messages) ≡ 192) ⌝ }
-    ensures { λ r. ⌜ r ≡ test (all 32 (roomSets (tables (now (stations .entry)) [] (now (messages .entry))))) ⌝ }
+// The same of each of the rooms.
+fn rooms_ok(stations: &[u64], messages: &[u64], held: usize) -> bool
+    requires { ⌜ HasHead (now stations) × (length (now messages) ≡ held * 6) × (held ≤ 32) ⌝ }
+    ensures { λ r. ⌜ r ≡ test (all held (roomSets (tables (now (stations .entry)) [] (now (messages .entry))))) ⌝ }
 {
     let mut m: usize = 0;
-    while m < 32 {
+    while m < held {
         if !room_ok(stations, messages, m) {
             return false;
         }
@@ -301,12 +316,12 @@ fn rooms_ok(stations: &[u64], messages: &[u64]) -> bool
     true
 }
 
-// How many messages station s has sent: none, where there is no such station.
-fn sent_by(stations: &[u64], s: u64) -> u64
-    requires { ⌜ length (now stations) ≡ 1972 ⌝ }
+// How many messages station s has sent: none, where there is no such station among n.
+fn sent_by(stations: &[u64], n: u64, s: u64) -> u64
+    requires { ⌜ length (now stations) ≡ 116 + n * 116 ⌝ }
     ensures { λ r. ⌜ r ≡ stationsIn (now (stations .entry)) .sent s ⌝ }
 {
-    if s < 16 {
+    if s < n {
         return stations::sent_of(stations, Station(s));
     }
     0
@@ -314,7 +329,7 @@ fn sent_by(stations: &[u64], s: u64) -> u64
 
 // The number that station t expects of initiator s: 0, where there is no such initiator.
 fn expected_by(stations: &[u64], t: Station, s: u64) -> u64
-    requires { ⌜ (length (now stations) ≡ 1972) × (t .0 < 16) ⌝ }
+    requires { ⌜ HasStation (now stations) (t .0) ⌝ }
     ensures { λ r. ⌜ r ≡ stationsIn (now (stations .entry)) .expected (t .0) s ⌝ }
 {
     if s < 16 {
@@ -355,7 +370,7 @@ fn is_message(messages: &[u64], m: usize, s: u64, n: u64) -> bool
 
 // "no other held message has its name": no room before m has message n of s. A later room with it finds m.
 fn is_alone(messages: &[u64], m: usize, s: u64, n: u64) -> bool
-    requires { ⌜ (length (now messages) ≡ 192) × (m < rooms) ⌝ }
+    requires { ⌜ HasRoom (now messages) m ⌝ }
     ensures { λ r. ⌜ r ≡ test (all m (λ k. is (not (isMessage (tables [] [] (now (messages .entry))) s n k)))) ⌝ }
 {
     let mut k: usize = 0;
@@ -384,8 +399,8 @@ fn delete_ok(n: u64, waiting: u64, acked: u64, named: u64) -> bool
 
 // "its initiator has given its number; no other held message has its name; where a station has handled its delete, the whole set has
 // acknowledged": the message in room m and the rooms before it.
-fn held_ok(stations: &[u64], messages: &[u64], m: usize) -> bool
-    requires { ⌜ (length (now stations) ≡ 1972) × (length (now messages) ≡ 192) × (m < rooms) ⌝ }
+fn held_ok(stations: &[u64], messages: &[u64], rows: u64, m: usize) -> bool
+    requires { ⌜ (length (now stations) ≡ 116 + rows * 116) × HasRoom (now messages) m ⌝ }
     ensures { λ r. ⌜ r ≡ test (heldBefore (tables (now (stations .entry)) [] (now (messages .entry))) m) ⌝ }
 {
     let waiting = messages::waiting_of(messages, m);
@@ -394,7 +409,7 @@ fn held_ok(stations: &[u64], messages: &[u64], m: usize) -> bool
     }
     let s = messages::initiator_of(messages, m);
     let n = messages::number_of(messages, m);
-    if sent_by(stations, s.0) <= n.0 {
+    if sent_by(stations, rows, s.0) <= n.0 {
         return false;
     }
     if !is_alone(messages, m, s.0, n.0) {
@@ -409,13 +424,13 @@ fn held_ok(stations: &[u64], messages: &[u64], m: usize) -> bool
 }
 
 // The same of each room, and so of every two rooms.
-fn messages_ok(stations: &[u64], messages: &[u64]) -> bool
-    requires { ⌜ (length (now stations) ≡ 1972) × (length (now messages) ≡ 192) ⌝ }
-    ensures { λ r. ⌜ r ≡ test (all 32 (heldNames (tables (now (stations .entry)) [] (now (messages .entry))))) ⌝ }
+fn messages_ok(stations: &[u64], messages: &[u64], rows: u64, held: usize) -> bool
+    requires { ⌜ (length (now stations) ≡ 116 + rows * 116) × (length (now messages) ≡ held * 6) × (held ≤ 32) ⌝ }
+    ensures { λ r. ⌜ r ≡ test (all held (heldNames held (tables (now (stations .entry)) [] (now (messages .entry))))) ⌝ }
 {
     let mut m: usize = 0;
-    while m < 32 {
-        if !held_ok(stations, messages, m) {
+    while m < held {
+        if !held_ok(stations, messages, rows, m) {
             return false;
         }
         m += 1;
@@ -425,7 +440,7 @@ fn messages_ok(stations: &[u64], messages: &[u64]) -> bool
 
 // "is its next": n is the next number for initiator s of every cart in the set, which are walked from the least on.
 fn all_next(carts: &[u64], set: u64, s: u64, n: u64) -> bool
-    requires { ⌜ length (now carts) ≡ 1216 ⌝ }
+    requires { ⌜ ((c : ℕ) → has set c ≡ true → HasRow (now carts) c) ⌝ }
     ensures { λ r. ⌜ r ≡ test (all 64 (λ c. when (is (has set c)) (eq (cartsIn (now (carts .entry)) .next c s) n))) ⌝ }
 {
     let mut rest = set;
@@ -447,17 +462,17 @@ struct Gathered {
     strays: u64,
 }
 
-// Of room m, at the sixteen stations. The mask of a station's local carts says which are local. No set is looked into, so it costs the same
+// Of room m, at the n stations that there are rows for. The mask of a station's local carts says which are local. No set is looked into, so it costs the same
 // whatever they hold.
-fn gather(stations: &[u64], m: usize) -> Gathered
-    requires { ⌜ (length (now stations) ≡ 1972) × (m < rooms) ⌝ }
-    ensures { λ r. ⌜ Entries (stationsIn (now (stations .entry))) m 16 (r .sets) (r .queued) (r .strays) ⌝ }
+fn gather(stations: &[u64], m: usize, n: u64) -> Gathered
+    requires { ⌜ (length (now stations) ≡ 116 + n * 116) × (m < rooms) × (n ≤ 16) ⌝ }
+    ensures { λ r. ⌜ Entries (stationsIn (now (stations .entry))) m n (r .sets) (r .queued) (r .strays) ⌝ }
 {
     let mut sets: u64 = 0;
     let mut queued: u64 = 0;
     let mut strays: u64 = 0;
     let mut t: u64 = 0;
-    while t < 16 {
+    while t < n {
         let copy = stations::copy_of(stations, m, Station(t));
         let acks = stations::acks_of(stations, m, Station(t));
         let queue = stations::queue_of(stations, m, Station(t));
@@ -476,11 +491,18 @@ fn gather(stations: &[u64], m: usize) -> Gathered
 
 // "its sets are of the floor", with the greatest such set given; "a queued cart is local, the message is held, names it, and is its next": of
 // room m at every station. A cart is looked at once, wherever it is queued.
-fn entries_of(stations: &[u64], carts: &[u64], messages: &[u64], m: usize, most: u64) -> bool
-    requires { ⌜ Sized (now stations) (now carts) (now messages) × (m < rooms) × ((t : ℕ) → t < 16 → localRight (lent (now stations) (now carts) [] [] []) t ≡ true) × (most ≡ mostOf (headIn (now stations) .carts)) ⌝ }
-    ensures { λ r. ⌜ r ≡ test (all 16 (entryRule limits (tables (now (stations .entry)) (now (carts .entry)) (now (messages .entry))) m)) ⌝ }
+fn entries_of(
+    stations: &[u64],
+    carts: &[u64],
+    messages: &[u64],
+    m: usize,
+    most: u64,
+    rows: u64,
+) -> bool
+    requires { ⌜ OnTables (now stations) (now carts) × (m < rooms) × ((t : ℕ) → t < rows → localRight (lent wholeFloor (now stations) (now carts) [] [] []) t ≡ true) × (most ≡ mostOf (headIn (now stations) .carts)) × HasRoom (now messages) m × (length (now stations) ≡ 116 + rows * 116) × (rows ≤ 16) ⌝ }
+    ensures { λ r. ⌜ r ≡ test (all rows (entryRule limits (tables (now (stations .entry)) (now (carts .entry)) (now (messages .entry))) m)) ⌝ }
 {
-    let met = gather(stations, m);
+    let met = gather(stations, m, rows);
     if most < met.sets {
         return false;
     }
@@ -502,14 +524,14 @@ fn entries_of(stations: &[u64], carts: &[u64], messages: &[u64], m: usize, most:
 }
 
 // The entries of every room at every station.
-fn entries_ok(stations: &[u64], carts: &[u64], messages: &[u64]) -> bool
-    requires { ⌜ Sized (now stations) (now carts) (now messages) × ((t : ℕ) → t < 16 → localRight (lent (now stations) (now carts) [] [] []) t ≡ true) ⌝ }
-    ensures { λ r. ⌜ r ≡ test (all 32 (λ m. all 16 (entryRule limits (tables (now (stations .entry)) (now (carts .entry)) (now (messages .entry))) m))) ⌝ }
+fn entries_ok(stations: &[u64], carts: &[u64], messages: &[u64], rows: u64, held: usize) -> bool
+    requires { ⌜ OnTables (now stations) (now carts) × ((t : ℕ) → t < rows → localRight (lent wholeFloor (now stations) (now carts) [] [] []) t ≡ true) × (length (now stations) ≡ 116 + rows * 116) × (rows ≤ 16) × (length (now messages) ≡ held * 6) × (held ≤ 32) ⌝ }
+    ensures { λ r. ⌜ r ≡ test (all held (λ m. all rows (entryRule limits (tables (now (stations .entry)) (now (carts .entry)) (now (messages .entry))) m))) ⌝ }
 {
     let most = most_of(stations::cart_count(stations));
     let mut m: usize = 0;
-    while m < 32 {
-        if !entries_of(stations, carts, messages, m, most) {
+    while m < held {
+        if !entries_of(stations, carts, messages, m, most, rows) {
             return false;
         }
         m += 1;
@@ -532,7 +554,7 @@ fn none_below(set: u64, k: u64) -> bool
 
 // Of the first k, every cart in the set has received message n of s: its next number is above. They are walked from the least on.
 pub fn all_past(carts: &[u64], set: u64, k: u64, s: u64, n: u64) -> bool
-    requires { ⌜ length (now carts) ≡ 1216 ⌝ }
+    requires { ⌜ k * 19 ≤ length (now carts) ⌝ }
     ensures { λ r. ⌜ r ≡ test (all k (λ c. when (is (has set c)) (lt n (cartsIn (now (carts .entry)) .next c s)))) ⌝ }
 {
     let mut rest = set;
@@ -551,7 +573,7 @@ pub fn all_past(carts: &[u64], set: u64, k: u64, s: u64, n: u64) -> bool
 
 // "the copy has only named carts".
 fn copy_named(stations: &[u64], messages: &[u64], m: usize, t: Station) -> bool
-    requires { ⌜ (length (now stations) ≡ 1972) × (length (now messages) ≡ 192) × (m < rooms) × (t .0 < 16) ⌝ }
+    requires { ⌜ HasStation (now stations) (t .0) × HasRoom (now messages) m × (m < rooms) ⌝ }
     ensures { λ r. ⌜ r ≡ test (copyNamed (tables (now (stations .entry)) [] (now (messages .entry))) m (t .0)) ⌝ }
 {
     let named = messages::named_of(messages, m);
@@ -561,7 +583,7 @@ fn copy_named(stations: &[u64], messages: &[u64], m: usize, t: Station) -> bool
 
 // "where the message has come": the named carts that the copy does not have.
 fn missing_at(stations: &[u64], messages: &[u64], m: usize, t: Station) -> u64
-    requires { ⌜ (length (now stations) ≡ 1972) × (length (now messages) ≡ 192) × (m < rooms) × (t .0 < 16) ⌝ }
+    requires { ⌜ HasStation (now stations) (t .0) × HasRoom (now messages) m × (m < rooms) ⌝ }
     ensures { λ r. ⌜ r ≡ missingAt (tables (now (stations .entry)) [] (now (messages .entry))) m (t .0) ⌝ }
 {
     let s = messages::initiator_of(messages, m);
@@ -577,7 +599,7 @@ fn missing_at(stations: &[u64], messages: &[u64], m: usize, t: Station) -> u64
 
 // How many of the sixteen stations are the floor's.
 fn stations_of(stations: &[u64]) -> u64
-    requires { ⌜ length (now stations) ≡ 1972 ⌝ }
+    requires { ⌜ HasHead (now stations) ⌝ }
     ensures { λ r. ⌜ Few (headIn (now (stations .entry)) .stations) r ⌝ }
 {
     let n = stations::station_count(stations);
@@ -591,7 +613,7 @@ fn stations_of(stations: &[u64]) -> u64
 // all that are missing somewhere have received it, and each is looked at once, not once for each station. Beyond sixteen stations there is
 // no copy, and nothing has come.
 fn copies_of(stations: &[u64], carts: &[u64], messages: &[u64], m: usize) -> bool
-    requires { ⌜ Sized (now stations) (now carts) (now messages) × (m < rooms) ⌝ }
+    requires { ⌜ OnTables (now stations) (now carts) × HasRoom (now messages) m × (m < rooms) ⌝ }
     ensures { λ r. ⌜ r ≡ test (copiesRule (tables (now (stations .entry)) (now (carts .entry)) (now (messages .entry))) m) ⌝ }
 {
     if messages::waiting_of(messages, m) == 0 {
@@ -613,12 +635,12 @@ fn copies_of(stations: &[u64], carts: &[u64], messages: &[u64], m: usize) -> boo
 }
 
 // The copies of every held message.
-fn copies_ok(stations: &[u64], carts: &[u64], messages: &[u64]) -> bool
-    requires { ⌜ Sized (now stations) (now carts) (now messages) ⌝ }
-    ensures { λ r. ⌜ r ≡ test (all 32 (copiesRule (tables (now (stations .entry)) (now (carts .entry)) (now (messages .entry))))) ⌝ }
+fn copies_ok(stations: &[u64], carts: &[u64], messages: &[u64], held: usize) -> bool
+    requires { ⌜ OnTables (now stations) (now carts) × (length (now messages) ≡ held * 6) × (held ≤ 32) ⌝ }
+    ensures { λ r. ⌜ r ≡ test (all held (copiesRule (tables (now (stations .entry)) (now (carts .entry)) (now (messages .entry))))) ⌝ }
 {
     let mut m: usize = 0;
-    while m < 32 {
+    while m < held {
         if !copies_of(stations, carts, messages, m) {
             return false;
         }
@@ -627,40 +649,82 @@ fn copies_ok(stations: &[u64], carts: &[u64], messages: &[u64]) -> bool
     true
 }
 
-// THE FORM TEST OF THE TABLES: all of the above. The masks of local carts are tested before the queues, which go by them.
-pub fn tables_pass(stations: &[u64], carts: &[u64], messages: &[u64]) -> bool
-    requires { ⌜ Sized (now stations) (now carts) (now messages) ⌝ }
-    ensures { λ r. ⌜ r ≡ test (tablesRule (now (stations .entry)) (now (carts .entry)) (now (messages .entry))) ⌝ }
+// At one station, no room from `held` on, which the messages' table does not have, has a copy or a queue entry.
+fn rooms_end(stations: &[u64], t: Station, held: usize) -> bool
+    requires { ⌜ HasStation (now stations) (t .0) × (held ≤ 32) ⌝ }
+    ensures { λ r. ⌜ r ≡ test (roomsEnd held (now (stations .entry)) (t .0)) ⌝ }
 {
-    if !counts_ok(stations) {
-        return false;
-    }
-    if !stations_ok(stations) {
-        return false;
-    }
-    if !places_ok(carts) {
-        return false;
-    }
-    if !texts_ok(messages) {
-        return false;
-    }
-    if !locals_ok(stations, carts) {
-        return false;
-    }
-    if !carts_ok(stations, carts) {
-        return false;
-    }
-    if !rooms_ok(stations, messages) {
-        return false;
-    }
-    if !messages_ok(stations, messages) {
-        return false;
-    }
-    if !entries_ok(stations, carts, messages) {
-        return false;
-    }
-    if !copies_ok(stations, carts, messages) {
-        return false;
+    let mut m = held;
+    while m < 32 {
+        if stations::copy_of(stations, m, t) != 0 {
+            return false;
+        }
+        if stations::queue_of(stations, m, t) != 0 {
+            return false;
+        }
+        m += 1;
     }
     true
+}
+
+// The same at each of the stations.
+fn ends_ok(stations: &[u64], n: u64, held: usize) -> bool
+    requires { ⌜ (length (now stations) ≡ 116 + n * 116) × (n ≤ 16) × (held ≤ 32) ⌝ }
+    ensures { λ r. ⌜ r ≡ test (all n (roomsEnd held (now (stations .entry)))) ⌝ }
+{
+    let mut t: u64 = 0;
+    while t < n {
+        if !rooms_end(stations, Station(t), held) {
+            return false;
+        }
+        t += 1;
+    }
+    true
+}
+
+// THE FORM TEST OF THE TABLES: all of the above, of tables with rows for n stations, k carts and so many held messages, and the last number that
+// a message may have. The masks of local carts are tested before the queues, which go by them.
+pub fn tables_pass(
+    stations: &[u64],
+    carts: &[u64],
+    messages: &[u64],
+    n: u64,
+    k: u64,
+    held: usize,
+    last: u64,
+) -> bool
+    requires { ⌜ Sized n k held (now stations) (now carts) (now messages) × (last ≤ 4294967294) ⌝ }
+    ensures { λ r. ⌜ ((N : Limits) → N .last ≡ last → r ≡ test (tablesRule N n k held (now (stations .entry)) (now (carts .entry)) (now (messages .entry)))) ⌝ }
+{
+    if !counts_ok(stations, n, k) {
+        return false;
+    }
+    if !stations_ok(stations, n, last) {
+        return false;
+    }
+    if !places_ok(carts, k) {
+        return false;
+    }
+    if !texts_ok(messages, held) {
+        return false;
+    }
+    if !locals_ok(stations, carts, n as usize, k) {
+        return false;
+    }
+    if !carts_ok(stations, carts, n, k) {
+        return false;
+    }
+    if !rooms_ok(stations, messages, held) {
+        return false;
+    }
+    if !messages_ok(stations, messages, n, held) {
+        return false;
+    }
+    if !entries_ok(stations, carts, messages, n, held) {
+        return false;
+    }
+    if !copies_ok(stations, carts, messages, held) {
+        return false;
+    }
+    ends_ok(stations, n, held)
 }

@@ -92,15 +92,7 @@ module _ (n k : ℕ) (C : Carts) (R : Rooms) (S : Stations) (words : List ℕ) w
 
 -- OF THE LENT PARTS
 module _ (L : Lent) (n : ℕ) (en : n ≡ headIn (L .stations) .stations) where
-  pub many-stations : 16 < n → false ≡ linesPass L
-  unfolding linesPass
-  many-stations h = rw (← en, lt-leb n 16 h) refl
-
   module _ (k : ℕ) (ek : k ≡ headIn (L .stations) .carts) where
-    pub many-carts : 64 < k → false ≡ linesPass L
-    unfolding linesPass
-    many-carts h = rw (← ek, lt-leb k 64 h, and-false (leb (headIn (L .stations) .stations) 16)) refl
-
     pub lent-passes : (r : Bool) → n ≤ 16 → k ≤ 64 → r ≡ passes n k (stationsIn (L .stations)) (cartsIn (L .carts)) (roomsIn (L .messages)) (L .lines) → r ≡ linesPass L
     unfolding linesPass
     lent-passes r a b h = rw (← en, ← ek, le-leb n 16 a, le-leb k 64 b) h

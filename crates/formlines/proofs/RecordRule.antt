@@ -8,7 +8,7 @@ use native.Mathlib.Omega.{arith}
 use lib.Dec.{eqb, ltb}
 use borrow.Author.Tests.{eqb-true, eq-eqb, ltb-true, lt-ltb}
 use Rattle.protocol.specs.CartSets.{has}
-use Rattle.protocol.specs.Floor.{limits, Floor, Carts, Record, isMessage}
+use Rattle.protocol.specs.Floor.{limitsOf, Floor, Carts, Record, isMessage}
 use Rattle.protocol.specs.Handoff.{roomOf}
 use Rattle.protocol.specs.Claims.{All, True}
 use Rattle.protocol.specs.Form.{recordRule}
@@ -52,26 +52,30 @@ module _ (L : Lent) (T : TableClauses L) where
   abbrev Fits : ℕ → ℕ → Said → Type 0
   Fits = Right (F .stations) (F .carts) C R
 
+  -- a taken room is one of the table's
+  pub slot : (m : ℕ) → isTaken R m ≡ true → m < L .product .held
+  slot m h =
+      by-lt m (L .product .held) (λ l. l)
+      (λ l. clash (isTaken R m) h (ap (λ (y : ℕ). not (eqb y 0)) (waiting-past (L .messages) m (let z = T .lengths .messages in omega arith))))
+
   pub one-room : OneRoom R
-  one-room m k a b = T .names m (a .slot) (a .held) k (b .slot) (b .held)
+  one-room m k a b = T .names m (slot m (a .held)) (a .held) k (slot k (b .held)) (b .held)
 
   -- the room that the message is in is found
-  room-found : (s x m : ℕ) → here s x m ≡ true → roomOf limits F s x ≡ some m
+  room-found : (s x m : ℕ) → here s x m ≡ true → roomOf (limitsOf (L .product)) F s x ≡ some m
   unfolding roomOf
   room-found s x m e =
       let g = in-room (F .stations) (F .carts) C R s x m e in
-      first-only 32 (isMessage F s x) m (g .taken .slot) (and-right (ltb m 32) (isIn R s x m) e)
-      (λ k l q. let h = in-room (F .stations) (F .carts) C R s x k (and-intro (ltb k 32) (isIn R s x k) (lt-ltb k 32 l) q) in
+      let few = L .product .held-fit in
+      first-only (L .product .held) (isMessage F s x) m (slot m (g .taken .held)) (and-right (ltb m 32) (isIn R s x m) e)
+      (λ k l q. let h = in-room (F .stations) (F .carts) C R s x k (and-intro (ltb k 32) (isIn R s x k) (lt-ltb k 32 (omega arith)) q) in
       one-room k m (h .taken) (g .taken) (h .initiator ∙ sym (g .initiator)) (h .number ∙ sym (g .number)))
 
   -- a room that has a message is one of the rooms
   slot-of : (s x m : ℕ) → isIn R s x m ≡ true → here s x m ≡ true
   slot-of s x m e =
       and-intro (ltb m 32) (isIn R s x m)
-      (lt-ltb m 32 (by-lt m 32 (λ l. l)
-      (λ l. let w = waiting-past (L .messages) m (let z = T .lengths .messages in omega arith) in
-      let a : isTaken R m ≡ true = and-left (isTaken R m) (eqb (R .initiator m) s && eqb (R .number m) x) e in
-      clash (isTaken R m) a (ap (λ (y : ℕ). not (eqb y 0)) w))))
+      (lt-ltb m 32 (let w = slot m (and-left (isTaken R m) (eqb (R .initiator m) s && eqb (R .number m) x) e) in let few = L .product .held-fit in omega arith))
       e
 
   -- FROM THE PASS
@@ -84,7 +88,7 @@ module _ (L : Lent) (T : TableClauses L) where
   fits-room i j (aRegister c) h = refl
   fits-room i j (unknown c) h = clash false (h .1) refl
 
-  pub fits-rule : (i j : ℕ) (r : Said) → Fits i j r → True (recordRule limits F i j (read (C .next) r))
+  pub fits-rule : (i j : ℕ) (r : Said) → Fits i j r → True (recordRule (limitsOf (L .product)) F i j (read (C .next) r))
   unfolding right
   fits-rule i j (aMulticast m x) h =
       let a = here i x m in
@@ -107,7 +111,7 @@ module _ (L : Lent) (T : TableClauses L) where
   fits-rule i j (unknown c) h = clash false (h .1) refl
 
   -- TO THE PASS
-  pub rule-below : (i j : ℕ) (r : Said) → True (recordRule limits F i j (read (C .next) r)) → CartBelow (F .carts) r
+  pub rule-below : (i j : ℕ) (r : Said) → True (recordRule (limitsOf (L .product)) F i j (read (C .next) r)) → CartBelow (F .carts) r
   rule-below i j (aMulticast m x) h = tt
   rule-below i j (anAckList m x y) h = tt
   rule-below i j (aDelete m x) h = tt
@@ -115,7 +119,7 @@ module _ (L : Lent) (T : TableClauses L) where
   rule-below i j (aRegister c) h = h
   rule-below i j (unknown c) h = tt
 
-  rule-right : (i j : ℕ) (r : Said) → roomSaid R i j r ≡ true → True (recordRule limits F i j (read (C .next) r)) → Placed C i j r → right (F .stations) (F .carts) C R i j r ≡ true
+  rule-right : (i j : ℕ) (r : Said) → roomSaid R i j r ≡ true → True (recordRule (limitsOf (L .product)) F i j (read (C .next) r)) → Placed C i j r → right (F .stations) (F .carts) C R i j r ≡ true
   unfolding right
   rule-right i j (aMulticast m x) e h p =
       let a = slot-of i x m e in
@@ -133,6 +137,6 @@ module _ (L : Lent) (T : TableClauses L) where
   rule-right i j (aRegister c) e h p = and-intro (ltb c (F .carts)) (isTravelling (C .place c) i j) (lt-ltb c (F .carts) h) p
   rule-right i j (unknown c) e h p = clash false e refl
 
-  pub rule-fits : (i j : ℕ) (r : Said) → roomSaid R i j r ≡ true → i < F .stations → j < F .stations → True (recordRule limits F i j (read (C .next) r)) → Placed C i j r → Fits i j r
+  pub rule-fits : (i j : ℕ) (r : Said) → roomSaid R i j r ≡ true → i < F .stations → j < F .stations → True (recordRule (limitsOf (L .product)) F i j (read (C .next) r)) → Placed C i j r → Fits i j r
   rule-fits i j r e li lj h p =
       (and-intro (ltb i (F .stations)) (ltb j (F .stations)) (lt-ltb i (F .stations) li) (lt-ltb j (F .stations) lj), rule-right i j r e h p)

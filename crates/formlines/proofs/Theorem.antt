@@ -11,7 +11,7 @@ use lib.ListN.{getD, length}
 use borrow.Author.Tests.{eqb-true, ne-eqb, ltb-true, lt-ltb, le-leb}
 use Rattle.protocol.specs.Folds.{sum, count, listOf}
 use Rattle.protocol.specs.CartSets.{has}
-use Rattle.protocol.specs.Floor.{limits, Floor, Place, outside, at, leaving, travelling, Carts, Record, multicast, ackList, delete, deregister, register, entered, moving, isHeld}
+use Rattle.protocol.specs.Floor.{limitsOf, Floor, Place, outside, at, leaving, travelling, Carts, Record, multicast, ackList, delete, deregister, register, entered, moving, isHeld}
 use Rattle.protocol.specs.Claims.{All, True, test}
 use Rattle.protocol.specs.Form.{HandoffRecord, bit, countLine, countLines, isDeleteOf, acksTo, acksOf, multicastNumbers, countsUp, deletesFollow, handoffs, handoffOf, placeInside, recordRule}
 use Rattle.protocol.specs.Ranges.{PlaceInRange}
@@ -41,7 +41,7 @@ use Rattle.formlines.proofs.Gathered.{gathered-yes, gathered-no}
 use Rattle.protocol.proofs.FormTest.{same-handoffs-are}
 use Rattle.formlines.proofs.Handoffs.{are-same-handoffs, count-handoffs, due, due-total, handoffs-due, Placed, CartBelow, placed-of}
 use Rattle.formlines.proofs.Clauses.{TableClauses, LineClauses}
-use Rattle.formlines.proofs.RecordRule.{all-read, each-read, one-room, fits-room, fits-rule, rule-below, rule-fits}
+use Rattle.formlines.proofs.RecordRule.{all-read, each-read, slot, one-room, fits-room, fits-rule, rule-below, rule-fits}
 use Rattle.formlines.proofs.Middle.{start, seenLast, Middle, middle-of, of-middle}
 
 -- SETS
@@ -123,14 +123,14 @@ module _ (L : Lent) (T : TableClauses L) where
   beyond : (i j : ℕ) → (i < 16 → j < 16 → ⊥) → F .lines i j ≡ []
   beyond = line-beyond (C .next) words
 
-  place-fits : (p : Place) → True (placeInside limits F p) → PlaceInRange n p
+  place-fits : (p : Place) → True (placeInside (limitsOf (L .product)) F p) → PlaceInRange n p
   place-fits outside h = tt
   place-fits (at s) h = h
   place-fits (leaving s u) h = h
   place-fits (travelling s u) h = h
 
   -- who is on its way
-  movers-bit : (c : ℕ) → c < 64 → has (movers k C) c ≡ moving (C .place c)
+  movers-bit : (c : ℕ) → c < L .product .carts → has (movers k C) c ≡ moving (C .place c)
   unfolding movers
   movers-bit c l =
       by-lt c k
@@ -155,7 +155,7 @@ module _ (L : Lent) (T : TableClauses L) where
 
     -- the acknowledgements before the lines
     start-is : (m : ℕ) → m < 32 → (c : ℕ) → c < 64 → (apart : bit (has (gathered S R m n) c) ≡ bit (has (R .acked m) c) + count n (λ t. has (S .acks m t) c))
-        → bit (has (getD (start n k S C R words) m 0) c) + countLines n (acksTo (F .initiator m) (F .number m) c) (F .lines) ≡ acksOf limits F m c
+        → bit (has (getD (start n k S C R words) m 0) c) + countLines n (acksTo (F .initiator m) (F .number m) c) (F .lines) ≡ acksOf (limitsOf (L .product)) F m c
     start-is m lm c lc e =
         let z : getD (start n k S C R words) m 0 ≡ gathered S R m n = listOf-at 32 (λ m. gathered S R m n) 0 m lm in
         let y : bit (has (getD (start n k S C R words) m 0) c) ≡ bit (has (gathered S R m n) c) = ap (λ (x : ℕ). bit (has x c)) z in
@@ -169,9 +169,9 @@ module _ (L : Lent) (T : TableClauses L) where
     near : (j : ℕ) → j < n → j < 16
     near j l = let z = T .stations in omega arith
 
-    the-line : (i : ℕ) → i < 16 → (j : ℕ) → j < 16 → All (λ r. (i < n) × ((j < n) × True (recordRule limits F i j r))) (F .lines i j)
+    the-line : (i : ℕ) → i < 16 → (j : ℕ) → j < 16 → All (λ r. (i < n) × ((j < n) × True (recordRule (limitsOf (L .product)) F i j r))) (F .lines i j)
     the-line i li j lj =
-        let Q : Record → Type 0 = λ r. (i < n) × ((j < n) × True (recordRule limits F i j r)) in
+        let Q : Record → Type 0 = λ r. (i < n) × ((j < n) × True (recordRule (limitsOf (L .product)) F i j r)) in
         subst (λ (l : List Record). All Q l) (sym (is i j li lj))
         (all-read (C .next) (Fits i j) Q (said i j)
         (λ r h. (ltb-true i n (and-left (ltb i n) (ltb j n) (h .0)), (ltb-true j n (and-right (ltb i n) (ltb j n) (h .0)), fits-rule L T i j r h)))
@@ -183,7 +183,7 @@ module _ (L : Lent) (T : TableClauses L) where
         subst (λ (l : List Record). True (countsUp (F .expected j i) (multicastNumbers l) (F .sent i)) × True (deletesFollow (F .expected j i) l)) (sym (is i j li (near j lj)))
         (order-of (C .next) (F .expected j i) (F .sent i) (said i j) (A .next) (A .upto (lt-ltb j n lj)))
 
-    moving-total : (c : ℕ) → c < 64 → sum n (λ i. sum n (λ j. countLine (isHandoffOf c) (line i j))) ≡ bit (moving (C .place c))
+    moving-total : (c : ℕ) → c < L .product .carts → sum n (λ i. sum n (λ j. countLine (isHandoffOf c) (line i j))) ≡ bit (moving (C .place c))
     moving-total c lc =
         let a = found-all-yes n k C R one (C .next) words rights 0 (M .found) c in
         let b = handoff-total rights c in
@@ -194,12 +194,12 @@ module _ (L : Lent) (T : TableClauses L) where
         (λ i li. sum-ext n (λ j. countLine (isHandoffOf c) (F .lines i j)) (λ j. countLine (isHandoffOf c) (line i j)) (λ j lj. ap (countLine (isHandoffOf c)) (is i j (near i li) (near j lj)))) in
         omega arith
 
-    the-handoffs : (c : ℕ) → c < 64 → (i : ℕ) → i < n → (j : ℕ) → j < n → handoffs c (F .lines i j) ≡ handoffOf (C .place c) i j (listOf 16 (C .next c))
+    the-handoffs : (c : ℕ) → c < L .product .carts → (i : ℕ) → i < n → (j : ℕ) → j < n → handoffs c (F .lines i j) ≡ handoffOf (C .place c) i j (listOf 16 (C .next c))
     the-handoffs c lc i li j lj =
         ap (handoffs c) (is i j (near i li) (near j lj))
         ∙ handoffs-due n k C R c said (λ i j li lj. rights i j (near i li) (near j lj)) (moving-total c lc) i j li lj
 
-    seen-is : (m : ℕ) → m < 32 → isHeld F m ≡ true → (c : ℕ) → c < 64 → bit (has (seenLast n k S C R words m) c) ≡ acksOf limits F m c
+    seen-is : (m : ℕ) → m < 32 → isHeld F m ≡ true → (c : ℕ) → c < 64 → bit (has (seenLast n k S C R words m) c) ≡ acksOf (limitsOf (L .product)) F m c
     seen-is m lm h c lc =
         let a = seen-all-yes n k C R one (C .next) words rights (start n k S C R words) (length-listOf 32 (λ m. gathered S R m n)) (M .seen) (spot m c lm h lc) in
         let b = ack-total rights m c in
@@ -207,7 +207,7 @@ module _ (L : Lent) (T : TableClauses L) where
         omega arith
 
     the-acks : (m : ℕ) → m < 32 → isHeld F m ≡ true → (c : ℕ) → c < k
-        → (acksOf limits F m c ≤ 1) × (0 < acksOf limits F m c → (has (F .named m) c ≡ true) × (F .number m < F .next c (F .initiator m)))
+        → (acksOf (limitsOf (L .product)) F m c ≤ 1) × (0 < acksOf (limitsOf (L .product)) F m c → (has (F .named m) c ≡ true) × (F .number m < F .next c (F .initiator m)))
     unfolding passed
     the-acks m lm h c lc =
         let l : c < 64 = (let z = T .carts in omega arith) in
@@ -242,8 +242,8 @@ module _ (L : Lent) (T : TableClauses L) where
           line = the-line;
           order = the-order;
           handoff = λ c lc i li j lj. are-same-handoffs (handoffs c (F .lines i j)) (handoffOf (F .place c) i j (listOf 16 (F .next c))) (the-handoffs c lc i li j lj);
-          acks = the-acks;
-          deletes = the-deletes;
+          acks = λ m lm. the-acks m (let z = L .product .held-fit in omega arith);
+          deletes = λ m lm. the-deletes m (let z = L .product .held-fit in omega arith);
         }
 
   -- FROM THE CLAUSES TO THE PASS
@@ -253,11 +253,11 @@ module _ (L : Lent) (T : TableClauses L) where
 
     -- what the form rule says of a record
     abbrev Ruled : ℕ → ℕ → Said → Type 0
-    Ruled i j r = (i < n) × ((j < n) × True (recordRule limits F i j (read (C .next) r)))
+    Ruled i j r = (i < n) × ((j < n) × True (recordRule (limitsOf (L .product)) F i j (read (C .next) r)))
 
     ruled : (i j : ℕ) → i < 16 → j < 16 → Each (Ruled i j) (said i j)
     ruled i j li lj =
-        let Q : Record → Type 0 = λ r. (i < n) × ((j < n) × True (recordRule limits F i j r)) in
+        let Q : Record → Type 0 = λ r. (i < n) × ((j < n) × True (recordRule (limitsOf (L .product)) F i j r)) in
         each-read (C .next) Q (said i j) (subst (λ (l : List Record). All Q l) (is i j li lj) (X .line i li j lj))
 
     -- only lines between stations of the floor have records
@@ -265,14 +265,14 @@ module _ (L : Lent) (T : TableClauses L) where
     on-floor P i j [] e f = tt
     on-floor P i j (r ∷ l) e f = f (e .0 .0) (e .0 .1 .0)
 
-    handed-off : (c : ℕ) → c < 64 → (i : ℕ) → i < n → (j : ℕ) → j < n → handoffs c (F .lines i j) ≡ handoffOf (C .place c) i j (listOf 16 (C .next c))
+    handed-off : (c : ℕ) → c < L .product .carts → (i : ℕ) → i < n → (j : ℕ) → j < n → handoffs c (F .lines i j) ≡ handoffOf (C .place c) i j (listOf 16 (C .next c))
     handed-off c lc i li j lj = same-handoffs-are (handoffs c (F .lines i j)) (handoffOf (C .place c) i j (listOf 16 (C .next c))) (X .handoff c lc i li j lj)
 
     fit : (i j : ℕ) → i < 16 → j < 16 → Each (Fits i j) (said i j)
     fit i j li lj =
         on-floor (Fits i j) i j (said i j) (ruled i j li lj)
         (λ a b. let placed = placed-of C i j k (said i j)
-        (λ c lc. ap (handoffs c) (sym (is i j li lj)) ∙ handed-off c (let z = T .carts in omega arith) i a j b)
+        (λ c lc. ap (handoffs c) (sym (is i j li lj)) ∙ handed-off c (let z = T .on-carts in omega arith) i a j b)
         (each-map (Ruled i j) (CartBelow k) (said i j) (λ r h. rule-below L T i j r (h .1 .1)) (ruled i j li lj)) in
         each-map2 (λ r. (roomSaid R i j r ≡ true) × Ruled i j r) (Placed C i j) (Fits i j) (said i j) (λ r h p. rule-fits L T i j r (h .0) (h .1 .0) (h .1 .1 .0) (h .1 .1 .1) p)
         (each-map2 (λ r. roomSaid R i j r ≡ true) (Ruled i j) (λ r. (roomSaid R i j r ≡ true) × Ruled i j r) (said i j) (λ r a b. (a, b)) (right-rooms L i j (X .rooms i li j lj)) (ruled i j li lj))
@@ -294,7 +294,7 @@ module _ (L : Lent) (T : TableClauses L) where
         let b = ap (countLine f) (is i j li lj) in
         by-lt j n
         (λ l. let q = eqb-true i (R .initiator m) e in
-        let d = X .deletes m (t .slot) (t .held) j l in
+        let d = X .deletes m (slot L T m (t .held)) (t .held) j l in
         let d' : countLine f (F .lines i j) ≤ 1 = subst (λ (x : ℕ). countLine f (F .lines x j) ≤ 1) (sym q) d in
         omega arith)
         (λ l. let d = none-on i j l f in omega arith))
@@ -314,7 +314,7 @@ module _ (L : Lent) (T : TableClauses L) where
         }
 
     -- HAND-OFFS
-    not-handed-off : (c : ℕ) → k ≤ c → (i j : ℕ) (r : Record) → True (recordRule limits F i j r) → isHandoffOf c r ≡ false
+    not-handed-off : (c : ℕ) → k ≤ c → (i j : ℕ) (r : Record) → True (recordRule (limitsOf (L .product)) F i j r) → isHandoffOf c r ≡ false
     not-handed-off c l i j (multicast x) h = refl
     not-handed-off c l i j (ackList x y) h = refl
     not-handed-off c l i j (delete x) h = refl
@@ -323,13 +323,13 @@ module _ (L : Lent) (T : TableClauses L) where
 
     movers-count : (c : ℕ) → countLines n (λ i j. isHandoffOf c) (F .lines) ≡ bit (has (movers k C) c)
     movers-count c =
-        by-lt c 64
+        by-lt c (L .product .carts)
         (λ l. let row = listOf 16 (C .next c) in
         sum-ext n (λ i. sum n (λ j. countLine (isHandoffOf c) (F .lines i j))) (λ i. sum n (λ j. due (C .place c) row i j))
         (λ i li. sum-ext n (λ j. countLine (isHandoffOf c) (F .lines i j)) (λ j. due (C .place c) row i j)
         (λ j lj. count-handoffs c (F .lines i j) ∙ ap (λ (x : List HandoffRecord). length x) (handed-off c l i li j lj)))
         ∙ due-total n (C .place c) row (place-fits (C .place c) (T .cart c l .0)) ∙ ap bit (sym (movers-bit c l)))
-        (λ l. let far : k ≤ c = (let z = T .carts in omega arith) in
+        (λ l. let far : k ≤ c = (let z = T .on-carts in omega arith) in
         countLines-none n (λ i j. isHandoffOf c) (F .lines) (λ i j li lj. all-map (F .lines i j) (λ r h. not-handed-off c far i j r (h .1 .1)) (X .line i (close i li) j (close j lj)))
         ∙ ap bit (sym (movers-beyond c far)))
 
@@ -340,28 +340,28 @@ module _ (L : Lent) (T : TableClauses L) where
     each-found = found-all-no n k C R one (C .next) words fit 0 (λ c. let z = all-handoffs c in let y = bit-le (has (movers k C) c) in omega arith)
 
     -- ACKNOWLEDGEMENTS
-    not-acked : (m c : ℕ) → k ≤ c → (i j : ℕ) (r : Record) → True (recordRule limits F i j r) → acksTo (F .initiator m) (F .number m) c i j r ≡ false
+    not-acked : (m c : ℕ) → k ≤ c → (i j : ℕ) (r : Record) → True (recordRule (limitsOf (L .product)) F i j r) → acksTo (F .initiator m) (F .number m) c i j r ≡ false
     not-acked m c l i j (multicast x) h = and-false (eqb j (F .initiator m))
     not-acked m c l i j (ackList x y) h = let z = no-member k y c (h .1 .0) l in rw (z, and-false (eqb x (F .number m)), and-false (eqb j (F .initiator m)))
     not-acked m c l i j (delete x) h = and-false (eqb j (F .initiator m))
     not-acked m c l i j (deregister d) h = and-false (eqb j (F .initiator m))
     not-acked m c l i j (register d row) h = and-false (eqb j (F .initiator m))
 
-    none-acked : (m : ℕ) → m < 32 → (c : ℕ) → k ≤ c → acksOf limits F m c ≡ 0
-    none-acked m lm c l =
-        let a : bit (has (F .acked m) c) ≡ 0 = rw (no-member k (F .acked m) c (T .room m lm .1 .0) l) refl in
-        let b = count-none n (λ t. has (F .acks m t) c) (λ t lt. no-member k (F .acks m t) c (T .entry m lm t (close t lt) .1 .0) l) in
+    none-acked : (m : ℕ) → isHeld F m ≡ true → (c : ℕ) → k ≤ c → acksOf (limitsOf (L .product)) F m c ≡ 0
+    none-acked m h c l =
+        let a : bit (has (F .acked m) c) ≡ 0 = rw (no-member k (F .acked m) c (T .room m (slot L T m h) .1 .0) l) refl in
+        let b = count-none n (λ t. has (F .acks m t) c) (λ t lt. no-member k (F .acks m t) c (T .entry m (slot L T m h) t (let z = T .on-stations in omega arith) .1 .0) l) in
         let d = countLines-none n (acksTo (F .initiator m) (F .number m) c) (F .lines)
         (λ i j li lj. all-map (F .lines i j) (λ r h. not-acked m c l i j r (h .1 .1)) (X .line i (close i li) j (close j lj))) in
         omega arith
 
-    one-ack : (m : ℕ) → m < 32 → isHeld F m ≡ true → (c : ℕ) → acksOf limits F m c ≤ 1
-    one-ack m lm h c = by-lt c k (λ l. X .acks m lm h c l .0) (λ l. let z = none-acked m lm c l in omega arith)
+    one-ack : (m : ℕ) → m < 32 → isHeld F m ≡ true → (c : ℕ) → acksOf (limitsOf (L .product)) F m c ≤ 1
+    one-ack m lm h c = by-lt c k (λ l. X .acks m (slot L T m h) h c l .0) (λ l. let z = none-acked m h c l in omega arith)
 
     all-apart : (m : ℕ) → m < 32 → isHeld F m ≡ true → apart S R m n ≡ true
     all-apart m lm h = gathered-no S R m n (λ c lc. let z = one-ack m lm h c in omega arith)
 
-    all-acks : (a : Spot R) → bit (has (getD (start n k S C R words) (a .room) 0) (a .cart)) + sum 16 (λ i. sum 16 (λ j. countLine (acksTo (F .initiator (a .room)) (F .number (a .room)) (a .cart) i j) (line i j))) ≡ acksOf limits F (a .room) (a .cart)
+    all-acks : (a : Spot R) → bit (has (getD (start n k S C R words) (a .room) 0) (a .cart)) + sum 16 (λ i. sum 16 (λ j. countLine (acksTo (F .initiator (a .room)) (F .number (a .room)) (a .cart) i j) (line i j))) ≡ acksOf (limitsOf (L .product)) F (a .room) (a .cart)
     all-acks a =
         let m = a .room in
         let c = a .cart in
@@ -374,11 +374,11 @@ module _ (L : Lent) (T : TableClauses L) where
         seen-all-no n k C R one (C .next) words fit (start n k S C R words) (length-listOf 32 (λ m. gathered S R m n))
         (λ a. let z = all-acks a in let y = one-ack (a .room) (a .taken .slot) (a .taken .held) (a .cart) in omega arith)
 
-    last-is : (m : ℕ) → m < 32 → isHeld F m ≡ true → (c : ℕ) → c < 64 → bit (has (seenLast n k S C R words m) c) ≡ acksOf limits F m c
+    last-is : (m : ℕ) → m < 32 → isHeld F m ≡ true → (c : ℕ) → c < 64 → bit (has (seenLast n k S C R words m) c) ≡ acksOf (limitsOf (L .product)) F m c
     last-is m lm h c lc =
         seen-all-yes n k C R one (C .next) words fit (start n k S C R words) (length-listOf 32 (λ m. gathered S R m n)) each-seen (spot m c lm h lc) ∙ all-acks (spot m c lm h lc)
 
-    met-ack : (m : ℕ) → m < 32 → isHeld F m ≡ true → (c : ℕ) → c < 64 → has (seenLast n k S C R words m) c ≡ true → 0 < acksOf limits F m c
+    met-ack : (m : ℕ) → m < 32 → isHeld F m ≡ true → (c : ℕ) → c < 64 → has (seenLast n k S C R words m) c ≡ true → 0 < acksOf (limitsOf (L .product)) F m c
     met-ack m lm h c lc e = let z = last-is m lm h c lc in let y : bit (has (seenLast n k S C R words m) c) ≡ 1 = rw e refl in omega arith
 
     pub middle-from : Middle n k S C R words
@@ -393,11 +393,11 @@ module _ (L : Lent) (T : TableClauses L) where
               (λ c. same-bits (has (allFound words 0 16) c) (has (movers k C) c) (found-all-yes n k C R one (C .next) words fit 0 each-found c ∙ all-handoffs c));
           named = λ m lm h. let x = seenLast n k S C R words m in
               has-within 64 x (F .named m)
-              (λ c lc e. let p = met-ack m lm h c lc e in by-lt c k (λ l. X .acks m lm h c l .1 p .0) (λ l. absurd (let z = none-acked m lm c l in omega arith)));
+              (λ c lc e. let p = met-ack m lm h c lc e in by-lt c k (λ l. X .acks m (slot L T m h) h c l .1 p .0) (λ l. absurd (let z = none-acked m h c l in omega arith)));
           above = λ m lm h. let x = seenLast n k S C R words m in
               every-all k (λ c. not (has x c) || ltb (F .number m) (F .next c (F .initiator m)))
               (λ c l. if-of (has x c) (ltb (F .number m) (F .next c (F .initiator m)))
-              (λ e. lt-ltb (F .number m) (F .next c (F .initiator m)) (X .acks m lm h c l .1 (met-ack m lm h c (let z = T .carts in omega arith) e) .1)));
+              (λ e. lt-ltb (F .number m) (F .next c (F .initiator m)) (X .acks m (slot L T m h) h c l .1 (met-ack m lm h c (let z = T .carts in omega arith) e) .1)));
         }
 
   -- THE THEOREM

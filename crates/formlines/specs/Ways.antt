@@ -2,7 +2,8 @@
 use mathlib.Core.Path.{_≡_}
 use mathlib.Core.Bool.{Bool, true, false, cond}
 use mathlib.Core.List.{List}
-use Prim.Native.Nat.{ℕ, _<_}
+use Prim.Native.Nat.{ℕ, _*_, _<_, _≤_}
+use lib.ListN.{length}
 use Rattle.protocol.specs.Folds.{every}
 use Rattle.lines.specs.Bits.{bitAt}
 use Rattle.lines.specs.Form.{count, rowsOnLines, lineOk, form}
@@ -25,6 +26,12 @@ Inside (aDelete m n) = m < 32
 Inside (aDeregister c) = c < 64
 Inside (aRegister c) = c < 64
 Inside (unknown x) = Unit {0}
+
+-- the messages' table has whole rows, no more than there are rooms at a station
+pub record WholeRooms (M : List ℕ) : Type 0 where
+  pub rows : ℕ
+  pub few : rows ≤ 32
+  pub words : length M ≡ rows * 6
 
 -- THE CHAINS ON THE WAY: the first k lines of the pool are right, and each row is marked in s as often as it stands on them
 pub record Whole (l : List ℕ) (k : ℕ) (s : List ℕ) : Type 0 where

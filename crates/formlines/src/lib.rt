@@ -13,7 +13,8 @@ ghost use Rattle.protocol.specs.Folds.{every, listOf};
 ghost use Rattle.protocol.specs.CartSets.{has, with};
 ghost use Rattle.protocol.specs.Floor.{moving};
 ghost use Rattle.cartset.specs.Masks.{within};
-ghost use Rattle.stations.specs.View.{rooms, stationsIn};
+ghost use Rattle.stations.specs.View.{rooms, stationsIn, headIn};
+ghost use Rattle.protocol.specs.Floor.{Product};
 ghost use Rattle.view.specs.View.{lent};
 ghost use Rattle.carts.specs.Records.{seen};
 ghost use Rattle.carts.specs.View.{cartsIn};
@@ -23,7 +24,7 @@ ghost use Rattle.lines.specs.Form.{form, sized};
 ghost use Rattle.lines.specs.Parts.{Walked};
 ghost use Rattle.formlines.specs.Said.{aMulticast, anAckList, aDelete, aDeregister, said, saidOn};
 ghost use Rattle.formlines.specs.Pass.{isLeaving, isTravelling, right, provided, fresh, meet, along, onLine, fromStation, fromEach, gathered, apart, isTaken, passed, ended, movers, passes, linesPass};
-ghost use Rattle.formlines.specs.Ways.{metOf, outcome, Inside, Whole, Checked};
+ghost use Rattle.formlines.specs.Ways.{metOf, outcome, Inside, WholeRooms, Whole, Checked};
 
 // Both are yes.
 fn both(a: bool, b: bool) -> bool
@@ -43,13 +44,16 @@ fn either(a: bool, b: bool) -> bool
 
 // The initiator's message of that number is in room m, which is one of the rooms.
 fn in_room(messages: &[u64], s: u64, number: u64, m: u64) -> bool
-    requires { ⌜ length (now messages) ≡ 192 ⌝ }
+    requires { ⌜ WholeRooms (now messages) ⌝ }
     ensures { λ r. ⌜ r ≡ (ltb m 32 && isIn (roomsIn (now (messages .entry))) s number m) ⌝ }
 {
     if 32 <= m {
         return false;
     }
     let at = m as usize;
+    if messages.len() < at * 6 + 6 {
+        return false;
+    }
     let waiting = messages::waiting_of(messages, at);
     let initiator = messages::initiator_of(messages, at);
     let own = messages::number_of(messages, at);
@@ -58,7 +62,7 @@ fn in_room(messages: &[u64], s: u64, number: u64, m: u64) -> bool
 
 // A multicast from i to j is of a held message of i, and j has yet to handle its delete.
 fn multicast_right(messages: &[u64], i: u64, j: u64, m: u64, number: u64) -> bool
-    requires { ⌜ (length (now messages) ≡ 192) × (j < 16) ⌝ }
+    requires { ⌜ WholeRooms (now messages) × (j < 16) ⌝ }
     ensures { λ r. ⌜ r ≡ ((ltb m 32 && isIn (roomsIn (now (messages .entry))) i number m) && has (roomsIn (now (messages .entry)) .waiting m) j) ⌝ }
 {
     if !in_room(messages, i, number, m) {
@@ -69,7 +73,7 @@ fn multicast_right(messages: &[u64], i: u64, j: u64, m: u64, number: u64) -> boo
 
 // An ack list to j is of a held message of j, and of some carts of the floor, which has k.
 fn ack_list_right(messages: &[u64], k: u64, j: u64, m: u64, number: u64, carts: u64) -> bool
-    requires { ⌜ (length (now messages) ≡ 192) × (k ≤ 64) ⌝ }
+    requires { ⌜ WholeRooms (now messages) × (k ≤ 64) ⌝ }
     ensures { λ r. ⌜ r ≡ ((ltb m 32 && isIn (roomsIn (now (messages .entry))) j number m) && (ltb 0 carts && ltb carts (2 ^ k))) ⌝ }
 {
     let all = cartset::all_below(k);
@@ -79,7 +83,7 @@ fn ack_list_right(messages: &[u64], k: u64, j: u64, m: u64, number: u64, carts: 
 
 // A delete from i to j is of a held message of i that the whole set has acknowledged, and j has yet to handle it.
 fn delete_right(messages: &[u64], i: u64, j: u64, m: u64, number: u64) -> bool
-    requires { ⌜ (length (now messages) ≡ 192) × (j < 16) ⌝ }
+    requires { ⌜ WholeRooms (now messages) × (j < 16) ⌝ }
     ensures { λ r. ⌜ r ≡ ((ltb m 32 && isIn (roomsIn (now (messages .entry))) i number m) && (has (roomsIn (now (messages .entry)) .waiting m) j && eqb (roomsIn (now (messages .entry)) .acked m) (roomsIn (now (messages .entry)) .named m))) ⌝ }
 {
     if !in_room(messages, i, number, m) {
@@ -114,7 +118,7 @@ fn is_travelling(place: Place, s: u64, u: u64) -> bool
 
 // A deregister from i to j is of one of the k carts, which is leaving j for i.
 fn deregister_right(carts: &[u64], k: u64, i: u64, j: u64, cart: u64) -> bool
-    requires { ⌜ (length (now carts) ≡ 1216) × (k ≤ 64) ⌝ }
+    requires { ⌜ (k * 19 ≤ length (now carts)) × (k ≤ 64) ⌝ }
     ensures { λ r. ⌜ r ≡ (ltb cart k && isLeaving (cartsIn (now (carts .entry)) .place cart) j i) ⌝ }
 {
     if k <= cart {
@@ -125,7 +129,7 @@ fn deregister_right(carts: &[u64], k: u64, i: u64, j: u64, cart: u64) -> bool
 
 // A register from i to j is of one of the k carts, which travels from i to j.
 fn register_right(carts: &[u64], k: u64, i: u64, j: u64, cart: u64) -> bool
-    requires { ⌜ (length (now carts) ≡ 1216) × (k ≤ 64) ⌝ }
+    requires { ⌜ (k * 19 ≤ length (now carts)) × (k ≤ 64) ⌝ }
     ensures { λ r. ⌜ r ≡ (ltb cart k && isTravelling (cartsIn (now (carts .entry)) .place cart) i j) ⌝ }
 {
     if k <= cart {
@@ -136,7 +140,7 @@ fn register_right(carts: &[u64], k: u64, i: u64, j: u64, cart: u64) -> bool
 
 // A record on the line from i to j, on a floor of k carts.
 fn is_right(messages: &[u64], carts: &[u64], k: u64, i: u64, j: u64, r: Record) -> bool
-    requires { ⌜ (length (now messages) ≡ 192) × (length (now carts) ≡ 1216) × (k ≤ 64) × (j < 16) ⌝ }
+    requires { ⌜ WholeRooms (now messages) × (k * 19 ≤ length (now carts)) × (k ≤ 64) × (j < 16) ⌝ }
     ensures { λ x. ⌜ ((n : ℕ) → x ≡ right n k (cartsIn (now (carts .entry))) (roomsIn (now (messages .entry))) i j (said r)) ⌝ }
 {
     let kind = view::kind_of(r);
@@ -280,7 +284,7 @@ fn meet(
     way: Way,
     r: Record,
 ) -> Way
-    requires { ⌜ (length (now masks) ≡ 32) × (length (now messages) ≡ 192) × (length (now carts) ≡ 1216) × (k ≤ 64) × (j < 16) ⌝ }
+    requires { ⌜ (length (now masks) ≡ 32) × WholeRooms (now messages) × (k * 19 ≤ length (now carts)) × (k ≤ 64) × (j < 16) ⌝ }
     ensures { λ x. ⌜ metOf x (now (masks .exit)) ≡ meet n k (cartsIn (now (carts .entry))) (roomsIn (now (messages .entry))) (metOf way (now (masks .entry))) i j (said r) ⌝ }
     ensures { λ _. ⌜ length (now (masks .exit)) ≡ length (now (masks .entry)) ⌝ }
 {
@@ -308,7 +312,7 @@ fn along(
     j: u64,
     way: Way,
 ) -> Walk
-    requires { ⌜ (length (now masks) ≡ 32) × (length (now seen) ≡ 49) × (length (now messages) ≡ 192) × (length (now carts) ≡ 1216) × (sized (now lines) ≡ true) × (k ≤ 64) × (i < 16) × (j < 16) ⌝ }
+    requires { ⌜ (length (now masks) ≡ 32) × (length (now seen) ≡ 49) × WholeRooms (now messages) × (k * 19 ≤ length (now carts)) × (sized (now lines) ≡ true) × (k ≤ 64) × (i < 16) × (j < 16) ⌝ }
     ensures { λ x. ⌜ Walked (now (lines .entry)) (i * 16 + j) (now (seen .entry)) (now (seen .exit)) (x .whole) ⌝ }
     ensures { λ x. ⌜ (x .whole ≡ true → metOf (x .met) (now (masks .exit)) ≡ along n k (cartsIn (now (carts .entry))) (roomsIn (now (messages .entry))) (metOf way (now (masks .entry))) i j (saidOn (now (lines .entry)) i j)) × ((length (now (masks .exit)) ≡ length (now (masks .entry))) × (length (now (seen .exit)) ≡ length (now (seen .entry)))) ⌝ }
 {
@@ -338,6 +342,27 @@ fn along(
 
 // ---- All lines.
 
+// The number that station j expects of i, and how many messages i has sent: 0, where the table has no row for the station.
+fn expected_by(stations: &[u64], rows: u64, j: u64, i: u64) -> u64
+    requires { ⌜ (length (now stations) ≡ 116 + rows * 116) × (i < 16) ⌝ }
+    ensures { λ r. ⌜ r ≡ stationsIn (now (stations .entry)) .expected j i ⌝ }
+{
+    if rows <= j {
+        return 0;
+    }
+    stations::expected_of(stations, Station(j), Station(i))
+}
+
+fn sent_by(stations: &[u64], rows: u64, i: u64) -> u64
+    requires { ⌜ length (now stations) ≡ 116 + rows * 116 ⌝ }
+    ensures { λ r. ⌜ r ≡ stationsIn (now (stations .entry)) .sent i ⌝ }
+{
+    if rows <= i {
+        return 0;
+    }
+    stations::sent_of(stations, Station(i))
+}
+
 // The line from i to j: its multicasts run from the number that j expects up to what i has sent.
 fn on_line(
     masks: &mut [u64],
@@ -346,19 +371,20 @@ fn on_line(
     messages: &[u64],
     carts: &[u64],
     lines: &[u64],
+    rows: u64,
     n: u64,
     k: u64,
     i: u64,
     j: u64,
     way: Way,
 ) -> Walk
-    requires { ⌜ (length (now masks) ≡ 32) × (length (now seen) ≡ 49) × (length (now stations) ≡ 1972) × (length (now messages) ≡ 192) × (length (now carts) ≡ 1216) × (sized (now lines) ≡ true) × (k ≤ 64) × (i < 16) × (j < 16) ⌝ }
+    requires { ⌜ (length (now masks) ≡ 32) × (length (now seen) ≡ 49) × (length (now stations) ≡ 116 + rows * 116) × WholeRooms (now messages) × (k * 19 ≤ length (now carts)) × (sized (now lines) ≡ true) × (k ≤ 64) × (i < 16) × (j < 16) ⌝ }
     ensures { λ x. ⌜ Walked (now (lines .entry)) (i * 16 + j) (now (seen .entry)) (now (seen .exit)) (x .whole) ⌝ }
     ensures { λ x. ⌜ (x .whole ≡ true → metOf (x .met) (now (masks .exit)) ≡ onLine n k (cartsIn (now (carts .entry))) (roomsIn (now (messages .entry))) (stationsIn (now (stations .entry))) (now (lines .entry)) (metOf way (now (masks .entry))) i j) ⌝ }
     ensures { λ _. ⌜ (length (now (masks .exit)) ≡ length (now (masks .entry))) × (length (now (seen .exit)) ≡ length (now (seen .entry))) ⌝ }
 {
-    let expected = stations::expected_of(stations, Station(j), Station(i));
-    let sent = stations::sent_of(stations, Station(i));
+    let expected = expected_by(stations, rows, j, i);
+    let sent = sent_by(stations, rows, i);
     let begin = Way {
         ok: way.ok,
         next: expected,
@@ -387,12 +413,13 @@ fn from_station(
     messages: &[u64],
     carts: &[u64],
     lines: &[u64],
+    rows: u64,
     n: u64,
     k: u64,
     i: u64,
     way: Way,
 ) -> Walk
-    requires { ⌜ (length (now masks) ≡ 32) × (length (now seen) ≡ 49) × (length (now stations) ≡ 1972) × (length (now messages) ≡ 192) × (length (now carts) ≡ 1216) × (sized (now lines) ≡ true) × (k ≤ 64) × (i < 16) × Whole (now lines) (i * 16) (now seen) ⌝ }
+    requires { ⌜ (length (now masks) ≡ 32) × (length (now seen) ≡ 49) × (length (now stations) ≡ 116 + rows * 116) × WholeRooms (now messages) × (k * 19 ≤ length (now carts)) × (sized (now lines) ≡ true) × (k ≤ 64) × (i < 16) × Whole (now lines) (i * 16) (now seen) ⌝ }
     ensures { λ x. ⌜ Checked (now (lines .entry)) (i * 16 + 16) (now (seen .exit)) (x .whole) (metOf (x .met) (now (masks .exit))) (fromStation n k (cartsIn (now (carts .entry))) (roomsIn (now (messages .entry))) (stationsIn (now (stations .entry))) (now (lines .entry)) (metOf way (now (masks .entry))) i 16) × ((length (now (masks .exit)) ≡ length (now (masks .entry))) × (length (now (seen .exit)) ≡ length (now (seen .entry)))) ⌝ }
 {
     let mut met = way;
@@ -405,6 +432,7 @@ fn from_station(
             messages,
             carts,
             lines,
+            rows,
             n,
             k,
             i,
@@ -428,18 +456,31 @@ fn from_each(
     messages: &[u64],
     carts: &[u64],
     lines: &[u64],
+    rows: u64,
     n: u64,
     k: u64,
     way: Way,
 ) -> Walk
-    requires { ⌜ (length (now masks) ≡ 32) × (length (now seen) ≡ 49) × (length (now stations) ≡ 1972) × (length (now messages) ≡ 192) × (length (now carts) ≡ 1216) × (sized (now lines) ≡ true) × (k ≤ 64) × Whole (now lines) 0 (now seen) ⌝ }
+    requires { ⌜ (length (now masks) ≡ 32) × (length (now seen) ≡ 49) × (length (now stations) ≡ 116 + rows * 116) × WholeRooms (now messages) × (k * 19 ≤ length (now carts)) × (sized (now lines) ≡ true) × (k ≤ 64) × Whole (now lines) 0 (now seen) ⌝ }
     ensures { λ x. ⌜ Checked (now (lines .entry)) 256 (now (seen .exit)) (x .whole) (metOf (x .met) (now (masks .exit))) (fromEach n k (cartsIn (now (carts .entry))) (roomsIn (now (messages .entry))) (stationsIn (now (stations .entry))) (now (lines .entry)) (metOf way (now (masks .entry))) 16) ⌝ }
     ensures { λ _. ⌜ (length (now (masks .exit)) ≡ length (now (masks .entry))) × (length (now (seen .exit)) ≡ length (now (seen .entry))) ⌝ }
 {
     let mut met = way;
     let mut i: u64 = 0;
     while i < 16 {
-        let walk = from_station(masks, seen, stations, messages, carts, lines, n, k, i, met);
+        let walk = from_station(
+            masks,
+            seen,
+            stations,
+            messages,
+            carts,
+            lines,
+            rows,
+            n,
+            k,
+            i,
+            met,
+        );
         met = walk.met;
         if !walk.whole {
             return Walk { whole: false, met };
@@ -451,6 +492,27 @@ fn from_each(
 
 // ---- Before the lines.
 
+// The stations that wait for the delete of the message in room m, and the carts known to have it: none, where the table has no such room.
+fn waiting_by(messages: &[u64], m: usize) -> u64
+    requires { ⌜ WholeRooms (now messages) × (m < rooms) ⌝ }
+    ensures { λ r. ⌜ r ≡ roomsIn (now (messages .entry)) .waiting m ⌝ }
+{
+    if messages.len() < m * 6 + 6 {
+        return 0;
+    }
+    messages::waiting_of(messages, m)
+}
+
+fn acked_by(messages: &[u64], m: usize) -> u64
+    requires { ⌜ WholeRooms (now messages) × (m < rooms) ⌝ }
+    ensures { λ r. ⌜ r ≡ roomsIn (now (messages .entry)) .acked m ⌝ }
+{
+    if messages.len() < m * 6 + 6 {
+        return 0;
+    }
+    messages::acked_of(messages, m)
+}
+
 // The acknowledgements at the initiator and in the ack lists: they stand in one place, and whose they are.
 struct Acked {
     apart: bool,
@@ -459,10 +521,10 @@ struct Acked {
 
 // Of the message in room m, on a floor of n stations.
 fn gather(stations: &[u64], messages: &[u64], n: u64, m: usize) -> Acked
-    requires { ⌜ (length (now stations) ≡ 1972) × (length (now messages) ≡ 192) × (n ≤ 16) × (m < rooms) ⌝ }
+    requires { ⌜ (n * 116 + 116 ≤ length (now stations)) × WholeRooms (now messages) × (n ≤ 16) × (m < rooms) ⌝ }
     ensures { λ r. ⌜ (r .apart ≡ apart (stationsIn (now (stations .entry))) (roomsIn (now (messages .entry))) m n) × (r .carts ≡ gathered (stationsIn (now (stations .entry))) (roomsIn (now (messages .entry))) m n) ⌝ }
 {
-    let mut carts = messages::acked_of(messages, m);
+    let mut carts = acked_by(messages, m);
     let mut apart = true;
     let mut t: u64 = 0;
     while t < n {
@@ -476,7 +538,7 @@ fn gather(stations: &[u64], messages: &[u64], n: u64, m: usize) -> Acked
 
 // Of every room; those of a held message stand in one place.
 fn begin(masks: &mut [u64], stations: &[u64], messages: &[u64], n: u64) -> bool
-    requires { ⌜ (length (now masks) ≡ 32) × (length (now stations) ≡ 1972) × (length (now messages) ≡ 192) × (n ≤ 16) ⌝ }
+    requires { ⌜ (length (now masks) ≡ 32) × (n * 116 + 116 ≤ length (now stations)) × WholeRooms (now messages) × (n ≤ 16) ⌝ }
     ensures { λ r. ⌜ r ≡ every 32 (λ m. not (isTaken (roomsIn (now (messages .entry))) m) || apart (stationsIn (now (stations .entry))) (roomsIn (now (messages .entry))) m n) ⌝ }
     ensures { λ _. ⌜ now (masks .exit) ≡ listOf 32 (λ m. gathered (stationsIn (now (stations .entry))) (roomsIn (now (messages .entry))) m n) ⌝ }
 {
@@ -484,7 +546,7 @@ fn begin(masks: &mut [u64], stations: &[u64], messages: &[u64], n: u64) -> bool
     let mut m: usize = 0;
     while m < 32 {
         let met = gather(stations, messages, n, m);
-        let waiting = messages::waiting_of(messages, m);
+        let waiting = waiting_by(messages, m);
         ok = both(ok, either(waiting == 0, met.apart));
         masks[m] = met.carts;
         m += 1;
@@ -496,10 +558,10 @@ fn begin(masks: &mut [u64], stations: &[u64], messages: &[u64], n: u64) -> bool
 
 // Whoever acknowledged the message in room m is named, and has passed it, if it is held.
 fn has_ended(messages: &[u64], carts: &[u64], k: u64, m: usize, set: u64) -> bool
-    requires { ⌜ (length (now messages) ≡ 192) × (length (now carts) ≡ 1216) × (k ≤ 64) × (m < rooms) ⌝ }
+    requires { ⌜ WholeRooms (now messages) × (k * 19 ≤ length (now carts)) × (k ≤ 64) × (m < rooms) ⌝ }
     ensures { λ r. ⌜ r ≡ (not (isTaken (roomsIn (now (messages .entry))) m) || (within 64 set (roomsIn (now (messages .entry)) .named m) && passed k (cartsIn (now (carts .entry))) (roomsIn (now (messages .entry))) m set)) ⌝ }
 {
-    if messages::waiting_of(messages, m) == 0 {
+    if waiting_by(messages, m) == 0 {
         return true;
     }
     if !cartset::is_within(set, messages::named_of(messages, m)) {
@@ -512,7 +574,7 @@ fn has_ended(messages: &[u64], carts: &[u64], k: u64, m: usize, set: u64) -> boo
 
 // In every room.
 fn all_ended(masks: &[u64], messages: &[u64], carts: &[u64], k: u64) -> bool
-    requires { ⌜ (length (now masks) ≡ 32) × (length (now messages) ≡ 192) × (length (now carts) ≡ 1216) × (k ≤ 64) ⌝ }
+    requires { ⌜ (length (now masks) ≡ 32) × WholeRooms (now messages) × (k * 19 ≤ length (now carts)) × (k ≤ 64) ⌝ }
     ensures { λ r. ⌜ r ≡ every 32 (ended k (cartsIn (now (carts .entry))) (roomsIn (now (messages .entry))) (now (masks .entry))) ⌝ }
 {
     let mut ok = true;
@@ -549,7 +611,7 @@ fn joined(set: u64, joins: bool, cart: u64) -> u64
 
 // Those of the k carts that are leaving or travelling.
 fn movers(carts: &[u64], k: u64) -> u64
-    requires { ⌜ (length (now carts) ≡ 1216) × (k ≤ 64) ⌝ }
+    requires { ⌜ (k * 19 ≤ length (now carts)) × (k ≤ 64) ⌝ }
     ensures { λ r. ⌜ r ≡ movers k (cartsIn (now (carts .entry))) ⌝ }
 {
     let mut set: u64 = 0;
@@ -563,8 +625,16 @@ fn movers(carts: &[u64], k: u64) -> u64
 }
 
 // ---- THE PASS, on a floor of n stations and k carts. It walks each line once, for its chain of rows and for its records.
-fn passes(stations: &[u64], carts: &[u64], messages: &[u64], lines: &[u64], n: u64, k: u64) -> bool
-    requires { ⌜ (length (now stations) ≡ 1972) × (length (now carts) ≡ 1216) × (length (now messages) ≡ 192) × (sized (now lines) ≡ true) × (n ≤ 16) × (k ≤ 64) ⌝ }
+fn passes(
+    stations: &[u64],
+    carts: &[u64],
+    messages: &[u64],
+    lines: &[u64],
+    rows: u64,
+    n: u64,
+    k: u64,
+) -> bool
+    requires { ⌜ (length (now stations) ≡ 116 + rows * 116) × (k * 19 ≤ length (now carts)) × WholeRooms (now messages) × (sized (now lines) ≡ true) × (n ≤ 16) × (k ≤ 64) × (n ≤ rows) ⌝ }
     ensures { λ r. ⌜ r ≡ (form (now (lines .entry)) && passes n k (stationsIn (now (stations .entry))) (cartsIn (now (carts .entry))) (roomsIn (now (messages .entry))) (now (lines .entry))) ⌝ }
 {
     let mut masks = [0u64; 32];
@@ -583,6 +653,7 @@ fn passes(stations: &[u64], carts: &[u64], messages: &[u64], lines: &[u64], n: u
         messages,
         carts,
         lines,
+        rows,
         n,
         k,
         way,
@@ -599,18 +670,18 @@ fn passes(stations: &[u64], carts: &[u64], messages: &[u64], lines: &[u64], n: u
     both(met.ok, both(met.found == set, ends))
 }
 
-// Of the lent parts, with the form of the pool itself.
-pub fn lines_pass(stations: &[u64], carts: &[u64], messages: &[u64], lines: &[u64]) -> bool
-    requires { ⌜ (length (now stations) ≡ 1972) × (length (now carts) ≡ 1216) × (length (now messages) ≡ 192) × (sized (now lines) ≡ true) ⌝ }
-    ensures { λ r. ⌜ ((texts : List ℕ) → r ≡ (form (now (lines .entry)) && linesPass (lent (now (stations .entry)) (now (carts .entry)) (now (messages .entry)) (now (lines .entry)) texts))) ⌝ }
+// Of the lent parts, with the form of the pool itself: of so many rows of stations, on a floor whose stations and carts have rows.
+pub fn lines_pass(
+    stations: &[u64],
+    carts: &[u64],
+    messages: &[u64],
+    lines: &[u64],
+    rows: u64,
+) -> bool
+    requires { ⌜ (length (now stations) ≡ 116 + rows * 116) × (rows ≤ 16) × (headIn (now stations) .stations ≤ rows) × (headIn (now stations) .carts ≤ 64) × (headIn (now stations) .carts * 19 ≤ length (now carts)) × WholeRooms (now messages) × (sized (now lines) ≡ true) ⌝ }
+    ensures { λ r. ⌜ ((P : Product) (texts : List ℕ) → r ≡ (form (now (lines .entry)) && linesPass (lent P (now (stations .entry)) (now (carts .entry)) (now (messages .entry)) (now (lines .entry)) texts))) ⌝ }
 {
     let n = stations::station_count(stations);
-    if 16 < n {
-        return false;
-    }
     let k = stations::cart_count(stations);
-    if 64 < k {
-        return false;
-    }
-    passes(stations, carts, messages, lines, n, k)
+    passes(stations, carts, messages, lines, rows, n, k)
 }

@@ -1,6 +1,6 @@
 -- AN ARRIVAL OVER THE LENT PARTS IS THE WRITTEN ARRIVAL, for an enter and for a register.
 use mathlib.Core.Path.{_≡_, refl, sym, ap, _∙_, fun-ext}
-use mathlib.Core.Bool.{Bool, true, false, cond, _&&_}
+use mathlib.Core.Bool.{Bool, true, false, cond, _&&_, not}
 use mathlib.Core.List.{List}
 use Prim.Native.Nat.{ℕ, zero, suc, _+_, _-_, _<_, _≤_}
 use native.Mathlib.Omega.{arith}
@@ -9,27 +9,30 @@ use lib.ListN.{getD}
 use borrow.Author.Tests.{ltb-true, lt-ltb, le-ltb, ne-eqb}
 use Rattle.protocol.specs.Folds.{sum, update}
 use Rattle.protocol.specs.CartSets.{has, with, without, setOf}
-use Rattle.protocol.specs.Floor.{Floor, limits, Carts, Record, at, localTo}
-use Rattle.protocol.specs.Handoff.{Stop, struck, catchUpStop, arrive, passedOver}
-use Rattle.protocol.proofs.Tests.{by-test, by-lt, by-eq, and-right, and-second-false, eqb-self, on-update, listOf-at, listOf-past}
+use Rattle.protocol.specs.Floor.{Limits, Floor, Carts, Record, at, localTo, limitsOf, Product}
+use Rattle.protocol.specs.Handoff.{Stop, withRow, struck, catchUpStop, arrive, passedOver}
+use Rattle.protocol.proofs.SetLaws.{has-setOf, has-zero, has-without, without-lt}
+use Rattle.protocol.proofs.Tests.{by-test, by-lt, by-eq, clash, and-right, and-second-false, eqb-self, on-update, listOf-at, listOf-past}
 use Rattle.protocol.proofs.Counting.{sum-ext}
 use Rattle.protocol.proofs.Updates.{counts-up-le}
 use Rattle.protocol.proofs.InRange.{in-range}
 use Rattle.protocol.proofs.CatchUp.{catch-up-ascent, stops-at, foundIs, found-is, docked, stopAt, arrive-at-once}
 use Rattle.protocol.specs.Form.{multicastNumbers}
-use Rattle.stations.specs.View.{Stations, HasStation, headIn, stationsIn}
+use Rattle.stations.specs.View.{Stations, HasStation, headIn, stationsIn, namingIn}
+use Rattle.stations.proofs.TableLaws.{copy-beyond}
 use Rattle.carts.specs.Words.{HasRow}
 use Rattle.carts.specs.View.{cartsIn, canonicalIn}
 use Rattle.messages.specs.View.{Rooms, roomsIn}
 use Rattle.view.specs.View.{Lent, lent, textsIn, floorOf, floorIn}
 use Rattle.view.proofs.Lengths.{Lengths}
 use Rattle.view.proofs.Laid.{Laid, local-stays, local-joins, laid-carts}
-use Rattle.view.proofs.Standing.{Standing}
-use Rattle.queue.specs.Rooms.{tablesFloor, HasRooms}
-use Rattle.catchup.specs.Arrival.{stopIn}
-use Rattle.catchup.proofs.Stops.{Agree}
-use Rattle.catchup.proofs.AllAtOnce.{all-raised, all-passed, all-queued}
-use Rattle.handoff.specs.Struck.{struckFrom}
+use Rattle.view.proofs.Standing.{Standing, few-stations, few-carts}
+use Rattle.queue.specs.Rooms.{tablesFloor, roomCount, HasRooms}
+use Rattle.catchup.specs.Arrival.{stopIn, occurs}
+use Rattle.catchup.proofs.NamingLaws.{naming-inside, naming-covers}
+use Rattle.catchup.proofs.Stops.{Agree, NoneBeyond}
+use Rattle.catchup.proofs.AllAtOnce.{all-raised, all-passed, all-queued, own-rooms}
+use Rattle.handoff.specs.Struck.{isPassed, struckFrom}
 use Rattle.handoff.specs.Arrived.{joined, Arrived}
 
 -- a sum of which the last terms are 0
@@ -51,20 +54,42 @@ expects-none L X t lt s l =
     by-eq (F .sent s) 0 (λ e. omega arith) (λ e. absurd (let b = X .facts .senders s (omega arith) in omega arith))
 
 -- no number that a station expects is past 65,535
-pub expected-fits : (L : Lent) → Standing L → (t : ℕ) → t < floorIn L .stations → (s : ℕ) → s < 16 → stationsIn (L .stations) .expected t s ≤ 65535
-expected-fits L X t lt s h = in-range limits (floorIn L) (X .facts) (X .sized) .expected t s lt
+pub expected-fits : (L : Lent) → Standing L → (t : ℕ) → t < floorIn L .stations → (s : ℕ) → s < 16 → stationsIn (L .stations) .expected t s ≤ 4294967295
+expected-fits L X t lt s h = let a = in-range (limitsOf (L .product)) (floorIn L) (X .facts) (X .sized) .expected t s lt in let b = L .product .last-fit in omega arith
 
--- the parts have a row for each station and cart, and every room
-pub parts-ready : (L : Lent) → Lengths L → (t c : ℕ) → t < 16 → c < 64 → HasStation (L .stations) t × HasRow (L .carts) c × HasRooms (L .messages) × (t < 16) × (c < 64)
-parts-ready L h t c lt lc =
-    let a = h .stations in
-    let b = h .carts in
-    let d = h .messages in
-    (omega arith, omega arith, omega arith, lt, lc)
+-- the parts have a row for each station and cart of the floor, and for each room whose copy names a cart
+pub parts-ready : (L : Lent) → Standing L → (t c : ℕ) → t < floorIn L .stations → c < floorIn L .carts → HasStation (L .stations) t × HasRow (L .carts) c × HasRooms (L .messages) × (t < 16) × (c < 64)
+parts-ready L X t c lt lc =
+    let a = X .lengths .stations in
+    let b = X .lengths .carts in
+    let d = X .lengths .messages in
+    let e = X .sized .counts .stations in
+    let f = X .sized .counts .carts in
+    let g = L .product .held-fit in
+    let h = few-stations L X in
+    let k = few-carts L X in
+    (omega arith, omega arith, omega arith, omega arith, omega arith)
+
+-- no room beyond the limit has a copy that names a cart
+pub none-beyond : (L : Lent) → Standing L → (t : ℕ) → t < floorIn L .stations → (m : ℕ) → L .product .held ≤ m → stationsIn (L .stations) .copy m t ≡ 0
+none-beyond L X t lt m l =
+    let e = X .sized .counts .stations in
+    by-lt m 32 (λ k. X .laid .few t m (omega arith) k l .0) (λ k. copy-beyond (L .stations) m t k)
+
+pub rooms-there : (L : Lent) → Standing L → (t c : ℕ) → t < floorIn L .stations → (m : ℕ) → has (namingIn (stationsIn (L .stations)) t c) m ≡ true → m < roomCount (L .messages)
+rooms-there L X t c lt m h =
+    let d = X .lengths .messages in
+    let low : m < L .product .held = by-lt m (L .product .held) (λ k. k)
+    (λ k. let z = none-beyond L X t lt m k in
+    let i = naming-inside (L .stations) t c m h in
+    let y : has (stationsIn (L .stations) .copy m t) c ≡ true = sym (has-setOf 32 (λ r. has (stationsIn (L .stations) .copy r t) c) m i) ∙ h in
+    clash (has 0 c) (rw z at y) (has-zero c)) in
+    omega arith
 
 -- FROM THE FLOOR OF THE PARTS, with any marks and any lines: cart c arrives at station t with that row of next numbers
-module _ (S S′ C C′ M T : List ℕ) (lengths words : Bool) (lines : ℕ → ℕ → List Record) (t c : ℕ) (row : List ℕ) (entries : ℕ → ℕ) (p : ℕ)
+module _ (Q : Limits) (S S′ C C′ M T : List ℕ) (lengths words : Bool) (lines : ℕ → ℕ → List Record) (t c : ℕ) (row : List ℕ) (entries : ℕ → ℕ) (p : ℕ)
     (is-row : (s : ℕ) → getD row s 0 ≡ entries s) (no-more : (s : ℕ) → 16 ≤ s → entries s ≡ 0)
+    (beyond : (Q .held ≤ 32) × ((m : ℕ) → Q .held ≤ m → stationsIn S .copy m t ≡ 0))
     (few : headIn S .stations ≤ 16) (idle : (s : ℕ) → headIn S .stations ≤ s → stationsIn S .expected t s ≡ 0)
     (there : Arrived S S′ C C′ M t c row p) where
   abbrev G : Floor
@@ -80,7 +105,7 @@ module _ (S S′ C C′ M T : List ℕ) (lengths words : Bool) (lines : ℕ → 
   D = docked G t c entries
 
   abbrev stop : ℕ → Stop
-  stop = catchUpStop limits D t c
+  stop = catchUpStop Q D t c
 
   abbrev K : List ℕ
   K = there .docked .struck
@@ -110,15 +135,22 @@ module _ (S S′ C C′ M T : List ℕ) (lengths words : Bool) (lines : ℕ → 
         copy = sym (ap (λ (X : Stations). X .copy) (there .docked .is-struck) ∙ fun-ext (λ m. fun-ext (λ u. copies m u)));
       }
 
+  -- a cart that is struck leaves no copy where there was none
+  beyond′ : NoneBeyond Q D t c
+  unfolding struck
+  beyond′ = (beyond .0, λ m l. let z = beyond .1 m l in rw z
+      (by-test (eqb t t && ((has (R .waiting m) t && ltb (R .number m) (stationsIn S .expected t (R .initiator m))) && ltb (R .number m) (withRow G c entries .next c (R .initiator m))))
+      (λ e. rw e (has-without 0 c c ∙ ap (λ (b : Bool). b && not (eqb c c)) (has-zero c))) (λ e. rw e (has-zero c))))
+
   -- THE NEXT NUMBERS
   raised : (s : ℕ) → s < 16 → stopIn (tablesFloor K M) t row N s ≡ stop s .upto
-  raised = all-raised D K M agree t c row N (there .docked .is-nearest) (λ s h. next-is s)
+  raised = all-raised Q D K M agree t c beyond′ row N (there .docked .is-nearest) (λ s h. next-is s)
 
   -- of a station that there is not, a cart passes nothing
   stays : (s : ℕ) → n ≤ s → stop s .upto ≡ D .next c s
   unfolding struck
   stays s l =
-      let a = catch-up-ascent limits D t c s in
+      let a = catch-up-ascent Q D t c s in
       let f = a .from in
       let b = a .below in
       let z : D .expected t s ≡ 0 = idle s l in
@@ -146,7 +178,7 @@ module _ (S S′ C C′ M T : List ℕ) (lengths words : Bool) (lines : ℕ → 
       (λ l. rw (lt-ltb i n l, lt-ltb i 16 (omega arith)))
       (λ l. by-test f
       (λ e. let q = found-is (stop i .found) m e in
-      let k = stops-at limits D t c i (stop i .upto) m (catch-up-ascent limits D t c i .stop m q) .buffered in
+      let k = stops-at Q D t c i (stop i .upto) m (catch-up-ascent Q D t c i .stop m q) .buffered in
       let z = ltb-true (R .number m) (stationsIn S .expected t i) (and-right (has (R .waiting m) t) (ltb (R .number m) (stationsIn S .expected t i)) k) in
       let y = idle i l in
       absurd (omega arith))
@@ -156,7 +188,7 @@ module _ (S S′ C C′ M T : List ℕ) (lengths words : Bool) (lines : ℕ → 
   unfolding struck
   queued m u =
       ap (λ (b : Bool). cond (eqb u t && b) (with (stationsIn S .queue m u) c) (stationsIn S .queue m u))
-      (all-queued D K M agree t c row N (there .docked .is-nearest) (λ s h. next-is s) m ∙ fewer m)
+      (all-queued Q D K M agree t c beyond′ row N (there .docked .is-nearest) (λ s h. next-is s) m ∙ fewer m)
 
   -- THE PARTS
   struck-first : stationsIn S′ ≡ joined (struckFrom (stationsIn S) R t c row) t c N
@@ -185,22 +217,22 @@ module _ (S S′ C C′ M T : List ℕ) (lengths words : Bool) (lines : ℕ → 
   carts-are = there .carts ∙ (λ i. record { place = update (cartsIn C .place) c (at t); next = λ d s. nexts d s i })
 
   -- "the cart is struck. Then catch-up for every initiator in rising order, and the cart is at this station"
-  pub arrived-is : floorOf lengths words (headIn S′) (stationsIn S′) (cartsIn C′) R (textsIn T R) lines ≡ arrive limits G t c entries
+  pub arrived-is : floorOf lengths words (headIn S′) (stationsIn S′) (cartsIn C′) R (textsIn T R) lines ≡ arrive Q G t c entries
   unfolding struck
   arrived-is =
       (λ i. floorOf lengths words (there .docked .head i) (stations-are i) (carts-are i) R (textsIn T R) lines)
-      ∙ sym (arrive-at-once limits G t c entries)
+      ∙ sym (arrive-at-once Q G t c entries)
 
   -- "p counts the numbers passed over in this step"
-  pub passed-is : p ≡ passedOver limits G t c entries
+  pub passed-is : p ≡ passedOver Q G t c entries
   unfolding struck passedOver
   passed-is =
       there .docked .count
-      ∙ all-passed D K M agree t c row N (there .docked .is-nearest) (λ s h. next-is s)
+      ∙ all-passed Q D K M agree t c beyond′ row N (there .docked .is-nearest) (λ s h. next-is s)
       ∙ ap (λ (k : ℕ). sum k rise) all
       ∙ sum-ends n (16 - n) rise (λ s l. let z = stays s l in omega arith)
-      ∙ sum-ext n rise (λ s. arrive limits G t c entries .next c s - entries s)
-      (λ s l. let y : arrive limits G t c entries .next c s ≡ stop s .upto = ap (λ (X : Floor). X .next c s) (arrive-at-once limits G t c entries) ∙ rw (eqb-self c, lt-ltb s n l) in
+      ∙ sum-ext n rise (λ s. arrive Q G t c entries .next c s - entries s)
+      (λ s l. let y : arrive Q G t c entries .next c s ≡ stop s .upto = ap (λ (X : Floor). X .next c s) (arrive-at-once Q G t c entries) ∙ rw (eqb-self c, lt-ltb s n l) in
       let z : D .next c s ≡ entries s = sym (next-is s) ∙ is-row s in
       omega arith)
     where
@@ -210,10 +242,15 @@ module _ (S S′ C C′ M T : List ℕ) (lengths words : Bool) (lines : ℕ → 
       all : 16 ≡ n + (16 - n)
       all = omega arith
 
+-- nothing, either way
+pub none-either-way : (b : Bool) (x : ℕ) → x ≡ 0 → cond b x 0 ≡ 0
+none-either-way true x e = e
+none-either-way false x e = refl
+
 -- HOW THE WORDS LIE afterwards, for a cart that was local nowhere
-module _ (S S′ C C′ M W T : List ℕ) (X : Laid (lent S C M W T)) (t c : ℕ) (lt : t < 16) (lc : c < 64) (row : List ℕ) (p : ℕ)
+module _ {P : Product} (S S′ C C′ M W T : List ℕ) (X : Laid (lent P S C M W T)) (t c : ℕ) (lt : t < P .stations) (lc : c < 64) (row : List ℕ) (p : ℕ)
     (nowhere : (u : ℕ) → localTo (cartsIn C .place c) u ≡ false) (there : Arrived S S′ C C′ M t c row p) where
-  locals : (u : ℕ) → u < 16 → stationsIn S′ .local u ≡ setOf 64 (λ d. localTo (cartsIn C′ .place d) u)
+  locals : (u : ℕ) → u < P .stations → stationsIn S′ .local u ≡ setOf 64 (λ d. localTo (cartsIn C′ .place d) u)
   locals u l =
       ap (λ (Z : Stations). Z .local u) (there .docked .stations ∙ ap (λ (Z : Stations). joined Z t c (there .docked .nearest)) (there .docked .is-struck))
       ∙ on-update (λ (x : ℕ). x ≡ setOf 64 (λ d. localTo (update (cartsIn C .place) c (at t) d) u)) (stationsIn S .local) t (with (stationsIn S .local t) c) u
@@ -221,11 +258,42 @@ module _ (S S′ C C′ M W T : List ℕ) (X : Laid (lent S C M W T)) (t c : ℕ
       (λ q. X .local u l ∙ local-stays (cartsIn C .place) c u (at t) (ne-eqb t u (λ y. q (sym y)) ∙ sym (nowhere u)))
       ∙ ap (λ (Z : Carts). setOf 64 (λ d. localTo (Z .place d) u)) (sym (there .carts))
 
-  pub laid-there : Laid (lent S′ C′ M W T)
+  -- no copy and no entry beyond the rooms
+  few′ : (u m : ℕ) → u < P .stations → m < 32 → P .held ≤ m → (stationsIn S′ .copy m u ≡ 0) × (stationsIn S′ .queue m u ≡ 0)
+  few′ u m lu lm l =
+      let was = X .few u m lu lm l in (
+        ap (λ (Z : Stations). Z .copy m u) (there .docked .stations ∙ ap (λ (Z : Stations). joined Z t c N) (there .docked .is-struck)) ∙ copy-none m u (was .0),
+        ap (λ (Z : Stations). Z .queue m u) (there .docked .stations ∙ ap (λ (Z : Stations). joined Z t c N) (there .docked .is-struck))
+            ∙ by-test (eqb u t) (λ e. rw (e, not-said m lm l) (was .1)) (λ e. rw e (was .1)),
+      )
+    where
+      N : List ℕ
+      N = there .docked .nearest
+
+      K : List ℕ
+      K = there .docked .struck
+
+      nothing-left : without 0 c ≡ 0
+      nothing-left = let z = without-lt 0 0 c (omega arith) in omega arith
+
+      copy-none : (m u : ℕ) → stationsIn S .copy m u ≡ 0 → struckFrom (stationsIn S) (roomsIn M) t c row .copy m u ≡ 0
+      copy-none m u z = rw z (none-either-way (eqb u t && isPassed (stationsIn S) (roomsIn M) t row m) (without 0 c) nothing-left)
+
+      not-said : (m : ℕ) → m < 32 → P .held ≤ m → occurs N 16 m ≡ false
+      not-said m lm l =
+          by-test (occurs N 16 m)
+          (λ e. let own = own-rooms (tablesFloor K M) t c row N (there .docked .is-nearest) 32 (roomsIn M) (stationsIn K) (namingIn (stationsIn K) t c) refl refl (naming-covers K t c 32 (naming-inside K t c) _ refl) in
+          let y : has (stationsIn K .copy m t) c ≡ true = sym (has-setOf 32 (λ r. has (stationsIn K .copy r t) c) m lm) ∙ own .among m e in
+          let z : stationsIn K .copy m t ≡ 0 = ap (λ (Z : Stations). Z .copy m t) (there .docked .is-struck) ∙ copy-none m t (X .few t m lt lm l .0) in
+          clash (has 0 c) (rw z at y) (has-zero c))
+          (λ e. e)
+
+  pub laid-there : Laid (lent P S′ C′ M W T)
   laid-there =
       laid-carts S C M W T X S′ C′
       (λ d ld. ap (λ (f : ℕ → Bool). f d) (there .canonical) ∙ on-update (λ (b : Bool). b ≡ true) (canonicalIn C) c true d (λ q. refl) (λ q. X .canonical d ld))
       locals
+      few′
 
   -- the other carts keep their next numbers
   pub others-next : (d s : ℕ) → (d ≡ c → ⊥) → cartsIn C′ .next d s ≡ cartsIn C .next d s

@@ -1,15 +1,17 @@
 -- AN ENTER OVER THE LENT PARTS IS THE WRITTEN ENTER: the floor that they then say is the floor of the written step.
+use mathlib.Core.Bool.{true}
 use mathlib.Core.Path.{_≡_, refl, sym, ap, _∙_}
 use mathlib.Core.List.{List, []}
 use Prim.Native.Nat.{ℕ, _<_, _≤_}
 use native.Mathlib.Omega.{arith}
 use lib.ListN.{getD}
-use Rattle.protocol.specs.Floor.{Floor, limits, Place, outside, localTo}
+use Rattle.protocol.specs.Floor.{Floor, Place, outside, localTo, limitsOf, Product}
 use Rattle.protocol.specs.Handoff.{onEnter, rowOf}
 use Rattle.protocol.proofs.Tests.{by-lt, listOf-at, listOf-past}
 use Rattle.protocol.proofs.FloorLaws.{outside-is}
 use Rattle.protocol.proofs.Accepted.{MayEnter}
-use Rattle.stations.specs.View.{HasStation, headIn, stationsIn}
+use Rattle.protocol.specs.CartSets.{has}
+use Rattle.stations.specs.View.{HasStation, headIn, stationsIn, namingIn}
 use Rattle.carts.specs.Words.{HasRow}
 use Rattle.carts.specs.View.{cartsIn}
 use Rattle.messages.specs.View.{roomsIn}
@@ -18,32 +20,35 @@ use Rattle.view.specs.View.{Lent, lent, lengthsIn, wordsIn, textsIn, floorOf, f
 use Rattle.view.proofs.Lengths.{Lengths, lengths-right}
 use Rattle.view.proofs.Laid.{Laid, words-right}
 use Rattle.view.proofs.Registers.{none-unless-travelling, lines-kept}
-use Rattle.view.proofs.Standing.{Standing}
-use Rattle.queue.specs.Rooms.{HasRooms}
+use Rattle.view.proofs.Standing.{Standing, few-stations, few-carts}
+use Rattle.queue.specs.Rooms.{roomCount, HasRooms}
 use Rattle.handoff.specs.Arrived.{allZero, Arrived}
-use Rattle.handoff.proofs.ArriveIs.{expected-fits, parts-ready, expects-none, arrived-is, passed-is, laid-there, others-next}
+use Rattle.handoff.proofs.ArriveIs.{expected-fits, parts-ready, none-beyond, rooms-there, expects-none, arrived-is, passed-is, laid-there, others-next}
 
 -- WHAT THE ENTER REQUIRES of the parts
 module _ (L : Lent) (X : Standing L) (t c : ℕ) (may : MayEnter (floorIn L) t c) where
   pub is-station : t < 16
-  is-station = let a = may .station in let b = X .sized .counts .stations in omega arith
+  is-station = let a = may .station in let b = few-stations L X in omega arith
 
   pub is-cart : c < 64
-  is-cart = let a = may .cart in let b = X .sized .counts .carts in omega arith
+  is-cart = let a = may .cart in let b = few-carts L X in omega arith
 
   pub enter-ready : HasStation (L .stations) t × HasRow (L .carts) c × HasRooms (L .messages) × (t < 16) × (c < 64)
-  enter-ready = parts-ready L (X .lengths) t c is-station is-cart
+  enter-ready = parts-ready L X t c (may .station) (may .cart)
 
-  pub enter-fits : (s : ℕ) → s < 16 → stationsIn (L .stations) .expected t s ≤ 65535
+  pub enter-rooms : (m : ℕ) → has (namingIn (stationsIn (L .stations)) t c) m ≡ true → m < roomCount (L .messages)
+  enter-rooms = rooms-there L X t c (may .station)
+
+  pub enter-fits : (s : ℕ) → s < 16 → stationsIn (L .stations) .expected t s ≤ 4294967295
   enter-fits = expected-fits L X t (may .station)
 
-module _ (S S′ C C′ M W T : List ℕ) (t c p : ℕ) (X : Standing (lent S C M W T)) (may : MayEnter (floorIn (lent S C M W T)) t c)
+module _ {P : Product} (S S′ C C′ M W T : List ℕ) (t c p : ℕ) (X : Standing (lent P S C M W T)) (may : MayEnter (floorIn (lent P S C M W T)) t c)
     (there : Arrived S S′ C C′ M t c allZero p) where
   abbrev L : Lent
-  L = lent S C M W T
+  L = lent P S C M W T
 
   abbrev L′ : Lent
-  L′ = lent S′ C′ M W T
+  L′ = lent P S′ C′ M W T
 
   abbrev F : Floor
   F = floorIn L
@@ -57,6 +62,9 @@ module _ (S S′ C C′ M W T : List ℕ) (t c p : ℕ) (X : Standing (lent S C 
   out : F .place c ≡ outside
   out = outside-is (F .place c) (may .is-outside)
 
+  lt′ : t < P .stations
+  lt′ = let a = may .station in let b = X .sized .counts .stations in omega arith
+
   lengths : Lengths L′
   lengths =
       record {
@@ -68,36 +76,36 @@ module _ (S S′ C C′ M W T : List ℕ) (t c p : ℕ) (X : Standing (lent S C 
       }
 
   pub laid : Laid L′
-  laid = laid-there S S′ C C′ M W T (X .laid) t c lt lc allZero p (λ u. ap (λ (q : Place). localTo q u) out) there
+  laid = laid-there S S′ C C′ M W T (X .laid) t c lt′ lc allZero p (λ u. ap (λ (q : Place). localTo q u) out) there
 
   -- no line has a register of a cart that is outside
   lines : linesIn (cartsIn C′ .next) W ≡ linesIn (cartsIn C .next) W
   lines =
       lines-kept (cartsIn C .next) (cartsIn C′ .next) c
-      (others-next S S′ C C′ M W T (X .laid) t c lt lc allZero p (λ u. ap (λ (q : Place). localTo q u) out) there) W
-      (λ i j. rw (X .facts .handoffs-right c i j) (none-unless-travelling (F .place c) i j (rowOf limits (F .next c)) (λ s u e. (let z : _≡_ {A = ℕ} 0 1 = cc out in omega arith))))
+      (others-next S S′ C C′ M W T (X .laid) t c lt′ lc allZero p (λ u. ap (λ (q : Place). localTo q u) out) there) W
+      (λ i j. rw (X .facts .handoffs-right c i j) (none-unless-travelling (F .place c) i j (rowOf (limitsOf (L .product)) (F .next c)) (λ s u e. (let z : _≡_ {A = ℕ} 0 1 = cc out in omega arith))))
 
   zeros : (s : ℕ) → getD allZero s 0 ≡ 0
   zeros s = let none : ℕ → ℕ = λ _. 0 in by-lt s 16 (λ l. listOf-at 16 none 0 s l) (λ l. listOf-past 16 none 0 s l)
 
   -- "Enter (station, cart): as a register with all next numbers 0, handled at once"
-  pub enter-is : floorIn L′ ≡ onEnter limits F t c .floor
+  pub enter-is : floorIn L′ ≡ onEnter (limitsOf (L .product)) F t c .floor
   unfolding onEnter
   enter-is =
       (λ i. floorOf ((lengths-right L′ lengths ∙ sym (lengths-right L (X .lengths))) i) ((words-right L′ laid ∙ sym (words-right L (X .laid))) i)
       (headIn S′) (stationsIn S′) (cartsIn C′) (roomsIn M) (textsIn T (roomsIn M)) (lines i))
-      ∙ arrived-is S S′ C C′ M T (lengthsIn L) (wordsIn L) (linesIn (cartsIn C .next) W) t c allZero (λ s. 0) p
-      zeros (λ s l. refl) (X .sized .counts .stations) (expects-none L X t (may .station)) there
+      ∙ arrived-is (limitsOf P) S S′ C C′ M T (lengthsIn L) (wordsIn L) (linesIn (cartsIn C .next) W) t c allZero (λ s. 0) p
+      zeros (λ s l. refl) (P .held-fit, none-beyond L X t (may .station)) (few-stations L X) (expects-none L X t (may .station)) there
 
-  pub enter-reports : onEnter limits F t c .report ≡ record { kind = 1; a = t; b = c; p = p; w = 0; text = [] }
+  pub enter-reports : onEnter (limitsOf (L .product)) F t c .report ≡ record { kind = 1; a = t; b = c; p = p; w = 0; text = [] }
   unfolding onEnter
   enter-reports =
       λ i. record {
         kind = 1;
         a = t;
         b = c;
-        p = sym (passed-is S S′ C C′ M T (lengthsIn L) (wordsIn L) (linesIn (cartsIn C .next) W) t c allZero (λ s. 0) p
-            zeros (λ s l. refl) (X .sized .counts .stations) (expects-none L X t (may .station)) there) i;
+        p = sym (passed-is (limitsOf P) S S′ C C′ M T (lengthsIn L) (wordsIn L) (linesIn (cartsIn C .next) W) t c allZero (λ s. 0) p
+            zeros (λ s l. refl) (P .held-fit, none-beyond L X t (may .station)) (few-stations L X) (expects-none L X t (may .station)) there) i;
         w = 0;
         text = [];
       }

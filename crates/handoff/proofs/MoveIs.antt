@@ -6,7 +6,7 @@ use Prim.Native.Nat.{ℕ, _<_}
 use native.Mathlib.Omega.{arith}
 use borrow.Author.Tests.{lt-leb}
 use Rattle.protocol.specs.CartSets.{setOf}
-use Rattle.protocol.specs.Floor.{Limits, limits, Floor, Place, Carts, at, leaving, Record, deregister, put, between, localTo, stationOf}
+use Rattle.protocol.specs.Floor.{Limits, Floor, Place, Carts, at, leaving, Record, deregister, put, between, localTo, stationOf, limitsOf, Product}
 use Rattle.protocol.specs.Events.{move}
 use Rattle.protocol.specs.Handoff.{onMove}
 use Rattle.protocol.specs.Form.{passesForm}
@@ -28,7 +28,7 @@ use Rattle.view.proofs.LinesView.{push-view}
 use Rattle.view.proofs.Lengths.{Lengths, lengths-right}
 use Rattle.view.proofs.Laid.{Laid, words-right, local-stays, laid-carts, laid-push}
 use Rattle.view.proofs.RecordWords.{deregister-is, deregister-right}
-use Rattle.view.proofs.Standing.{Standing, room-after, one-line-counts}
+use Rattle.view.proofs.Standing.{Standing, room-after, one-line-counts, few-stations, few-carts}
 use Rattle.handoff.specs.Moved.{Moved}
 
 module _ (M : Limits) (F : Floor) (c to : ℕ) (passes : passesForm M F ≡ true) (may : MayMove F c to) where
@@ -59,28 +59,29 @@ module _ (L : Lent) (X : Standing L) (c to : ℕ) (may : MayMove (floorIn L) c t
     move-ready =
         let a = X .lengths .carts in
         let b = may .cart in
-        let d = X .sized .counts .carts in
+        let d = few-carts L X in
+        let e = X .sized .counts .carts in
         (omega arith, omega arith, here)
 
     -- there is room for the deregister
     pub deregister-fits : (form (L .lines) ≡ true) × (used (L .lines) < capacity (L .lines)) × (old < 16) × (to < 16)
     unfolding onMove
     deregister-fits =
-        let after = move-step limits F c to (X .passes) may in
+        let after = move-step (limitsOf (L .product)) F c to (X .passes) may in
         let room = room-after L X (move c to) (between to old) (deregister c) (ap (λ (G : Floor). G .stations) after) (ap (λ (G : Floor). G .lines) after ∙ rw here refl) in
         let one = one-line-counts (F .stations) to old (may .station) old-on-floor in
         let a = old-on-floor in
         let b = may .station in
-        let d = X .sized .counts .stations in
+        let d = few-stations L X in
         (X .laid .chains, omega arith, omega arith, omega arith)
 
-module _ (S C C′ M W W′ T : List ℕ) (c old to : ℕ) (X : Standing (lent S C M W T))
+module _ {P : Product} (S C C′ M W W′ T : List ℕ) (c old to : ℕ) (X : Standing (lent P S C M W T))
     (lc : c < 64) (lo : old < 16) (lt : to < 16) (here : cartsIn C .place c ≡ at old) (moved : Moved C C′ W W′ c old to) where
   abbrev L : Lent
-  L = lent S C M W T
+  L = lent P S C M W T
 
   abbrev L′ : Lent
-  L′ = lent S C′ M W′ T
+  L′ = lent P S C′ M W′ T
 
   lengths : Lengths L′
   lengths =
@@ -101,7 +102,8 @@ module _ (S C C′ M W W′ T : List ℕ) (c old to : ℕ) (X : Standing (lent S
       laid-push S C′ M W T
       (laid-carts S C M W T (X .laid) S C′
       (λ d ld. ap (λ (f : ℕ → Bool). f d) (moved .canonical) ∙ on-update (λ (b : Bool). b ≡ true) (canonicalIn C) c true d (λ q. refl) (λ q. X .laid .canonical d ld))
-      (λ t l. X .laid .local t l ∙ local-stays (cartsIn C .place) c t (leaving old to) (still-local t) ∙ ap (λ (K : Carts). setOf 64 (λ d. localTo (K .place d) t)) (sym (moved .carts))))
+      (λ t l. X .laid .local t l ∙ local-stays (cartsIn C .place) c t (leaving old to) (still-local t) ∙ ap (λ (K : Carts). setOf 64 (λ d. localTo (K .place d) t)) (sym (moved .carts)))
+      (X .laid .few))
       W′ to old (wordsOf 4 c 0 0) lt lo (moved .lines) (deregister-right (roomsIn M) to old c (omega arith))
 
   lines : linesIn (cartsIn C′ .next) W′ ≡ put (between to old) (deregister c) (linesIn (cartsIn C .next) W)

@@ -90,12 +90,9 @@ module _ (S : Stations) (R : Rooms) (t c m x : ℕ) where
   is-kept b e n = same-copy S m t ∙ ap (withCopy S m t) (rw (sym e ∙ n) refl)
 
 -- where the cart is struck, the room names it no more
-pub struck-covers : (S : Stations) (t c m set r w : ℕ) {U : Stations} → Covers S t c set → r ≡ without (S .copy m t) c → U ≡ withCopy S m t r → w ≡ without set m → Covers U t c w
-struck-covers S t c m set r w C er f ew = rw (f, ew) (record { inside = inside; others = others })
+pub struck-covers : {b : ℕ} (S : Stations) (t c m set r w : ℕ) {U : Stations} → Covers b S t c set → r ≡ without (S .copy m t) c → U ≡ withCopy S m t r → w ≡ without set m → Covers b U t c w
+struck-covers S t c m set r w C er f ew = rw (f, ew) (record { inside = λ k h. C .inside k (and-left (has set k) (not (eqb m k)) (sym (has-without set m k) ∙ h)); others = others })
   where
-    inside : (k : ℕ) → has (without set m) k ≡ true → k < rooms
-    inside k h = C .inside k (and-left (has set k) (not (eqb m k)) (sym (has-without set m k) ∙ h))
-
     others : (k : ℕ) → has (without set m) k ≡ false → has (update2 (S .copy) m t r k t) c ≡ false
     others k h =
         on-update2 (λ (y : ℕ). has y c ≡ false) (S .copy) m t r k t

@@ -1,13 +1,13 @@
 -- A REGISTER OVER THE LENT PARTS IS THE WRITTEN REGISTER: the floor that they then say is the floor of the written step.
 use mathlib.Core.Path.{_≡_, sym, ap, ap₂, _∙_}
-use mathlib.Core.Bool.{false, _&&_}
+use mathlib.Core.Bool.{true, false, _&&_}
 use mathlib.Core.List.{List, [], _∷_}
 use Prim.Native.Nat.{ℕ, _+_, _*_, _<_, _≤_}
 use native.Mathlib.Omega.{arith}
 use lib.Dec.{eqb}
 use lib.ListN.{getD}
 use Rattle.protocol.specs.Folds.{listOf}
-use Rattle.protocol.specs.Floor.{Floor, limits, Place, travelling, Record, register, tail, behead, localTo}
+use Rattle.protocol.specs.Floor.{Floor, Place, travelling, Record, register, tail, behead, localTo, limitsOf, Product}
 use Rattle.protocol.specs.Events.{Done}
 use Rattle.protocol.specs.Handoff.{entryOf, rowOf, onRegister}
 use Rattle.protocol.specs.Wired.{handle, onWire}
@@ -15,7 +15,8 @@ use Rattle.protocol.specs.Form.{registering, handoffs, handoffOf}
 use Rattle.protocol.proofs.Tests.{by-test, both-equal, eqb-self, listOf-past}
 use Rattle.protocol.proofs.Accepted.{MayWire, unlined}
 use Rattle.protocol.proofs.HandoffSteps.{registering-is}
-use Rattle.stations.specs.View.{HasStation, headIn, stationsIn}
+use Rattle.protocol.specs.CartSets.{has}
+use Rattle.stations.specs.View.{HasStation, headIn, stationsIn, namingIn}
 use Rattle.carts.specs.Words.{HasRow}
 use Rattle.carts.specs.View.{cartsIn}
 use Rattle.messages.specs.View.{roomsIn}
@@ -26,10 +27,10 @@ use Rattle.view.proofs.LinesView.{pop-view}
 use Rattle.view.proofs.Lengths.{Lengths, lengths-right}
 use Rattle.view.proofs.Laid.{Laid, words-right, laid-pop}
 use Rattle.view.proofs.Registers.{lines-kept}
-use Rattle.view.proofs.Standing.{Standing}
-use Rattle.queue.specs.Rooms.{HasRooms}
+use Rattle.view.proofs.Standing.{Standing, few-stations, few-carts}
+use Rattle.queue.specs.Rooms.{roomCount, HasRooms}
 use Rattle.handoff.specs.Arrived.{Arrived}
-use Rattle.handoff.proofs.ArriveIs.{expected-fits, parts-ready, expects-none, arrived-is, passed-is, laid-there, others-next}
+use Rattle.handoff.proofs.ArriveIs.{expected-fits, parts-ready, none-beyond, rooms-there, expects-none, arrived-is, passed-is, laid-there, others-next}
 
 -- WHAT IS KNOWN where the register of cart c is the head of the line from i to t
 module _ (L : Lent) (X : Standing L) (c i t : ℕ) (row : List ℕ) (rest : List Record) (may : MayWire (floorIn L) i t (register c row) rest) where
@@ -37,10 +38,10 @@ module _ (L : Lent) (X : Standing L) (c i t : ℕ) (row : List ℕ) (rest : List
   F = floorIn L
 
   -- the cart travels from i to t, its row is that of its next numbers, and the line has no other hand-off of it
-  said : (F .place c ≡ travelling i t) × ((row ≡ rowOf limits (F .next c)) × (handoffs c rest ≡ []))
+  said : (F .place c ≡ travelling i t) × ((row ≡ rowOf (limitsOf (L .product)) (F .next c)) × (handoffs c rest ≡ []))
   said =
-      let z : registering row ∷ handoffs c rest ≡ handoffOf (F .place c) i t (rowOf limits (F .next c)) = rw (may .line, eqb-self c) at (X .facts .handoffs-right c i t) in
-      registering-is (F .place c) i t (rowOf limits (F .next c)) row (handoffs c rest) z
+      let z : registering row ∷ handoffs c rest ≡ handoffOf (F .place c) i t (rowOf (limitsOf (L .product)) (F .next c)) = rw (may .line, eqb-self c) at (X .facts .handoffs-right c i t) in
+      registering-is (F .place c) i t (rowOf (limitsOf (L .product)) (F .next c)) row (handoffs c rest) z
 
   pub is-travelling : F .place c ≡ travelling i t
   is-travelling = said .0
@@ -49,19 +50,22 @@ module _ (L : Lent) (X : Standing L) (c i t : ℕ) (row : List ℕ) (rest : List
   its-row = said .1 .0
 
   pub is-cart : c < 64
-  is-cart = let a = X .facts .real c (rw is-travelling) in let b = X .sized .counts .carts in omega arith
+  is-cart = let a = X .facts .real c (rw is-travelling) in let b = few-carts L X in omega arith
 
   pub is-from : i < 16
-  is-from = let a = may .from in let b = X .sized .counts .stations in omega arith
+  is-from = let a = may .from in let b = few-stations L X in omega arith
 
   pub is-station : t < 16
-  is-station = let a = may .to in let b = X .sized .counts .stations in omega arith
+  is-station = let a = may .to in let b = few-stations L X in omega arith
 
   -- WHAT THE REGISTER REQUIRES of the parts
   pub register-ready : HasStation (L .stations) t × HasRow (L .carts) c × HasRooms (L .messages) × (t < 16) × (c < 64)
-  register-ready = parts-ready L (X .lengths) t c is-station is-cart
+  register-ready = parts-ready L X t c (may .to) (X .facts .real c (rw is-travelling))
 
-  pub register-fits : (s : ℕ) → s < 16 → stationsIn (L .stations) .expected t s ≤ 65535
+  pub register-rooms : (m : ℕ) → has (namingIn (stationsIn (L .stations)) t c) m ≡ true → m < roomCount (L .messages)
+  register-rooms = rooms-there L X t c (may .to)
+
+  pub register-fits : (s : ℕ) → s < 16 → stationsIn (L .stations) .expected t s ≤ 4294967295
   register-fits = expected-fits L X t (may .to)
 
   -- without it, no line has a hand-off of the cart
@@ -72,14 +76,14 @@ module _ (L : Lent) (X : Standing L) (c i t : ℕ) (row : List ℕ) (rest : List
       ap (λ (l : List Record). handoffs c (tail l)) (ap₂ (λ (x y : ℕ). F .lines x y) (sym (z .0)) (sym (z .1)) ∙ may .line) ∙ said .1 .1))
       (λ q. rw q (X .facts .handoffs-right c a b ∙ rw (is-travelling, q)))
 
-module _ (S S′ C C′ M W W₁ T : List ℕ) (c i t p : ℕ) (row : List ℕ) (rest : List Record) (X : Standing (lent S C M W T))
-    (may : MayWire (floorIn (lent S C M W T)) i t (register c row) rest) (pop : Popped W W₁ (i * 16 + t))
+module _ {P : Product} (S S′ C C′ M W W₁ T : List ℕ) (c i t p : ℕ) (row : List ℕ) (rest : List Record) (X : Standing (lent P S C M W T))
+    (may : MayWire (floorIn (lent P S C M W T)) i t (register c row) rest) (pop : Popped W W₁ (i * 16 + t))
     (there : Arrived S S′ C C′ M t c (listOf 16 (cartsIn C .next c)) p) where
   abbrev L : Lent
-  L = lent S C M W T
+  L = lent P S C M W T
 
   abbrev L′ : Lent
-  L′ = lent S′ C′ M W₁ T
+  L′ = lent P S′ C′ M W₁ T
 
   lc : c < 64
   lc = is-cart L X c i t row rest may
@@ -89,6 +93,9 @@ module _ (S S′ C C′ M W W₁ T : List ℕ) (c i t p : ℕ) (row : List ℕ) 
 
   lt : t < 16
   lt = is-station L X c i t row rest may
+
+  lt′ : t < P .stations
+  lt′ = let a = may .to in let b = X .sized .counts .stations in omega arith
 
   lengths : Lengths L′
   lengths =
@@ -100,7 +107,7 @@ module _ (S S′ C C′ M W W₁ T : List ℕ) (c i t p : ℕ) (row : List ℕ) 
         texts = X .lengths .texts;
       }
 
-  popped : Laid (lent S C M W₁ T)
+  popped : Laid (lent P S C M W₁ T)
   popped = laid-pop S C M W T (X .laid) W₁ i t li lt pop
 
   -- a travelling cart is local nowhere
@@ -108,11 +115,11 @@ module _ (S S′ C C′ M W W₁ T : List ℕ) (c i t p : ℕ) (row : List ℕ) 
   nowhere u = ap (λ (q : Place). localTo q u) (is-travelling L X c i t row rest may)
 
   pub laid : Laid L′
-  laid = laid-there S S′ C C′ M W₁ T popped t c lt lc (listOf 16 (cartsIn C .next c)) p nowhere there
+  laid = laid-there S S′ C C′ M W₁ T popped t c lt′ lc (listOf 16 (cartsIn C .next c)) p nowhere there
 
   lines : linesIn (cartsIn C′ .next) W₁ ≡ behead i t (linesIn (cartsIn C .next) W)
   lines =
-      lines-kept (cartsIn C .next) (cartsIn C′ .next) c (others-next S S′ C C′ M W₁ T popped t c lt lc (listOf 16 (cartsIn C .next c)) p nowhere there) W₁
+      lines-kept (cartsIn C .next) (cartsIn C′ .next) c (others-next S S′ C C′ M W₁ T popped t c lt′ lc (listOf 16 (cartsIn C .next c)) p nowhere there) W₁
       (λ a b. rw (ap (λ (l : ℕ → ℕ → List Record). handoffs c (l a b)) (pop-view (cartsIn C .next) W W₁ i t li lt pop) ∙ none-left L X c i t row rest may a b) tt)
       ∙ pop-view (cartsIn C .next) W W₁ i t li lt pop
 
@@ -124,34 +131,34 @@ module _ (S S′ C C′ M W W₁ T : List ℕ) (c i t p : ℕ) (row : List ℕ) 
   no-more s l = sym (is-row s) ∙ listOf-past 16 (cartsIn C .next c) 0 s l
 
   -- the head of the line is handled
-  handled : onWire limits (floorIn L) i t ≡ onRegister limits (unlined (floorIn L) i t) t c row
+  handled : onWire (limitsOf (L .product)) (floorIn L) i t ≡ onRegister (limitsOf (L .product)) (unlined (floorIn L) i t) t c row
   unfolding onWire handle
   handled = rw (may .line)
 
-  arrived : floorIn L′ ≡ onRegister limits (unlined (floorIn L) i t) t c row .floor
+  arrived : floorIn L′ ≡ onRegister (limitsOf (L .product)) (unlined (floorIn L) i t) t c row .floor
   unfolding onRegister
   arrived =
       (λ k. floorOf ((lengths-right L′ lengths ∙ sym (lengths-right L (X .lengths))) k) ((words-right L′ laid ∙ sym (words-right L (X .laid))) k)
       (headIn S′) (stationsIn S′) (cartsIn C′) (roomsIn M) (textsIn T (roomsIn M)) (lines k))
-      ∙ arrived-is S S′ C C′ M T (lengthsIn L) (wordsIn L) (behead i t (linesIn (cartsIn C .next) W)) t c (listOf 16 (cartsIn C .next c)) (entryOf row) p
-      is-row no-more (X .sized .counts .stations) (expects-none L X t (may .to)) there
+      ∙ arrived-is (limitsOf P) S S′ C C′ M T (lengthsIn L) (wordsIn L) (behead i t (linesIn (cartsIn C .next) W)) t c (listOf 16 (cartsIn C .next c)) (entryOf row) p
+      is-row no-more (P .held-fit, none-beyond L X t (may .to)) (few-stations L X) (expects-none L X t (may .to)) there
 
   -- "Register": the cart is struck, catches up, and is at this station
-  pub register-is : floorIn L′ ≡ onWire limits (floorIn L) i t .floor
+  pub register-is : floorIn L′ ≡ onWire (limitsOf (L .product)) (floorIn L) i t .floor
   register-is = arrived ∙ ap (λ (d : Done). d .floor) (sym handled)
 
-  reported : onRegister limits (unlined (floorIn L) i t) t c row .report ≡ record { kind = 3; a = 5; b = c; p = p; w = 0; text = [] }
+  reported : onRegister (limitsOf (L .product)) (unlined (floorIn L) i t) t c row .report ≡ record { kind = 3; a = 5; b = c; p = p; w = 0; text = [] }
   unfolding onRegister
   reported =
       λ k. record {
         kind = 3;
         a = 5;
         b = c;
-        p = sym (passed-is S S′ C C′ M T (lengthsIn L) (wordsIn L) (behead i t (linesIn (cartsIn C .next) W)) t c (listOf 16 (cartsIn C .next c)) (entryOf row) p
-            is-row no-more (X .sized .counts .stations) (expects-none L X t (may .to)) there) k;
+        p = sym (passed-is (limitsOf P) S S′ C C′ M T (lengthsIn L) (wordsIn L) (behead i t (linesIn (cartsIn C .next) W)) t c (listOf 16 (cartsIn C .next c)) (entryOf row) p
+            is-row no-more (P .held-fit, none-beyond L X t (may .to)) (few-stations L X) (expects-none L X t (may .to)) there) k;
         w = 0;
         text = [];
       }
 
-  pub register-reports : onWire limits (floorIn L) i t .report ≡ record { kind = 3; a = 5; b = c; p = p; w = 0; text = [] }
+  pub register-reports : onWire (limitsOf (L .product)) (floorIn L) i t .report ≡ record { kind = 3; a = 5; b = c; p = p; w = 0; text = [] }
   register-reports = ap (λ (d : Done). d .report) handled ∙ reported

@@ -12,7 +12,7 @@ use Rattle.handoff.specs.Arrived.{joined, Arrived}
 
 -- the strike leaves the expected numbers
 pub few-still : (S : Stations) (R : Rooms) (t c : ℕ) (row : List ℕ) {T : Stations} → T ≡ struckFrom S R t c row
-    → ((s : ℕ) → s < 16 → S .expected t s ≤ 65535) → (s : ℕ) → s < 16 → T .expected t s ≤ 65535
+    → ((s : ℕ) → s < 16 → S .expected t s ≤ 4294967295) → (s : ℕ) → s < 16 → T .expected t s ≤ 4294967295
 few-still S R t c row {T} e few s h = let z : T .expected t s ≡ S .expected t s = ap (λ (X : Stations). X .expected t s) e in omega (arith, few s h)
 
 -- the cart joins the queues and the local list

@@ -48,23 +48,23 @@ module _ (g : ℕ → ℕ → ℕ) (t : ℕ) (f : ℕ → ℕ → ℕ) where
       is-station u q = eqb-true u t q
 
   -- a walk over a set of rooms, where f changes nothing in a room that is not in it: the rooms up to the next one are as good as changed
-  pub changed-skips : (set left k m : ℕ) → Ahead 32 set left k → 0 < left → least 64 left ≡ some m
+  pub changed-skips : {b : ℕ} (set left k m : ℕ) → Ahead b set left k → 0 < left → least 64 left ≡ some m
       → ((r : ℕ) → has set r ≡ false → f r (g r t) ≡ g r t) → changedTo k ≡ changedTo m
   changed-skips set left k m A pos e same =
-      sym (nothing-between changedTo k m (ahead-next 32 set left k m A pos e)
-      (λ r l h. ap changedTo (sym (add-one r)) ∙ sym (kept r (same r (ahead-skips 32 set left k m A pos e r l h)))))
+      sym (nothing-between changedTo k m (ahead-next _ set left k m A pos e)
+      (λ r l h. ap changedTo (sym (add-one r)) ∙ sym (kept r (same r (ahead-skips _ set left k m A pos e r l h)))))
     where
       kept : (r : ℕ) → f r (g r t) ≡ g r t → changedTo r ≡ changedTo (r + 1)
       kept r e = same-entry (changedTo r) r t ∙ changed-one r (changedTo r r t) (not-yet r ∙ sym e ∙ ap (f r) (sym (not-yet r)))
 
   -- all rooms are, when nothing is left
-  pub changed-all : (set k : ℕ) → Ahead 32 set 0 k → ((r : ℕ) → has set r ≡ false → f r (g r t) ≡ g r t)
+  pub changed-all : {b : ℕ} (set k : ℕ) → Ahead b set 0 k → ((r : ℕ) → has set r ≡ false → f r (g r t) ≡ g r t)
       → changedTo k ≡ (λ m u. cond (eqb u t) (f m (g m u)) (g m u))
   changed-all set k A same =
       fun-ext (λ m. fun-ext (λ u. by-test (eqb u t)
       (λ q. rw q (by-lt m k
       (λ l. rw (lt-ltb m k l))
-      (λ l. rw (le-ltb m k l) (subst (λ (v : ℕ). g m v ≡ f m (g m v)) (sym (eqb-true u t q)) (sym (same m (ahead-end 32 set k A m l)))))))
+      (λ l. rw (le-ltb m k l) (subst (λ (v : ℕ). g m v ≡ f m (g m v)) (sym (eqb-true u t q)) (sym (same m (ahead-end _ set k A m l)))))))
       (λ q. rw q)))
 
 -- no cart leaves an empty set
@@ -90,11 +90,11 @@ module _ (S : Stations) (t c : ℕ) where
   no-entry m e = rw e (without-none c)
 
   module _ (set : ℕ) (empty : (m : ℕ) → has set m ≡ false → S .queue m t ≡ 0) (k : ℕ) {T : Stations} (e : T ≡ unqueuedTo k) where
-    pub unqueue-skips : (left m : ℕ) → Ahead 32 set left k → 0 < left → least 64 left ≡ some m → T ≡ unqueuedTo m
+    pub unqueue-skips : {b : ℕ} (left m : ℕ) → Ahead b set left k → 0 < left → least 64 left ≡ some m → T ≡ unqueuedTo m
     unqueue-skips left m A pos f =
         e ∙ ap (withQueues S) (changed-skips (S .queue) t (λ m x. without x c) set left k m A pos f (λ r z. no-entry r (empty r z)))
 
-    pub unqueue-all : Ahead 32 set 0 k → T ≡ unqueued S t c
+    pub unqueue-all : {b : ℕ} → Ahead b set 0 k → T ≡ unqueued S t c
     unqueue-all A = e ∙ ap (withQueues S) (changed-all (S .queue) t (λ m x. without x c) set k A (λ r z. no-entry r (empty r z)))
 
 -- "the cart is struck"
@@ -129,15 +129,15 @@ module _ (S : Stations) (R : Rooms) (t c : ℕ) (row : List ℕ) where
   absent m e = not-named S R t row m c (S .copy m t) (has (S .copy m t) c) refl refl e
 
   module _ (set : ℕ) (others : (m : ℕ) → has set m ≡ false → has (S .copy m t) c ≡ false) (k : ℕ) {T : Stations} (e : T ≡ struckTo k) where
-    pub strike-skips : (left m : ℕ) → Ahead 32 set left k → 0 < left → least 64 left ≡ some m → T ≡ struckTo m
+    pub strike-skips : {b : ℕ} (left m : ℕ) → Ahead b set left k → 0 < left → least 64 left ≡ some m → T ≡ struckTo m
     strike-skips left m A pos f =
         e ∙ ap (withCopies S) (changed-skips (S .copy) t (struckCopy S R t c row) set left k m A pos f (λ r z. absent r (others r z)))
 
-    pub strike-all : Ahead 32 set 0 k → T ≡ struckFrom S R t c row
+    pub strike-all : {b : ℕ} → Ahead b set 0 k → T ≡ struckFrom S R t c row
     strike-all A =
         e ∙ ap (withCopies S)
         (changed-all (S .copy) t (struckCopy S R t c row) set k A (λ r z. absent r (others r z)) ∙ fun-ext (λ m. fun-ext (λ u. by-both m u)))
 
   -- where no copy names the cart
-  pub struck-none : Covers S t c 0 → S ≡ struckFrom S R t c row
-  struck-none C = strike-all 0 (C .others) 0 strike-none (ahead-start 32 0 (omega arith) (C .inside))
+  pub struck-none : {b : ℕ} → Covers b S t c 0 → S ≡ struckFrom S R t c row
+  struck-none C = strike-all 0 (C .others) 0 strike-none (ahead-start _ 0 (omega arith) (C .inside))

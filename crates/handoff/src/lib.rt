@@ -5,16 +5,17 @@ ghost use mathlib.Core.Path.{_≡_};
 ghost use mathlib.Core.Bool.{true};
 ghost use Prim.Native.Nat.{ℕ, _<_, _≤_};
 ghost use lib.ListN.{length};
+ghost use Rattle.protocol.specs.CartSets.{has};
 ghost use Rattle.protocol.specs.Folds.{listOf};
 ghost use Rattle.protocol.specs.Floor.{at, leaving};
-ghost use Rattle.stations.specs.View.{initiators, rooms, HasStation, stationsIn, headIn};
+ghost use Rattle.stations.specs.View.{initiators, HasStation, stationsIn, headIn, namingIn};
 ghost use Rattle.carts.specs.View.{cartsIn};
 ghost use Rattle.carts.specs.Words.{HasRow};
 ghost use Rattle.messages.specs.View.{roomsIn};
 ghost use Rattle.lines.specs.Form.{form};
 ghost use Rattle.lines.specs.Lines.{used};
 ghost use Rattle.lines.specs.Words.{capacity};
-ghost use Rattle.queue.specs.Rooms.{HasRooms};
+ghost use Rattle.queue.specs.Rooms.{roomCount, HasRooms};
 ghost use Rattle.catchup.specs.Naming.{Covers};
 ghost use Rattle.catchup.specs.Arrival.{OwnRooms};
 ghost use Rattle.handoff.specs.Moved.{Moved};
@@ -109,7 +110,7 @@ fn is_passed(
     next: u64,
     m: usize,
 ) -> bool
-    requires { ⌜ HasStation (now stations) (station .0) × HasRooms (now messages) × (station .0 < 16) × (m < rooms) × (initiator .0 < initiators) ⌝ }
+    requires { ⌜ HasStation (now stations) (station .0) × HasRooms (now messages) × (station .0 < 16) × (m < roomCount (now messages)) × (initiator .0 < initiators) ⌝ }
     requires { ⌜ initiator .0 ≡ roomsIn (now messages) .initiator m ⌝ }
     ensures { λ r. ⌜ r ≡ isBelow (stationsIn (now (stations .entry))) (roomsIn (now (messages .entry))) (station .0) m next ⌝ }
 {
@@ -135,12 +136,12 @@ fn strike_from(
     m: usize,
     naming: u64,
 ) -> u64
-    requires { ⌜ HasStation (now stations) (station .0) × HasRooms (now messages) × (station .0 < 16) × (cart .0 < 64) × (m < rooms) × (initiator .0 < initiators) ⌝ }
-    requires { ⌜ (initiator .0 ≡ roomsIn (now messages) .initiator m) × Covers (stationsIn (now stations)) (station .0) (cart .0) naming ⌝ }
+    requires { ⌜ HasStation (now stations) (station .0) × HasRooms (now messages) × (station .0 < 16) × (cart .0 < 64) × (m < roomCount (now messages)) × (initiator .0 < initiators) ⌝ }
+    requires { ⌜ (initiator .0 ≡ roomsIn (now messages) .initiator m) × Covers (roomCount (now messages)) (stationsIn (now stations)) (station .0) (cart .0) naming ⌝ }
     ensures { λ _. ⌜ stationsIn (now (stations .exit)) ≡ struckIn (stationsIn (now (stations .entry))) (roomsIn (now (messages .entry))) (station .0) (cart .0) m next ⌝ }
     ensures { λ _. ⌜ headIn (now (stations .exit)) ≡ headIn (now (stations .entry)) ⌝ }
     ensures { λ _. ⌜ length (now (stations .exit)) ≡ length (now (stations .entry)) ⌝ }
-    ensures { λ r. ⌜ Covers (stationsIn (now (stations .exit))) (station .0) (cart .0) r ⌝ }
+    ensures { λ r. ⌜ Covers (roomCount (now (messages .entry))) (stationsIn (now (stations .exit))) (station .0) (cart .0) r ⌝ }
 {
     if !is_passed(stations, messages, station, initiator, next, m) {
         return naming;
@@ -161,12 +162,12 @@ fn strike(
     naming: u64,
     row: [u64; 16],
 ) -> u64
-    requires { ⌜ Covers (stationsIn (now stations)) (station .0) (cart .0) naming ⌝ }
+    requires { ⌜ Covers (roomCount (now messages)) (stationsIn (now stations)) (station .0) (cart .0) naming ⌝ }
     requires { ⌜ HasStation (now stations) (station .0) × HasRooms (now messages) × (station .0 < 16) × (cart .0 < 64) ⌝ }
     ensures { λ _. ⌜ stationsIn (now (stations .exit)) ≡ struckFrom (stationsIn (now (stations .entry))) (roomsIn (now (messages .entry))) (station .0) (cart .0) row ⌝ }
     ensures { λ _. ⌜ headIn (now (stations .exit)) ≡ headIn (now (stations .entry)) ⌝ }
     ensures { λ _. ⌜ length (now (stations .exit)) ≡ length (now (stations .entry)) ⌝ }
-    ensures { λ r. ⌜ Covers (stationsIn (now (stations .exit))) (station .0) (cart .0) r ⌝ }
+    ensures { λ r. ⌜ Covers (roomCount (now (messages .entry))) (stationsIn (now (stations .exit))) (station .0) (cart .0) r ⌝ }
 {
     let mut ahead = naming;
     let mut left = naming;
@@ -200,7 +201,7 @@ fn join(
     naming: u64,
     nearest: [usize; 16],
 )
-    requires { ⌜ OwnRooms (roomsIn (now messages)) naming nearest ⌝ }
+    requires { ⌜ OwnRooms (roomCount (now messages)) (roomsIn (now messages)) naming nearest ⌝ }
     requires { ⌜ HasStation (now stations) (station .0) × HasRooms (now messages) × (cart .0 < 64) ⌝ }
     ensures { λ _. ⌜ stationsIn (now (stations .exit)) ≡ joined (stationsIn (now (stations .entry))) (station .0) (cart .0) nearest ⌝ }
     ensures { λ _. ⌜ headIn (now (stations .exit)) ≡ headIn (now (stations .entry)) ⌝ }
@@ -220,8 +221,8 @@ fn dock_unnamed(
     row: [u64; 16],
 ) -> Caught
     requires { ⌜ HasStation (now stations) (station .0) × HasRooms (now messages) × (station .0 < 16) × (cart .0 < 64) ⌝ }
-    requires { ⌜ ((s : ℕ) → s < initiators → stationsIn (now stations) .expected (station .0) s ≤ 65535) ⌝ }
-    requires { ⌜ Covers (stationsIn (now stations)) (station .0) (cart .0) 0 ⌝ }
+    requires { ⌜ ((s : ℕ) → s < initiators → stationsIn (now stations) .expected (station .0) s ≤ 4294967295) ⌝ }
+    requires { ⌜ Covers (roomCount (now messages)) (stationsIn (now stations)) (station .0) (cart .0) 0 ⌝ }
     ensures { λ r. ⌜ Docked (now (stations .entry)) (now (stations .exit)) (now (messages .entry)) (station .0) (cart .0) row (r .row) (r .passed) ⌝ }
 {
     let upto = catchup::levels(stations, station, row);
@@ -242,7 +243,8 @@ fn dock(
     row: [u64; 16],
 ) -> Caught
     requires { ⌜ HasStation (now stations) (station .0) × HasRooms (now messages) × (station .0 < 16) × (cart .0 < 64) ⌝ }
-    requires { ⌜ ((s : ℕ) → s < initiators → stationsIn (now stations) .expected (station .0) s ≤ 65535) ⌝ }
+    requires { ⌜ ((s : ℕ) → s < initiators → stationsIn (now stations) .expected (station .0) s ≤ 4294967295) ⌝ }
+    requires { ⌜ ((m : ℕ) → has (namingIn (stationsIn (now stations)) (station .0) (cart .0)) m ≡ true → m < roomCount (now messages)) ⌝ }
     ensures { λ r. ⌜ Docked (now (stations .entry)) (now (stations .exit)) (now (messages .entry)) (station .0) (cart .0) row (r .row) (r .passed) ⌝ }
 {
     let naming = stations::rooms_naming(stations, station, cart);
@@ -271,7 +273,8 @@ fn on_arrive(
     row: [u64; 16],
 ) -> u64
     requires { ⌜ HasStation (now stations) (station .0) × HasRow (now carts) (number .0) × HasRooms (now messages) × (station .0 < 16) × (number .0 < 64) ⌝ }
-    requires { ⌜ ((s : ℕ) → s < initiators → stationsIn (now stations) .expected (station .0) s ≤ 65535) ⌝ }
+    requires { ⌜ ((s : ℕ) → s < initiators → stationsIn (now stations) .expected (station .0) s ≤ 4294967295) ⌝ }
+    requires { ⌜ ((m : ℕ) → has (namingIn (stationsIn (now stations)) (station .0) (number .0)) m ≡ true → m < roomCount (now messages)) ⌝ }
     ensures { λ r. ⌜ Arrived (now (stations .entry)) (now (stations .exit)) (now (carts .entry)) (now (carts .exit)) (now (messages .entry)) (station .0) (number .0) row r ⌝ }
 {
     let caught = dock(stations, messages, station, number, row);
@@ -290,7 +293,8 @@ pub fn on_register(
     number: CartNumber,
 ) -> u64
     requires { ⌜ HasStation (now stations) (station .0) × HasRow (now carts) (number .0) × HasRooms (now messages) × (station .0 < 16) × (number .0 < 64) ⌝ }
-    requires { ⌜ ((s : ℕ) → s < initiators → stationsIn (now stations) .expected (station .0) s ≤ 65535) ⌝ }
+    requires { ⌜ ((s : ℕ) → s < initiators → stationsIn (now stations) .expected (station .0) s ≤ 4294967295) ⌝ }
+    requires { ⌜ ((m : ℕ) → has (namingIn (stationsIn (now stations)) (station .0) (number .0)) m ≡ true → m < roomCount (now messages)) ⌝ }
     ensures { λ r. ⌜ Arrived (now (stations .entry)) (now (stations .exit)) (now (carts .entry)) (now (carts .exit)) (now (messages .entry)) (station .0) (number .0) (listOf 16 (cartsIn (now (carts .entry)) .next (number .0))) r ⌝ }
 {
     let row = carts::row_of(carts, number);
@@ -306,7 +310,8 @@ pub fn on_enter(
     number: CartNumber,
 ) -> u64
     requires { ⌜ HasStation (now stations) (station .0) × HasRow (now carts) (number .0) × HasRooms (now messages) × (station .0 < 16) × (number .0 < 64) ⌝ }
-    requires { ⌜ ((s : ℕ) → s < initiators → stationsIn (now stations) .expected (station .0) s ≤ 65535) ⌝ }
+    requires { ⌜ ((s : ℕ) → s < initiators → stationsIn (now stations) .expected (station .0) s ≤ 4294967295) ⌝ }
+    requires { ⌜ ((m : ℕ) → has (namingIn (stationsIn (now stations)) (station .0) (number .0)) m ≡ true → m < roomCount (now messages)) ⌝ }
     ensures { λ r. ⌜ Arrived (now (stations .entry)) (now (stations .exit)) (now (carts .entry)) (now (carts .exit)) (now (messages .entry)) (station .0) (number .0) allZero r ⌝ }
 {
     let row = [0u64; 16];

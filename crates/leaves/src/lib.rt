@@ -7,18 +7,18 @@ ghost use mathlib.Core.Path.{_≡_};
 ghost use mathlib.Core.Bool.{true};
 ghost use Prim.Native.Nat.{ℕ, _+_, _*_, _<_, _≤_};
 ghost use lib.ListN.{length};
-ghost use Rattle.protocol.specs.CartSets.{minus};
-ghost use Rattle.protocol.specs.Floor.{limits};
+ghost use Rattle.protocol.specs.CartSets.{has, minus};
+ghost use Rattle.protocol.specs.Floor.{wholeFloor, limits};
 ghost use Rattle.protocol.specs.Form.{passesForm};
-ghost use Rattle.protocol.specs.Wireless.{queueHead};
+ghost use Rattle.protocol.specs.Wireless.{headAmong};
 ghost use Rattle.view.specs.View.{lent, floorIn};
 ghost use Rattle.cartset.specs.Masks.{disjoint};
-ghost use Rattle.stations.specs.View.{initiators, rooms, HasStation, stationsIn};
+ghost use Rattle.stations.specs.View.{initiators, rooms, HasStation, stationsIn, namingIn};
 ghost use Rattle.carts.specs.View.{cartsIn};
 ghost use Rattle.carts.specs.Words.{HasRow};
 ghost use Rattle.protocol.specs.Folds.{listOf};
 ghost use Rattle.leaves.specs.Passed.{passedBy};
-ghost use Rattle.queue.specs.Rooms.{tablesFloor, HasRooms, roomCode};
+ghost use Rattle.queue.specs.Rooms.{tablesFloor, roomCount, HasRooms, QueueRooms, roomCode};
 ghost use Rattle.queue.specs.Keys.{Keyed};
 ghost use Rattle.lines.specs.Form.{form, sized};
 ghost use Rattle.lines.specs.Lines.{lineOf, used};
@@ -63,8 +63,8 @@ pub extern "C" fn mekhturia_pop(pool: &mut [u64], i: usize, j: usize)
 // The room of the head of the queue at a station; 32 where it is empty.
 #[no_mangle]
 pub extern "C" fn mekhturia_head(stations: &[u64], messages: &[u64], t: u64) -> usize
-    requires { ⌜ HasStation (now stations) t × HasRooms (now messages) × Keyed (tablesFloor (now stations) (now messages)) t ⌝ }
-    ensures { λ r. ⌜ r ≡ roomCode (queueHead limits (tablesFloor (now (stations .entry)) (now (messages .entry))) t) ⌝ }
+    requires { ⌜ HasStation (now stations) t × QueueRooms (now stations) (now messages) t × Keyed (tablesFloor (now stations) (now messages)) t ⌝ }
+    ensures { λ r. ⌜ r ≡ roomCode (headAmong (tablesFloor (now (stations .entry)) (now (messages .entry))) t 32) ⌝ }
 {
     queue::head(stations, messages, Station(t))
 }
@@ -88,7 +88,8 @@ pub extern "C" fn mekhturia_catch_up(
     c: u64,
 ) -> u64
     requires { ⌜ HasStation (now stations) t × HasRooms (now messages) × HasRow (now carts) c × (t < 16) × (c < 64) ⌝ }
-    requires { ⌜ ((s : ℕ) → s < initiators → stationsIn (now stations) .expected t s ≤ 65535) ⌝ }
+    requires { ⌜ ((s : ℕ) → s < initiators → stationsIn (now stations) .expected t s ≤ 4294967295) ⌝ }
+    requires { ⌜ ((m : ℕ) → has (namingIn (stationsIn (now stations)) t c) m ≡ true → m < roomCount (now messages)) ⌝ }
     ensures { λ r. ⌜ r ≡ passedBy (tablesFloor (now (stations .entry)) (now (messages .entry))) t c (listOf 16 (cartsIn (now (carts .entry)) .next c)) ⌝ }
 {
     let row = carts::row_of(carts, CartNumber(c));
@@ -107,7 +108,7 @@ pub extern "C" fn mekhturia_passes(
     lines: &[u64],
     texts: &[u8],
 ) -> bool
-    ensures { λ r. ⌜ r ≡ passesForm limits (floorIn (lent (now (stations .entry)) (now (carts .entry)) (now (messages .entry)) (now (lines .entry)) (now (texts .entry)))) ⌝ }
+    ensures { λ r. ⌜ r ≡ passesForm limits (floorIn (lent wholeFloor (now (stations .entry)) (now (carts .entry)) (now (messages .entry)) (now (lines .entry)) (now (texts .entry)))) ⌝ }
 {
-    formtest::passes(stations, carts, messages, lines, texts)
+    formtest::passes(stations, carts, messages, lines, texts, 16, 64, 32, 65534)
 }

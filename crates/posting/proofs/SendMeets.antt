@@ -3,10 +3,10 @@ use mathlib.Core.Path.{_≡_, sym, ap, _∙_, subst}
 use mathlib.Core.Bool.{true, false}
 use mathlib.Core.Option.{none, some}
 use mathlib.Core.List.{List, []}
-use Prim.Native.Nat.{ℕ, _+_, _≤_, _<_}
+use Prim.Native.Nat.{ℕ, _+_, _*_, _≤_, _<_}
 use native.Mathlib.Omega.{arith}
 use lib.ListN.{length}
-use Rattle.protocol.specs.Floor.{limits}
+use Rattle.protocol.specs.Floor.{Product, limitsOf}
 use Rattle.protocol.specs.Events.{Done, send}
 use Rattle.protocol.specs.Wired.{freeRoom}
 use Rattle.protocol.specs.Form.{passesForm}
@@ -14,12 +14,15 @@ use Rattle.protocol.specs.Refusals.{refusalIf}
 use Rattle.protocol.specs.Step.{accept}
 use Rattle.protocol.proofs.Tests.{by-lt}
 use Rattle.protocol.proofs.Accepted.{MaySend, may-send}
-use Rattle.stations.specs.View.{HasStation, headIn, stationsIn}
+use Rattle.stations.specs.View.{HasHead, HasStation, headIn, stationsIn}
+use Rattle.messages.specs.View.{HasRoom}
+use Rattle.messages.specs.Texts.{HasText}
+use Rattle.sending.specs.Copies.{WholeRows}
 use Rattle.lines.specs.Form.{form}
 use Rattle.lines.specs.Lines.{used}
 use Rattle.lines.specs.Words.{capacity}
 use Rattle.view.specs.View.{Lent, lent, floorIn}
-use Rattle.view.proofs.Standing.{Standing, standing}
+use Rattle.view.proofs.Standing.{Standing, standing, few-carts}
 use Rattle.sending.specs.Rooms.{firstFree}
 use Rattle.sending.specs.Sent.{Sent}
 use Rattle.sending.proofs.RoomLaws.{room-found, none-found}
@@ -29,59 +32,76 @@ use Rattle.answers.specs.Answers.{says}
 use Rattle.answers.specs.Met.{Met}
 use Rattle.answers.proofs.Meets.{refusal-standing, meets-done}
 
-module _ (S C M W T : List ℕ) (p : passesForm limits (floorIn (lent S C M W T)) ≡ true) where
+module _ (P : Product) (S C M W T : List ℕ) (p : passesForm (limitsOf P) (floorIn (lent P S C M W T)) ≡ true) where
   abbrev L : Lent
-  L = lent S C M W T
+  L = lent P S C M W T
 
   X : Standing L
   X = standing L p
 
-  pub rooms-asked : length M ≡ 192
+  pub rooms-asked : length M ≡ P .held * 6
   rooms-asked = X .lengths .messages
 
-  pub checks-asked : (length S ≡ 1972) × (length C ≡ 1216) × (headIn S .stations ≤ 16) × (headIn S .carts ≤ 64)
-  checks-asked = (X .lengths .stations, X .lengths .carts, X .sized .counts .stations, X .sized .counts .carts)
+  pub checks-asked : HasHead S × (headIn S .carts * 19 ≤ length C) × (headIn S .carts ≤ 64) × (116 + headIn S .stations * 116 ≤ length S)
+  checks-asked =
+      let a = X .lengths .stations in
+      let b = X .lengths .carts in
+      let d = X .sized .counts .stations in
+      let e = X .sized .counts .carts in
+      (omega arith, omega arith, few-carts L X, omega arith)
 
   -- the search found room m, and no check applied
-  module _ (s set m : ℕ) (text : List ℕ) (found : m ≡ firstFree M) (r : ℕ) (told : r ≡ refusalIf limits (floorIn L) false (send s set text)) (none-applied : r ≡ 0) where
-    free : refusalIf limits (floorIn L) false (send s set text) ≡ 0
+  module _ (s set m : ℕ) (text : List ℕ) (found : m ≡ firstFree M) (r : ℕ) (told : r ≡ refusalIf (limitsOf P) (floorIn L) false (send s set text)) (none-applied : r ≡ 0) where
+    free : refusalIf (limitsOf P) (floorIn L) false (send s set text) ≡ 0
     free = sym told ∙ none-applied
 
-    may-some : (k : ℕ) × (freeRoom limits (floorIn L) ≡ some k) × MaySend limits (floorIn L) s set text k
-    may-some = may-send limits (floorIn L) false s set text free
+    may-some : (k : ℕ) × (freeRoom (limitsOf P) (floorIn L) ≡ some k) × MaySend (limitsOf P) (floorIn L) s set text k
+    may-some = may-send (limitsOf P) (floorIn L) false s set text free
 
     -- so m is a room
-    room : freeRoom limits (floorIn L) ≡ some m
+    room : freeRoom (limitsOf P) (floorIn L) ≡ some m
     room =
-        by-lt m 32 (λ l. room-found L m found l)
-        (λ g. absurd (let y : none ≡ some (may-some .0) = sym (none-found L m found g) ∙ may-some .1 in let x : _≡_ {A = ℕ} 0 1 = cc in omega arith))
+        by-lt m 32 (λ l. room-found L m found rooms-asked l)
+        (λ g. absurd (let y : none ≡ some (may-some .0) = sym (none-found L m found rooms-asked g) ∙ may-some .1 in let x : _≡_ {A = ℕ} 0 1 = cc in omega arith))
 
     same-room : may-some .0 ≡ m
     same-room = let y : some (may-some .0) ≡ some m = sym (may-some .1) ∙ room in cc
 
-    may : MaySend limits (floorIn L) s set text m
-    may = subst (λ (k : ℕ). MaySend limits (floorIn L) s set text k) same-room (may-some .2)
+    may : MaySend (limitsOf P) (floorIn L) s set text m
+    may = subst (λ (k : ℕ). MaySend (limitsOf P) (floorIn L) s set text k) same-room (may-some .2)
 
     pub has-station : HasStation S s
     has-station = let a = X .lengths .stations in let b = may .station in let d = X .sized .counts .stations in omega arith
 
+    whole-rows : WholeRows S
+    whole-rows = let a = X .lengths .stations in omega arith
+
+    few-rows : length S ≤ 1972
+    few-rows = let a = X .lengths .stations in let b = P .stations-fit in omega arith
+
+    has-room : HasRoom M m
+    has-room = let a = X .lengths .messages in let b = may .room in omega arith
+
+    has-text : HasText T m
+    has-text = let a = X .lengths .texts in let b = may .room in omega arith
+
     abbrev pub Asked : ℕ → ℕ → Type 0
     Asked n number =
-        ((length S ≡ 1972) × (length M ≡ 192) × (length T ≡ 1024) × (length text ≤ 32))
-        × (((m < 32) × (s < 16) × (n ≤ 16) × (number < 65536)) × ((form W ≡ true) × (used W + n ≤ capacity W)))
+        (WholeRows S × (length S ≤ 1972) × HasStation S s × HasRoom M m × HasText T m × (length text ≤ 32))
+        × (((m < 32) × (s < 16) × (n ≤ 16) × (number < 4294967296)) × ((form W ≡ true) × (used W + n ≤ capacity W)))
 
     asked : Asked (headIn S .stations) (stationsIn S .sent s)
     asked = (
-      (X .lengths .stations, X .lengths .messages, X .lengths .texts, may .fits),
+      (whole-rows, few-rows, has-station, has-room, has-text, may .fits),
       (send-numbers L s set text m X room may, (X .laid .chains, send-room L s set text m X room may)),
     )
 
     left : (S′ M′ W′ T′ : List ℕ) → Sent S S′ M M′ W W′ T T′ m s (headIn S .stations) (stationsIn S .sent s) set text
-        → Met L (lent S′ C M′ W′ T′) (send s set text) (says 2 s (stationsIn S .sent s) 0 (headIn S .stations) [])
+        → Met L (lent P S′ C M′ W′ T′) (send s set text) (says 2 s (stationsIn S .sent s) 0 (headIn S .stations) [])
     unfolding accept
     left S′ M′ W′ T′ sent =
         let whole = send-done S S′ C M M′ W W′ T T′ m s set text X may sent room in
-        meets-done L (send s set text) (lent S′ C M′ W′ T′) _ (refusal-standing L (send s set text) p ∙ free)
+        meets-done L (send s set text) (lent P S′ C M′ W′ T′) _ (refusal-standing L (send s set text) p ∙ free)
         (ap (λ (D : Done). D .floor) whole) (ap (λ (D : Done). D .report) whole)
 
     -- whatever the code found as how many stations there are, and as the message's number
@@ -90,5 +110,5 @@ module _ (S C M W T : List ℕ) (p : passesForm limits (floorIn (lent S C M W T)
       send-asks = rw (stations-are, number-is) asked
 
       pub meets-send : (S′ M′ W′ T′ : List ℕ) → Sent S S′ M M′ W W′ T T′ m s n number set text
-          → Met L (lent S′ C M′ W′ T′) (send s set text) (says 2 s number 0 n [])
+          → Met L (lent P S′ C M′ W′ T′) (send s set text) (says 2 s number 0 n [])
       meets-send S′ M′ W′ T′ sent = rw (stations-are, number-is) (left S′ M′ W′ T′ (rw (stations-are, number-is) at sent))

@@ -5,7 +5,7 @@ use mathlib.Core.List.{List}
 use Prim.Native.Nat.{ℕ, _^_, _≤_, _<_}
 use native.Mathlib.Omega.{arith}
 use borrow.Author.Tests.{le-leb, lt-leb, eq-eqb, ne-eqb, not-false}
-use Rattle.protocol.specs.Floor.{Floor, entered}
+use Rattle.protocol.specs.Floor.{Product, Floor, entered}
 use Rattle.protocol.specs.Floor as floor
 use Rattle.protocol.specs.CartSets.{setOf}
 use Rattle.protocol.specs.Claims.{Claim, test, is}
@@ -61,15 +61,15 @@ pub all-of : (most k n : ℕ) → most ≡ setOf k (λ c. true) → k ≡ n → 
 all-of most k n e q = e ∙ ap (λ (x : ℕ). setOf x (λ c. true)) q
 
 -- no greater than the set of all k, and greater
-within-all : (k set most : ℕ) → most ≡ setOf k (λ c. true) → set ≤ most → set < 2 ^ k
+pub within-all : (k set most : ℕ) → most ≡ setOf k (λ c. true) → set ≤ most → set < 2 ^ k
 within-all k set most e l = let a = setOf-all k in let b = zero-below k in omega arith
 
 beyond-all : (k set most : ℕ) → most ≡ setOf k (λ c. true) → most < set → 2 ^ k ≤ set
 beyond-all k set most e l = let a = setOf-all k in omega arith
 
-module _ (S C : List ℕ) (set most : ℕ) (M W T : List ℕ) (e : most ≡ setOf (headIn S .carts) (λ c. true)) where
+module _ (S C : List ℕ) (set most : ℕ) (P : Product) (M W T : List ℕ) (e : most ≡ setOf (headIn S .carts) (λ c. true)) where
   abbrev F : Floor
-  F = floorIn (lent S C M W T)
+  F = floorIn (lent P S C M W T)
 
   pub set-stranger : most < set → 9 ≡ setChecks F set
   set-stranger l = rw (le-leb (2 ^ headIn S .carts) set (beyond-all (headIn S .carts) set most e l)) refl

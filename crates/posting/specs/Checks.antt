@@ -3,7 +3,7 @@ use mathlib.Core.Bool.{cond}
 use Prim.Native.Nat.{ℕ}
 use lib.Dec.{eqb, ltb}
 use Rattle.protocol.specs.Folds.{isNone}
-use Rattle.protocol.specs.Floor.{Floor, limits}
+use Rattle.protocol.specs.Floor.{Limits, Floor}
 use Rattle.protocol.specs.Wired.{freeRoom}
 use Rattle.protocol.specs.Refusals.{check, strangers, neverEntered}
 
@@ -11,9 +11,9 @@ use Rattle.protocol.specs.Refusals.{check, strangers, neverEntered}
 abbrev pub setChecks : Floor → ℕ → ℕ
 setChecks F set = check 9 (strangers F set) (check 11 (eqb set 0) (check 12 (neverEntered F set) 0))
 
--- those of the message's number and room: "the station has used number 65,534", "32 messages held"
-abbrev pub roomChecks : Floor → ℕ → ℕ
-roomChecks F s = check 13 (ltb (limits .last) (F .sent s)) (check 14 (isNone (freeRoom limits F)) 0)
+-- those of the message's number and room: the caller's last number, and as many messages as the caller may hold
+abbrev pub roomChecks : Limits → Floor → ℕ → ℕ
+roomChecks N F s = check 13 (ltb (N .last) (F .sent s)) (check 14 (isNone (freeRoom N F)) 0)
 
 -- a refusal, or the next where there is none
 abbrev pub firstApplying : ℕ → ℕ → ℕ

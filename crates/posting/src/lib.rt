@@ -7,15 +7,15 @@ use ids::Station;
 ghost use mathlib.Core.Path.{_≡_};
 ghost use mathlib.Core.Bool.{true, false, not};
 ghost use mathlib.Core.List.{List, []};
-ghost use Prim.Native.Nat.{ℕ, _≤_, _<_};
+ghost use Prim.Native.Nat.{ℕ, _+_, _*_, _≤_};
 ghost use lib.ListN.{length};
-ghost use Rattle.protocol.specs.Floor.{limits, entered};
+ghost use Rattle.protocol.specs.Floor.{Product, limitsOf, entered};
 ghost use Rattle.protocol.specs.CartSets.{has};
 ghost use Rattle.protocol.specs.Claims.{test, all, when, is};
 ghost use Rattle.protocol.specs.Events.{send};
 ghost use Rattle.protocol.specs.Form.{passesForm};
 ghost use Rattle.protocol.specs.Refusals.{refusalIf};
-ghost use Rattle.stations.specs.View.{headIn};
+ghost use Rattle.stations.specs.View.{HasHead, HasStation, headIn};
 ghost use Rattle.carts.specs.Words.{HasRow};
 ghost use Rattle.carts.specs.View.{cartsIn};
 ghost use Rattle.view.specs.View.{lent, floorIn};
@@ -24,11 +24,8 @@ ghost use Rattle.answers.specs.Answers.{answerIn};
 ghost use Rattle.answers.specs.Met.{Met};
 ghost use Rattle.posting.specs.Checks.{setChecks, roomChecks, firstApplying};
 
-// "last number 65,534".
-const LAST: u64 = 65534;
-
-// "At most 32 held messages": so many rooms, and what the search for a free one answers where there is none.
-const ROOMS: usize = 32;
+// What the search for a free room answers where there is none.
+const NONE: usize = 32;
 
 // "a named cart never entered": is it one? A cart that is leaving or travelling has entered.
 fn is_outside(carts: &[u64], number: CartNumber) -> bool
@@ -46,7 +43,7 @@ fn is_outside(carts: &[u64], number: CartNumber) -> bool
 
 // Every cart of the set has entered. The carts are walked from the least on, and no other is looked at.
 fn all_entered(carts: &[u64], set: u64) -> bool
-    requires { ⌜ length (now carts) ≡ 1216 ⌝ }
+    requires { ⌜ ((c : ℕ) → has set c ≡ true → HasRow (now carts) c) ⌝ }
     ensures { λ r. ⌜ r ≡ test (all 64 (λ c. when (is (has set c)) (is (entered (cartsIn (now (carts .entry)) .place c))))) ⌝ }
 {
     let mut rest = set;
@@ -63,8 +60,8 @@ fn all_entered(carts: &[u64], set: u64) -> bool
 // "a cart in the set, not on the floor", 9, "empty set", 11, "a named cart never entered", 12, or 0. A set has only carts of the floor when it is
 // no greater than the set of all of them.
 fn set_refusal(stations: &[u64], carts: &[u64], set: u64) -> u64
-    requires { ⌜ (length (now stations) ≡ 1972) × (length (now carts) ≡ 1216) × (headIn (now stations) .carts ≤ 64) ⌝ }
-    ensures { λ r. ⌜ ((M W T : List ℕ) → r ≡ setChecks (floorIn (lent (now (stations .entry)) (now (carts .entry)) M W T)) set) ⌝ }
+    requires { ⌜ HasHead (now stations) × (headIn (now stations) .carts * 19 ≤ length (now carts)) × (headIn (now stations) .carts ≤ 64) ⌝ }
+    ensures { λ r. ⌜ ((P : Product) (M W T : List ℕ) → r ≡ setChecks (floorIn (lent P (now (stations .entry)) (now (carts .entry)) M W T)) set) ⌝ }
 {
     if cartset::all_below(stations::cart_count(stations)) < set {
         return 9;
@@ -76,14 +73,14 @@ fn set_refusal(stations: &[u64], carts: &[u64], set: u64) -> u64
 }
 
 // "the station has used number 65,534", 13, or "32 messages held", 14, or 0; m is the first free room.
-fn room_refusal(stations: &[u64], station: Station, m: usize) -> u64
-    requires { ⌜ (length (now stations) ≡ 1972) × (station .0 < 16) ⌝ }
-    ensures { λ r. ⌜ ((C M W T : List ℕ) → m ≡ firstFree M → r ≡ roomChecks (floorIn (lent (now (stations .entry)) C M W T)) (station .0)) ⌝ }
+fn room_refusal(stations: &[u64], station: Station, m: usize, last: u64) -> u64
+    requires { ⌜ HasStation (now stations) (station .0) ⌝ }
+    ensures { λ r. ⌜ ((P : Product) (C M W T : List ℕ) → P .last ≡ last → length M ≡ P .held * 6 → m ≡ firstFree M → r ≡ roomChecks (limitsOf P) (floorIn (lent P (now (stations .entry)) C M W T)) (station .0)) ⌝ }
 {
-    if LAST < stations::sent_of(stations, station) {
+    if last < stations::sent_of(stations, station) {
         return 13;
     }
-    if m == ROOMS { 14 } else { 0 }
+    if m == NONE { 14 } else { 0 }
 }
 
 // "Checks run down the table; the first that applies is the answer": a refusal, or the next where there is none.
@@ -94,15 +91,15 @@ fn first_of(refusal: u64, next: u64) -> u64
 }
 
 // The refusal of a send, 8, 9 and 11 to 14, or 0; m is the first free room.
-fn send_refusal(stations: &[u64], carts: &[u64], station: Station, set: u64, m: usize) -> u64
-    requires { ⌜ (length (now stations) ≡ 1972) × (length (now carts) ≡ 1216) × (headIn (now stations) .stations ≤ 16) × (headIn (now stations) .carts ≤ 64) ⌝ }
-    ensures { λ r. ⌜ ((M W T text : List ℕ) → m ≡ firstFree M → length text ≤ 32 → r ≡ refusalIf limits (floorIn (lent (now (stations .entry)) (now (carts .entry)) M W T)) false (send (station .0) set text)) ⌝ }
+fn send_refusal(stations: &[u64], carts: &[u64], station: Station, set: u64, m: usize, last: u64) -> u64
+    requires { ⌜ HasHead (now stations) × (headIn (now stations) .carts * 19 ≤ length (now carts)) × (headIn (now stations) .carts ≤ 64) × (116 + headIn (now stations) .stations * 116 ≤ length (now stations)) ⌝ }
+    ensures { λ r. ⌜ ((P : Product) (M W T text : List ℕ) → P .last ≡ last → length M ≡ P .held * 6 → m ≡ firstFree M → length text ≤ 32 → r ≡ refusalIf (limitsOf P) (floorIn (lent P (now (stations .entry)) (now (carts .entry)) M W T)) false (send (station .0) set text)) ⌝ }
 {
     if stations::station_count(stations) <= station.0 {
         return 8;
     }
     let of_set = set_refusal(stations, carts, set);
-    let of_room = room_refusal(stations, station, m);
+    let of_room = room_refusal(stations, station, m, last);
     first_of(of_set, of_room)
 }
 
@@ -117,13 +114,14 @@ pub fn send(
     station: Station,
     set: u64,
     text: &[u8],
+    last: u64,
 ) -> Answer
-    requires { ⌜ passesForm limits (floorIn (lent (now stations) (now carts) (now messages) (now lines) (now texts))) ≡ true ⌝ }
+    requires { ⌜ ((P : Product) × (P .last ≡ last) × (passesForm (limitsOf P) (floorIn (lent P (now stations) (now carts) (now messages) (now lines) (now texts))) ≡ true)) ⌝ }
     requires { ⌜ length (now text) ≤ 32 ⌝ }
-    ensures { λ a. ⌜ Met (lent (now (stations .entry)) (now (carts .entry)) (now (messages .entry)) (now (lines .entry)) (now (texts .entry))) (lent (now (stations .exit)) (now (carts .entry)) (now (messages .exit)) (now (lines .exit)) (now (texts .exit))) (send (station .0) set (now (text .entry))) (answerIn a []) ⌝ }
+    ensures { λ a. ⌜ ((P : Product) → P .last ≡ last → passesForm (limitsOf P) (floorIn (lent P (now (stations .entry)) (now (carts .entry)) (now (messages .entry)) (now (lines .entry)) (now (texts .entry)))) ≡ true → Met (lent P (now (stations .entry)) (now (carts .entry)) (now (messages .entry)) (now (lines .entry)) (now (texts .entry))) (lent P (now (stations .exit)) (now (carts .entry)) (now (messages .exit)) (now (lines .exit)) (now (texts .exit))) (send (station .0) set (now (text .entry))) (answerIn a [])) ⌝ }
 {
     let m = sending::free_room(messages);
-    let refusal = send_refusal(stations, carts, station, set, m);
+    let refusal = send_refusal(stations, carts, station, set, m, last);
     if refusal != 0 {
         return Answer::Refused(refusal);
     }

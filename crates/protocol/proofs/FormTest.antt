@@ -103,8 +103,8 @@ module _ (M : Limits) (F : Floor) where
     pub held : (m : ℕ) → m < M .held → True (heldRule M F m)
     pub entry : (m : ℕ) → m < M .held → (t : ℕ) → t < M .stations → True (entryRule M F m t)
     pub copy : (m : ℕ) → m < M .held → isHeld F m ≡ true → (t : ℕ) → t < F .stations → True (copyRule M F m t)
-    pub line : (i : ℕ) → i < M .stations → (j : ℕ) → j < M .stations → True (lineRule M F i j)
-    pub order : (i : ℕ) → i < M .stations → (j : ℕ) → j < F .stations → True (orderRule M F i j)
+    pub line : (i : ℕ) → i < M .columns → (j : ℕ) → j < M .columns → True (lineRule M F i j)
+    pub order : (i : ℕ) → i < M .columns → (j : ℕ) → j < F .stations → True (orderRule M F i j)
     pub handoff : (c : ℕ) → c < M .carts → (i : ℕ) → i < F .stations → (j : ℕ) → j < F .stations → True (handoffRule M F c i j)
 
   -- the test passes exactly where every clause holds
@@ -150,8 +150,8 @@ module _ (M : Limits) (F : Floor) where
     acks-fit i j (deregister c) h = tt
     acks-fit i j (register c row) h = tt
 
-    no-line-beyond : (i j : ℕ) → (i < M .stations → j < M .stations → ⊥) → F .lines i j ≡ []
-    no-line-beyond i j h = by-lt i (M .stations) (λ a. by-lt j (M .stations) (λ b. absurd (h a b)) (λ b. B .lines .right i j b)) (λ a. B .lines .below i j a)
+    no-line-beyond : (i j : ℕ) → (i < M .columns → j < M .columns → ⊥) → F .lines i j ≡ []
+    no-line-beyond i j h = by-lt i (M .columns) (λ a. by-lt j (M .columns) (λ b. absurd (h a b)) (λ b. B .lines .right i j b)) (λ a. B .lines .below i j a)
 
     pub sized-of : Sized M F
     sized-of =
@@ -164,8 +164,8 @@ module _ (M : Limits) (F : Floor) where
           messages = record { named = λ m l. P .room m l .0; acked = λ m l. P .room m l .1 .0; waiting = λ m l. P .room m l .1 .1 .0; text = λ m l. P .room m l .1 .1 .1 };
           copies = record { copy = λ m t l k. P .entry m l t k .0; acks = λ m t l k. P .entry m l t k .1 .0; queue = λ m t l k. P .entry m l t k .1 .1 .0 };
           lines = λ i j.
-              by-lt i (M .stations)
-              (λ a. by-lt j (M .stations)
+              by-lt i (M .columns)
+              (λ a. by-lt j (M .columns)
               (λ b. all-map (F .lines i j) (λ r h. (h .0, (h .1 .0, acks-fit i j r (h .1 .1)))) (P .line i a j b))
               (λ b. rw (B .lines .right i j b) tt))
               (λ a. rw (B .lines .below i j a) tt);
@@ -207,8 +207,11 @@ module _ (M : Limits) (F : Floor) where
     station-limit : (t : ℕ) → t < F .stations → t < M .stations
     station-limit t l = let z = sized-of .counts .stations in omega arith
 
+    column-limit : (t : ℕ) → t < F .stations → t < M .columns
+    column-limit t l = let z = sized-of .counts .stations in let w = M .fits in omega arith
+
     records-held : OnLines (F .stations) (HeldRecord M F) (F .lines)
-    records-held i j li lj = all-map (F .lines i j) (λ r h. record-held i j r (h .1 .1)) (P .line i (station-limit i li) j (station-limit j lj))
+    records-held i j li lj = all-map (F .lines i j) (λ r h. record-held i j r (h .1 .1)) (P .line i (column-limit i li) j (column-limit j lj))
 
     not-handed-off : (c : ℕ) → F .carts ≤ c → (i j : ℕ) (r : Record) → HeldRecord M F i j r → isHandoffOf c r ≡ false
     not-handed-off c l i j (multicast n) g = refl
@@ -220,7 +223,7 @@ module _ (M : Limits) (F : Floor) where
     line-facts : LineFacts M F
     line-facts =
         record {
-          order = λ s t lt'. by-lt s (M .stations) (λ l. P .order s l t lt' .1) (λ l. rw (B .lines .below s t l) refl);
+          order = λ s t lt'. by-lt s (M .columns) (λ l. P .order s l t lt' .1) (λ l. rw (B .lines .below s t l) refl);
           deleted-acked = λ m t h lt' e. P .held m (h .slot) (is-held m h) .1 .1 .0 t lt' (ap not e);
           records-held = records-held;
           deletes-once = λ m t h l. P .copy m (h .slot) (is-held m h) t l .1 .1;
@@ -247,9 +250,9 @@ module _ (M : Limits) (F : Floor) where
     pub form-of : FormFacts M F
     form-of =
         record {
-          low = λ c s. by-lt c (M .carts) (λ l. by-lt s (M .stations) (λ k. P .cart c l .1 .1 .1 s k) (λ k. let z = B .next .right c s k in omega arith)) (λ l. let z = B .next .below c s l in omega arith);
-          run = λ s t lt'. by-lt s (M .stations) (λ l. P .order s l t lt' .0)
-              (λ l. let z = B .lines .below s t l in let y = B .sent s l in let x = B .expected t s lt' l in rw (z, y, x) refl);
+          low = λ c s. by-lt c (M .carts) (λ l. by-lt s (M .columns) (λ k. P .cart c l .1 .1 .1 s k) (λ k. let z = B .next .right c s k in omega arith)) (λ l. let z = B .next .below c s l in omega arith);
+          run = λ s t lt'. by-lt s (M .columns) (λ l. P .order s l t lt' .0)
+              (λ l. let z = B .lines .below s t l in let y = B .sent s (let w = M .fits in omega arith) in let x = B .expected t s lt' l in rw (z, y, x) refl);
           kept = λ m h. P .held m (h .slot) (is-held m h) .0;
           one-room = λ m k a b. P .held m (a .slot) (is-held m a) .1 .0 k (b .slot) (is-held k b);
           acked-passed = λ m c h p. by-lt c (F .carts) (λ l. P .held m (h .slot) (is-held m h) .1 .1 .1 c l .1 p .1) (λ l. absurd (let z = none-beyond m c h l in omega arith));
@@ -263,7 +266,7 @@ module _ (M : Limits) (F : Floor) where
               (λ k. let z = B .queue .right m t k in clash (has 0 c) (rw z at e) (has-zero c)))
               (λ l. let z = B .queue .below m t l in clash (has 0 c) (rw z at e) (has-zero c));
           handoffs-right = handoffs-right;
-          out = λ c s e. by-lt c (M .carts) (λ l. by-lt s (M .stations) (λ k. P .cart c l .1 .1 .0 (rw e) s k) (λ k. B .next .right c s k)) (λ l. B .next .below c s l);
+          out = λ c s e. by-lt c (M .carts) (λ l. by-lt s (M .columns) (λ k. P .cart c l .1 .1 .0 (rw e) s k) (λ k. B .next .right c s k)) (λ l. B .next .below c s l);
           real = λ c e. by-lt c (M .carts) (λ l. P .cart c l .1 .0 e) (λ l. let z = B .place c l in clash false (rw z at e) refl);
           on-lines = line-facts;
           started = P .floor .0;
@@ -337,19 +340,19 @@ module _ (M : Limits) (F : Floor) where
     blank-from =
         record {
           sent = λ s l. none-sent s (let z = S .counts .stations in omega arith);
-          expected = λ t s lt' l. let z = none-sent s (let z = S .counts .stations in omega arith) in let y = counts-up-le (F .expected t s) (multicastNumbers (F .lines s t)) (F .sent s) (X .run s t lt') in omega arith;
+          expected = λ t s lt' l. let z = none-sent s (let z = S .counts .stations in let w = M .fits in omega arith) in let y = counts-up-le (F .expected t s) (multicastNumbers (F .lines s t)) (F .sent s) (X .run s t lt') in omega arith;
           place = λ c l. outside-beyond c (let z = S .counts .carts in omega arith);
           next = record {
             below = λ c s l. X .out c s (outside-beyond c (let z = S .counts .carts in omega arith));
-            right = λ c s l. let z = none-sent s (let z = S .counts .stations in omega arith) in let y = X .low c s in omega arith;
+            right = λ c s l. let z = none-sent s (let z = S .counts .stations in let w = M .fits in omega arith) in let y = X .low c s in omega arith;
           };
           queue = record {
             below = λ m t l. nobody (F .queue m t) (λ c e. let z = X .queues m t c e .held .slot in omega arith);
             right = λ m t l. nobody (F .queue m t) (λ c e. let z = local-on-floor (F .place c) t (S .places c) (X .queues m t c e .home) in let y = S .counts .stations in omega arith);
           };
           lines = record {
-            below = λ i j l. no-line (F .stations) (F .carts) i j (F .lines i j) (S .lines i j) (λ x y. let z = S .counts .stations in omega arith);
-            right = λ i j l. no-line (F .stations) (F .carts) i j (F .lines i j) (S .lines i j) (λ x y. let z = S .counts .stations in omega arith);
+            below = λ i j l. no-line (F .stations) (F .carts) i j (F .lines i j) (S .lines i j) (λ x y. let z = S .counts .stations in let w = M .fits in omega arith);
+            right = λ i j l. no-line (F .stations) (F .carts) i j (F .lines i j) (S .lines i j) (λ x y. let z = S .counts .stations in let w = M .fits in omega arith);
           };
         }
       where

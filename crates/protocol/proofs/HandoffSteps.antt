@@ -80,9 +80,9 @@ next-beyond M F G I c s h = by-eq (F .next c s) 0 (λ e. e) (λ e. absurd (let a
 -- the row that a register carries is the cart's
 pub row-is-next : (M : Limits) (F : Floor) (G : History) → Invariant M F G → (c s : ℕ) → entryOf (rowOf M (F .next c)) s ≡ F .next c s
 row-is-next M F G I c s =
-    by-lt s (M .stations)
-    (λ l. listOf-at (M .stations) (F .next c) 0 s l)
-    (λ l. listOf-past (M .stations) (F .next c) 0 s l ∙ sym (next-beyond M F G I c s (let z = I .fits in omega arith)))
+    by-lt s (M .columns)
+    (λ l. listOf-at (M .columns) (F .next c) 0 s l)
+    (λ l. listOf-past (M .columns) (F .next c) 0 s l ∙ sym (next-beyond M F G I c s (let z = I .fits in let w = M .fits in omega arith)))
 
 module _ (M : Limits) (F : Floor) (G : History) (i t c : ℕ) (l : List Record) (I : Invariant M F G) where
   -- the record of a hand-off goes

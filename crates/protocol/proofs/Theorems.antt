@@ -143,7 +143,7 @@ floor-records F B h = record-bound limits F B h
 
 -- the limits of a small floor
 abbrev pub small : ℕ → ℕ → Limits
-small last text = record { stations = 4; carts = 8; held = 8; last = last; text = text }
+small last text = record { stations = 4; carts = 8; held = 8; last = last; text = text; columns = 16; fits = omega arith }
 
 -- of 4 stations, 8 carts and 8 held messages: at most 136 records
 pub small-floor-records : (last text : ℕ) (F : Floor) → BlankBeyond (small last text) F → passesForm (small last text) F ≡ true → onTheLines (F .stations) (F .lines) ≤ 136

@@ -13,8 +13,8 @@ pub record TableEnds (A : Type 0) (n k : ℕ) (d : A) (f : ℕ → ℕ → A) : 
 -- nothing beyond the limits
 pub record BlankBeyond (M : Limits) (F : Floor) : Type 0 where
   pub sent : (s : ℕ) → M .stations ≤ s → F .sent s ≡ 0
-  pub expected : (t s : ℕ) → t < F .stations → M .stations ≤ s → F .expected t s ≡ 0
+  pub expected : (t s : ℕ) → t < F .stations → M .columns ≤ s → F .expected t s ≡ 0
   pub place : (c : ℕ) → M .carts ≤ c → F .place c ≡ outside
-  pub next : TableEnds ℕ (M .carts) (M .stations) 0 (F .next)
+  pub next : TableEnds ℕ (M .carts) (M .columns) 0 (F .next)
   pub queue : TableEnds ℕ (M .held) (M .stations) 0 (F .queue)
-  pub lines : TableEnds (List Record) (M .stations) (M .stations) [] (F .lines)
+  pub lines : TableEnds (List Record) (M .columns) (M .columns) [] (F .lines)

@@ -1,7 +1,8 @@
 -- THE FLOOR: "It holds the records of all stations, carts and held messages and the wired lines between stations."
 use mathlib.Core.Bool.{Bool, true, false, cond, _&&_, not}
 use mathlib.Core.List.{List, [], _∷_, _++_}
-use Prim.Native.Nat.{ℕ}
+use Prim.Native.Nat.{ℕ, _≤_, _+_, _*_}
+use native.Mathlib.Omega.{arith}
 use lib.Dec.{eqb, ltb}
 use lib.ListN.{length}
 use Rattle.protocol.specs.Folds.{sum}
@@ -14,10 +15,39 @@ pub record Limits : Type 0 where
   pub held : ℕ
   pub last : ℕ
   pub text : ℕ
+  -- how many next numbers a row has, one for each station that a floor of any limits may have
+  pub columns : ℕ
+  pub fits : stations ≤ columns
+
+-- A product: its own limits, no larger than rows and words have places for
+pub record Product : Type 0 where
+  pub stations : ℕ
+  pub carts : ℕ
+  pub held : ℕ
+  pub last : ℕ
+  pub stations-fit : stations ≤ 16
+  pub carts-fit : carts ≤ 64
+  pub held-fit : held ≤ 32
+  pub last-fit : last ≤ 4294967294
+
+abbrev pub limitsOf : Product → Limits
+limitsOf P =
+    record { stations = P .stations; carts = P .carts; held = P .held; last = P .last; text = 32; columns = 16; fits = P .stations-fit }
 
 -- "Stations 1 to 16", "Carts 1 to 64", "At most 32 held messages, text 0 to 32 octets", "last number 65,534"
+abbrev pub wholeFloor : Product
+wholeFloor = record { stations = 16; carts = 64; held = 32; last = 65534; stations-fit = omega arith; carts-fit = omega arith; held-fit = omega arith; last-fit = omega arith }
+
 abbrev pub limits : Limits
-limits = record { stations = 16; carts = 64; held = 32; last = 65534; text = 32 }
+limits = limitsOf wholeFloor
+
+-- the demonstration kit: "at most 4 stations, 8 carts and 8 held messages"
+abbrev pub kit : Product
+kit = record { stations = 4; carts = 8; held = 8; last = 65534; stations-fit = omega arith; carts-fit = omega arith; held-fit = omega arith; last-fit = omega arith }
+
+-- "at most 32 × (16 + 16 + 64) + 64 = 3,136", "at most 8 × (4 + 4 + 8) + 8 = 136": the records that the lines have room for
+abbrev pub mostRecords : Limits → ℕ
+mostRecords M = M .held * (M .stations + M .stations + M .carts) + M .carts
 
 -- "A cart is outside, at a station, leaving (it has greeted a new station, the old one has not heard), or travelling (its register
 -- is on a line)": at s; leaving s for t; travelling from s to t

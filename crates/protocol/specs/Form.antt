@@ -138,8 +138,8 @@ module _ (M : Limits) (F : Floor) where
   cartRule c =
       both (placeInside (F .place c))
       (both (when (is (entered (F .place c))) (lt c (F .carts)))
-      (both (when (is (not (entered (F .place c)))) (all (M .stations) (λ s. eq (F .next c s) 0)))
-      (all (M .stations) (λ s. le (F .next c s) (F .sent s)))))
+      (both (when (is (not (entered (F .place c)))) (all (M .columns) (λ s. eq (F .next c s) 0)))
+      (all (M .columns) (λ s. le (F .next c s) (F .sent s)))))
 
   -- a set of carts of the floor
   abbrev pub cartsOnly : ℕ → Claim
@@ -218,8 +218,8 @@ module _ (M : Limits) (F : Floor) where
       both (all (M .held) heldRule) (
       both (all (M .held) (λ m. all (M .stations) (entryRule m))) (
       both (all (M .held) (λ m. when (is (isHeld F m)) (all (F .stations) (copyRule m)))) (
-      both (all (M .stations) (λ i. all (M .stations) (lineRule i))) (
-      both (all (M .stations) (λ i. all (F .stations) (orderRule i)))
+      both (all (M .columns) (λ i. all (M .columns) (lineRule i))) (
+      both (all (M .columns) (λ i. all (F .stations) (orderRule i)))
       (all (M .carts) (λ c. all (F .stations) (λ i. all (F .stations) (handoffRule c i))))))))))))
 
   -- its answer

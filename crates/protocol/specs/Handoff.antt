@@ -85,7 +85,7 @@ module _ (M : Limits) where
 
   -- "the cart's whole row of next numbers": one for each station that a floor may have
   abbrev pub rowOf : (ℕ → ℕ) → List ℕ
-  rowOf next = listOf (M .stations) next
+  rowOf next = listOf (M .columns) next
 
   -- "Deregister: the cart leaves every queue entry here (emptied entries go) and the local list. A register goes to the new station": of
   -- cart c, come from station i, handled at t

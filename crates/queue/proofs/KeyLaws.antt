@@ -7,7 +7,7 @@ use native.Mathlib.Numerals.{add-one}
 use native.Mathlib.Omega.{arith}
 use lib.Dec.{eqb, ltb}
 use borrow.Author.Tests.{lt-ltb, le-ltb, eq-eqb, ne-eqb, eqb-false}
-use Rattle.protocol.specs.Floor.{Floor, limits}
+use Rattle.protocol.specs.Floor.{Floor}
 use Rattle.protocol.specs.Wireless.{standsBefore, headWith, headAmong, queueHead}
 use Rattle.protocol.proofs.Tests.{by-lt, by-eq, on-cond}
 use Rattle.queue.specs.declared.Best.{Best}
@@ -104,6 +104,5 @@ module _ (F : Floor) where
         (f ∙ ap (bestWith F t m) (e ∙ ap bestOf (sym skipped)) ∙ best-more m (headAmong F t m) l (of-key m (omega arith)))
 
   -- and the last has found the head
-  pub best-all : (t k : ℕ) (best : Best) → headAmong F t 32 ≡ headAmong F t k → best ≡ bestOf (headAmong F t k) → best .head ≡ roomCode (queueHead limits F t)
-  unfolding queueHead
+  pub best-all : (t k : ℕ) (best : Best) → headAmong F t 32 ≡ headAmong F t k → best ≡ bestOf (headAmong F t k) → best .head ≡ roomCode (headAmong F t 32)
   best-all t k best skipped e = ap (λ (b : Best). b .head) (e ∙ ap bestOf (sym skipped)) ∙ best-head (headAmong F t 32)

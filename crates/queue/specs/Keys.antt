@@ -8,7 +8,7 @@ use Rattle.queue.specs.declared.Best.{Best}
 
 -- a number and an initiator that a key has room for
 abbrev pub InKey : ℕ → ℕ → Type 0
-InKey number initiator = (number < 65536) × (initiator < 16)
+InKey number initiator = (number < 4294967296) × (initiator < 16)
 
 -- of two messages, the one with the smaller key stands first
 abbrev pub keyOf : ℕ → ℕ → ℕ

@@ -1,21 +1,30 @@
 -- THE ROOMS OF THE HELD MESSAGES, and one of them or none in a word.
+use mathlib.Core.Path.{_≡_}
 use mathlib.Core.Bool.{cond}
 use mathlib.Core.List.{List, []}
 use mathlib.Core.Option.{Option, none, some}
-use Prim.Native.Nat.{ℕ, _≤_}
-use lib.Dec.{ltb}
+use Prim.Native.Nat.{ℕ, _/_, _<_, _≤_}
 use lib.ListN.{length}
-use Rattle.protocol.specs.Floor.{Floor}
-use Rattle.messages.specs.View.{tableWords}
+use lib.Dec.{ltb}
+use Rattle.protocol.specs.Floor.{Floor, wholeFloor}
+use Rattle.messages.specs.View.{HasRoom}
 use Rattle.view.specs.View.{lent, floorIn}
 
 -- the floor that the stations and the messages say: a queue and a catch-up ask for no other part
 abbrev pub tablesFloor : List ℕ → List ℕ → Floor
-tablesFloor stations messages = floorIn (lent stations [] messages [] [])
+tablesFloor stations messages = floorIn (lent wholeFloor stations [] messages [] [])
 
--- "At most 32 held messages": the table has a row for each room
+-- how many rooms the messages' table has
+abbrev pub roomCount : List ℕ → ℕ
+roomCount messages = length messages / 6
+
+-- no more than a station's row has words for
 abbrev pub HasRooms : List ℕ → Type 0
-HasRooms messages = tableWords ≤ length messages
+HasRooms messages = roomCount messages ≤ 32
+
+-- the messages' table has a row for each room that has an entry in the queue at t
+abbrev pub QueueRooms : List ℕ → List ℕ → ℕ → Type 0
+QueueRooms stations messages t = (m : ℕ) → m < 32 → (tablesFloor stations messages .queue m t ≡ 0 → ⊥) → HasRoom messages m
 
 -- a room, or none, in a word: 32 is none
 abbrev pub roomCode : Option ℕ → ℕ

@@ -3,12 +3,11 @@ use ids::Station;
 ghost use mathlib.Core.Path.{_≡_};
 ghost use Prim.Native.Nat.{_<_};
 ghost use Rattle.protocol.specs.CartSets.{minus};
-ghost use Rattle.protocol.specs.Floor.{limits};
-ghost use Rattle.protocol.specs.Wireless.{queueHead};
+ghost use Rattle.protocol.specs.Wireless.{headAmong};
 ghost use Rattle.cartset.specs.Masks.{disjoint};
 ghost use Rattle.stations.specs.View.{rooms, HasStation, stationsIn};
 ghost use Rattle.messages.specs.View.{HasRoom, roomsIn};
-ghost use Rattle.queue.specs.Rooms.{tablesFloor, HasRooms, roomCode};
+ghost use Rattle.queue.specs.Rooms.{tablesFloor, QueueRooms, roomCode};
 ghost use Rattle.queue.specs.Keys.{InKey, keyOf, Keyed, firstOf, bestWith};
 
 // "At most 32 held messages": as many rooms.
@@ -45,7 +44,7 @@ fn first_of(best: Best, m: usize, key: u64) -> Best
 
 // The first once room m is looked at too. "A queue has one entry per message": an empty entry is none.
 fn best_with(stations: &[u64], messages: &[u64], station: Station, m: usize, best: Best) -> Best
-    requires { ⌜ HasStation (now stations) (station .0) × HasRooms (now messages) × (m < rooms) × Keyed (tablesFloor (now stations) (now messages)) (station .0) ⌝ }
+    requires { ⌜ HasStation (now stations) (station .0) × QueueRooms (now stations) (now messages) (station .0) × (m < rooms) × Keyed (tablesFloor (now stations) (now messages)) (station .0) ⌝ }
     ensures { λ r. ⌜ r ≡ bestWith (tablesFloor (now (stations .entry)) (now (messages .entry))) (station .0) m best ⌝ }
 {
     if stations::queue_of(stations, m, station) == 0 {
@@ -56,8 +55,8 @@ fn best_with(stations: &[u64], messages: &[u64], station: Station, m: usize, bes
 
 // "the head message of the queue": its room, or none. Only rooms that have an entry are looked at.
 pub fn head(stations: &[u64], messages: &[u64], station: Station) -> usize
-    requires { ⌜ HasStation (now stations) (station .0) × HasRooms (now messages) × Keyed (tablesFloor (now stations) (now messages)) (station .0) ⌝ }
-    ensures { λ r. ⌜ r ≡ roomCode (queueHead limits (tablesFloor (now (stations .entry)) (now (messages .entry))) (station .0)) ⌝ }
+    requires { ⌜ HasStation (now stations) (station .0) × QueueRooms (now stations) (now messages) (station .0) × Keyed (tablesFloor (now stations) (now messages)) (station .0) ⌝ }
+    ensures { λ r. ⌜ r ≡ roomCode (headAmong (tablesFloor (now (stations .entry)) (now (messages .entry))) (station .0) 32) ⌝ }
 {
     let mut best = Best {
         head: NONE,

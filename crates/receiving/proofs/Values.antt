@@ -8,10 +8,10 @@ use types.Run.{OneOf, miss}
 use Rattle.protocol.specs.Events.{refused}
 use Rattle.ids.specs.declared.Station.{Station}
 use Rattle.ids.specs.declared.MessageNumber.{MessageNumber}
-use Rattle.messages.specs.Texts.{longest}
+use Rattle.messages.specs.Texts.{longest, HasText}
 use Rattle.receiving.specs.declared.Handing.{Handing}
 use Rattle.receiving.specs.declared.Handing.the-variants.{Refused, Over}
-use Rattle.receiving.specs.Handing.{handingIn, refusalOfHanding, Fits}
+use Rattle.receiving.specs.Handing.{handingIn, refusalOfHanding, Fits, HasPart}
 use Rattle.receiving.proofs.Handing.{the-type as handing-type}
 
 -- what is no message handed over is the refusal of its number
@@ -23,3 +23,8 @@ module _ (buffer : ℕ) (h : Handing) (m size : ℕ) (s : Station) (n : MessageN
   -- the room and the octets of a message that was handed over
   pub over-fits : (m < 32) × (size ≤ longest) × (size ≤ buffer)
   over-fits = subst (Fits buffer) is fits
+
+module _ (T : List ℕ) (h : Handing) (m size : ℕ) (s : Station) (n : MessageNumber) (p w : ℕ) (is : h ≡ Over m size s n p w) (part : HasPart T h) where
+  -- and its part
+  pub over-part : HasText T m
+  over-part = subst (HasPart T) is part

@@ -3,7 +3,8 @@ use mathlib.Core.List.{List, []}
 use Prim.Native.Nat.{ℕ, _≤_, _<_}
 use Rattle.protocol.specs.Events.{refused}
 use Rattle.protocol.specs.Events as events
-use Rattle.messages.specs.Texts.{longest, textIn}
+use lib.ListN.{length}
+use Rattle.messages.specs.Texts.{longest, HasText, textIn}
 use Rattle.answers.specs.Answers.{says, refusalNumber}
 use Rattle.receiving.specs.declared.Handing.{Handing}
 use Rattle.receiving.specs.declared.Handing.the-variants.{Refused, Over}
@@ -22,3 +23,8 @@ refusalOfHanding h = refusalNumber (handingIn [] h)
 abbrev pub Fits : ℕ → Handing → Type 0
 Fits buffer (Refused r) = 0 ≤ buffer
 Fits buffer (Over m size s n p w) = (m < 32) × (size ≤ longest) × (size ≤ buffer)
+
+-- and these octets have a part for it
+abbrev pub HasPart : List ℕ → Handing → Type 0
+HasPart texts (Refused r) = 0 ≤ length texts
+HasPart texts (Over m size s n p w) = HasText texts m

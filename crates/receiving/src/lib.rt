@@ -5,18 +5,16 @@ use ids::CartNumber;
 use ids::MessageNumber;
 use ids::Station;
 ghost use mathlib.Core.Path.{_≡_};
-ghost use mathlib.Core.Bool.{true};
-ghost use Prim.Native.Nat.{_≤_, _<_};
+ghost use Prim.Native.Nat.{_*_, _≤_, _<_};
 ghost use lib.ListN.{length};
-ghost use Rattle.protocol.specs.Floor.{limits};
 ghost use Rattle.protocol.specs.Events.{radio};
-ghost use Rattle.protocol.specs.Form.{passesForm};
-ghost use Rattle.stations.specs.View.{HasStation, headIn};
-ghost use Rattle.view.specs.View.{lent, floorIn};
-ghost use Rattle.queue.specs.Rooms.{HasRooms, roomIn};
-ghost use Rattle.answers.specs.Met.{Met};
+ghost use Rattle.stations.specs.View.{HasHead, HasStation, headIn};
+ghost use Rattle.messages.specs.View.{HasRoom};
+ghost use Rattle.view.specs.View.{lent};
+ghost use Rattle.queue.specs.Rooms.{roomIn};
+ghost use Rattle.answers.specs.Met.{Passing, MetByEach};
 ghost use Rattle.receiving.specs.Checks.{notHere, notServed};
-ghost use Rattle.receiving.specs.Handing.{handingIn, refusalOfHanding, Fits};
+ghost use Rattle.receiving.specs.Handing.{handingIn, refusalOfHanding, Fits, HasPart};
 
 // What a radio step comes to: a refusal's number, or the message that was handed over: its room, how many octets its text has, its initiator
 // and number, p and w. The text stays in its room's part of the lent octets: `messages::copy_text` "writes the text at the front of the lent
@@ -38,7 +36,7 @@ pub fn refusal(handing: Handing) -> u64
 
 // 8, 9 or 16, or 0. "cart is not at this station (leaving counts as not at)".
 fn not_here(stations: &[u64], carts: &[u64], station: Station, cart: CartNumber) -> u64
-    requires { ⌜ (length (now stations) ≡ 1972) × (length (now carts) ≡ 1216) × (headIn (now stations) .carts ≤ 64) ⌝ }
+    requires { ⌜ HasHead (now stations) × (headIn (now stations) .carts * 19 ≤ length (now carts)) ⌝ }
     ensures { λ r. ⌜ r ≡ notHere (now (stations .entry)) (now (carts .entry)) (station .0) (cart .0) ⌝ }
 {
     if stations::station_count(stations) <= station.0 {
@@ -64,7 +62,7 @@ fn not_served(
     buffer: usize,
     head: usize,
 ) -> u64
-    requires { ⌜ HasStation (now stations) (station .0) × HasRooms (now messages) × (cart .0 < 64) × (head ≤ 32) ⌝ }
+    requires { ⌜ HasStation (now stations) (station .0) × (head < 32 → HasRoom (now messages) head) × (cart .0 < 64) × (head ≤ 32) ⌝ }
     ensures { λ r. ⌜ r ≡ notServed (now (stations .entry)) (now (messages .entry)) (station .0) (cart .0) buffer (roomIn head) ⌝ }
 {
     if head == queue::NONE {
@@ -92,9 +90,10 @@ pub fn radio(
     cart: CartNumber,
     buffer: usize,
 ) -> Handing
-    requires { ⌜ passesForm limits (floorIn (lent (now stations) (now carts) (now messages) (now lines) (now texts))) ≡ true ⌝ }
-    ensures { λ h. ⌜ Met (lent (now (stations .entry)) (now (carts .entry)) (now (messages .entry)) (now (lines .entry)) (now (texts .entry))) (lent (now (stations .exit)) (now (carts .exit)) (now (messages .entry)) (now (lines .exit)) (now (texts .entry))) (radio (station .0) (cart .0) buffer) (handingIn (now (texts .entry)) h) ⌝ }
+    requires { ⌜ Passing (λ P. lent P (now stations) (now carts) (now messages) (now lines) (now texts)) ⌝ }
+    ensures { λ h. ⌜ MetByEach (λ P. lent P (now (stations .entry)) (now (carts .entry)) (now (messages .entry)) (now (lines .entry)) (now (texts .entry))) (λ P. lent P (now (stations .exit)) (now (carts .exit)) (now (messages .entry)) (now (lines .exit)) (now (texts .entry))) (radio (station .0) (cart .0) buffer) (handingIn (now (texts .entry)) h) ⌝ }
     ensures { λ h. ⌜ Fits buffer h ⌝ }
+    ensures { λ h. ⌜ HasPart (now (texts .entry)) h ⌝ }
 {
     let elsewhere = not_here(stations, carts, station, cart);
     if elsewhere != 0 {

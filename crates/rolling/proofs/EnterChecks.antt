@@ -7,7 +7,7 @@ use Prim.Native.Nat.{ℕ, _≤_, _<_}
 use borrow.Author.Tests.{le-leb, lt-leb}
 use denote.Enum.Declared.{tagOf}
 use types.Run.{OneOf, miss}
-use Rattle.protocol.specs.Floor.{Floor, limits, entered}
+use Rattle.protocol.specs.Floor.{Product, Floor, limitsOf, entered}
 use Rattle.protocol.specs.Events.{enter}
 use Rattle.protocol.specs.Refusals.{check, refusalIf}
 use Rattle.stations.specs.View.{headIn}
@@ -18,21 +18,21 @@ use Rattle.carts.specs.View.{cartsIn}
 use Rattle.carts.proofs.Place.{the-type as place-type}
 use Rattle.view.specs.View.{lent, floorIn}
 
-module _ (S C : List ℕ) (t c : ℕ) (M W T : List ℕ) where
+module _ (S C : List ℕ) (t c : ℕ) (P : Product) (M W T : List ℕ) where
   abbrev F : Floor
-  F = floorIn (lent S C M W T)
+  F = floorIn (lent P S C M W T)
 
-  pub enter-no-station : headIn S .stations ≤ t → 8 ≡ refusalIf limits F false (enter t c)
+  pub enter-no-station : headIn S .stations ≤ t → 8 ≡ refusalIf (limitsOf P) F false (enter t c)
   unfolding refusalIf
   enter-no-station l = rw (le-leb (headIn S .stations) t l) refl
 
-  pub enter-no-cart : t < headIn S .stations → headIn S .carts ≤ c → 9 ≡ refusalIf limits F false (enter t c)
+  pub enter-no-cart : t < headIn S .stations → headIn S .carts ≤ c → 9 ≡ refusalIf (limitsOf P) F false (enter t c)
   unfolding refusalIf
   enter-no-cart lt l = rw (lt-leb (headIn S .stations) t lt, le-leb (headIn S .carts) c l) refl
 
   -- the place that the code met
   module _ (lt : t < headIn S .stations) (lc : c < headIn S .carts) (p : Place) (met : seen p ≡ cartsIn C .place c) where
-    pub enter-passes : OneOf (0 ∷ []) (tagOf place-type p) → 0 ≡ refusalIf limits F false (enter t c)
+    pub enter-passes : OneOf (0 ∷ []) (tagOf place-type p) → 0 ≡ refusalIf (limitsOf P) F false (enter t c)
     unfolding refusalIf
     enter-passes k = rw (lt-leb (headIn S .stations) t lt, lt-leb (headIn S .carts) c lc, sym met) (by-key p k)
       where
@@ -42,7 +42,7 @@ module _ (S C : List ℕ) (t c : ℕ) (M W T : List ℕ) where
         by-key (Leaving s u) k = absurd (miss (0 ∷ []) 2 tt k)
         by-key (Travelling s u) k = absurd (miss (0 ∷ []) 3 tt k)
 
-    pub enter-entered : OneOf (1 ∷ 2 ∷ 3 ∷ []) (tagOf place-type p) → 10 ≡ refusalIf limits F false (enter t c)
+    pub enter-entered : OneOf (1 ∷ 2 ∷ 3 ∷ []) (tagOf place-type p) → 10 ≡ refusalIf (limitsOf P) F false (enter t c)
     unfolding refusalIf
     enter-entered k = rw (lt-leb (headIn S .stations) t lt, lt-leb (headIn S .carts) c lc, sym met) (by-key p k)
       where

@@ -8,7 +8,7 @@ use native.Mathlib.Omega.{arith}
 use borrow.Author.Tests.{le-leb, lt-leb, eq-eqb, ne-eqb}
 use denote.Enum.Declared.{tagOf}
 use types.Run.{OneOf, miss}
-use Rattle.protocol.specs.Floor.{Floor, limits, outside, at, leaving, travelling, entered, moving, isAt}
+use Rattle.protocol.specs.Floor.{Product, Floor, limitsOf, outside, at, leaving, travelling, entered, moving, isAt}
 use Rattle.protocol.specs.Floor as floor
 use Rattle.protocol.specs.Events.{move}
 use Rattle.protocol.specs.Refusals.{check, refusalIf}
@@ -21,22 +21,22 @@ use Rattle.stations.specs.View.{headIn}
 use Rattle.carts.specs.View.{cartsIn}
 use Rattle.view.specs.View.{lent, floorIn}
 
-module _ (S C : List ℕ) (c to : ℕ) (M W T : List ℕ) where
+module _ (S C : List ℕ) (c to : ℕ) (P : Product) (M W T : List ℕ) where
   abbrev F : Floor
-  F = floorIn (lent S C M W T)
+  F = floorIn (lent P S C M W T)
 
-  pub move-no-station : headIn S .stations ≤ to → 8 ≡ refusalIf limits F false (move c to)
+  pub move-no-station : headIn S .stations ≤ to → 8 ≡ refusalIf (limitsOf P) F false (move c to)
   unfolding refusalIf
   move-no-station l = rw (le-leb (headIn S .stations) to l) refl
 
-  pub move-no-cart : to < headIn S .stations → headIn S .carts ≤ c → 9 ≡ refusalIf limits F false (move c to)
+  pub move-no-cart : to < headIn S .stations → headIn S .carts ≤ c → 9 ≡ refusalIf (limitsOf P) F false (move c to)
   unfolding refusalIf
   move-no-cart lt l = rw (lt-leb (headIn S .stations) to lt, le-leb (headIn S .carts) c l) refl
 
   module _ (lt : to < headIn S .stations) (lc : c < headIn S .carts) where
     -- the place that the code met
     module _ (p : Place) (met : seen p ≡ cartsIn C .place c) where
-      pub move-outside : OneOf (0 ∷ []) (tagOf place-type p) → 18 ≡ refusalIf limits F false (move c to)
+      pub move-outside : OneOf (0 ∷ []) (tagOf place-type p) → 18 ≡ refusalIf (limitsOf P) F false (move c to)
       unfolding refusalIf
       move-outside k = rw (lt-leb (headIn S .stations) to lt, lt-leb (headIn S .carts) c lc, sym met) (by-key p k)
         where
@@ -47,7 +47,7 @@ module _ (S C : List ℕ) (c to : ℕ) (M W T : List ℕ) where
           by-key (Leaving s t) k = absurd (miss (0 ∷ []) 2 tt k)
           by-key (Travelling s t) k = absurd (miss (0 ∷ []) 3 tt k)
 
-      pub move-leaving : OneOf (2 ∷ []) (tagOf place-type p) → 19 ≡ refusalIf limits F false (move c to)
+      pub move-leaving : OneOf (2 ∷ []) (tagOf place-type p) → 19 ≡ refusalIf (limitsOf P) F false (move c to)
       unfolding refusalIf
       move-leaving k = rw (lt-leb (headIn S .stations) to lt, lt-leb (headIn S .carts) c lc, sym met) (by-key p k)
         where
@@ -58,7 +58,7 @@ module _ (S C : List ℕ) (c to : ℕ) (M W T : List ℕ) where
           by-key (Leaving s t) k = refl
           by-key (Travelling s t) k = absurd (miss (2 ∷ []) 3 tt k)
 
-      pub move-travelling : OneOf (3 ∷ []) (tagOf place-type p) → 19 ≡ refusalIf limits F false (move c to)
+      pub move-travelling : OneOf (3 ∷ []) (tagOf place-type p) → 19 ≡ refusalIf (limitsOf P) F false (move c to)
       unfolding refusalIf
       move-travelling k = rw (lt-leb (headIn S .stations) to lt, lt-leb (headIn S .carts) c lc, sym met) (by-key p k)
         where
@@ -69,11 +69,11 @@ module _ (S C : List ℕ) (c to : ℕ) (M W T : List ℕ) where
           by-key (Leaving s t) k = absurd (miss (3 ∷ []) 2 tt k)
           by-key (Travelling s t) k = refl
 
-      pub move-there : (s : Station) → p ≡ At s → s .0 ≡ to → 20 ≡ refusalIf limits F false (move c to)
+      pub move-there : (s : Station) → p ≡ At s → s .0 ≡ to → 20 ≡ refusalIf (limitsOf P) F false (move c to)
       unfolding refusalIf
       move-there s q e = rw (lt-leb (headIn S .stations) to lt, lt-leb (headIn S .carts) c lc, sym met, q, eq-eqb (s .0) to e) refl
 
-      pub move-passes : (s : Station) → p ≡ At s → (s .0 ≡ to → ⊥) → 0 ≡ refusalIf limits F false (move c to)
+      pub move-passes : (s : Station) → p ≡ At s → (s .0 ≡ to → ⊥) → 0 ≡ refusalIf (limitsOf P) F false (move c to)
       unfolding refusalIf
       move-passes s q n = rw (lt-leb (headIn S .stations) to lt, lt-leb (headIn S .carts) c lc, sym met, q, ne-eqb (s .0) to n) refl
 

@@ -4,7 +4,7 @@ use mathlib.Core.Bool.{true, false}
 use mathlib.Core.List.{List, []}
 use Prim.Native.Nat.{ℕ, _<_}
 use native.Mathlib.Omega.{arith}
-use Rattle.protocol.specs.Floor.{limits, at}
+use Rattle.protocol.specs.Floor.{Product, limitsOf, at}
 use Rattle.protocol.specs.Events.{move}
 use Rattle.protocol.specs.Form.{passesForm}
 use Rattle.protocol.specs.Refusals.{refusalIf}
@@ -23,15 +23,15 @@ use Rattle.answers.specs.Answers.{says}
 use Rattle.answers.specs.Met.{Met}
 use Rattle.answers.proofs.Meets.{refusal-standing, meets-done}
 
-module _ (S C M W T : List ℕ) (c to : ℕ) (p : passesForm limits (floorIn (lent S C M W T)) ≡ true) (free : 0 ≡ refusalIf limits (floorIn (lent S C M W T)) false (move c to)) where
+module _ (P : Product) (S C M W T : List ℕ) (c to : ℕ) (p : passesForm (limitsOf P) (floorIn (lent P S C M W T)) ≡ true) (free : 0 ≡ refusalIf (limitsOf P) (floorIn (lent P S C M W T)) false (move c to)) where
   abbrev L : Lent
-  L = lent S C M W T
+  L = lent P S C M W T
 
   X : Standing L
   X = standing L p
 
   may : MayMove (floorIn L) c to
-  may = may-move limits (floorIn L) false c to (sym free)
+  may = may-move (limitsOf P) (floorIn L) false c to (sym free)
 
   pub has-row : HasRow C c
   has-row = let a = X .lengths .carts in let b = may .cart in let d = X .sized .counts .carts in omega arith
@@ -44,9 +44,9 @@ module _ (S C M W T : List ℕ) (c to : ℕ) (p : passesForm limits (floorIn (le
     pub move-asks : (HasRow C c × (c < 64) × (cartsIn C .place c ≡ at old)) × ((form W ≡ true) × (used W < capacity W) × (old < 16) × (to < 16))
     move-asks = (move-ready L X c to may old here, deregister-fits L X c to may old here)
 
-    pub meets-move : (C′ W′ : List ℕ) → Moved C C′ W W′ c old to → Met L (lent S C′ M W′ T) (move c to) (says 5 c to 0 1 [])
+    pub meets-move : (C′ W′ : List ℕ) → Moved C C′ W W′ c old to → Met L (lent P S C′ M W′ T) (move c to) (says 5 c to 0 1 [])
     unfolding accept
     meets-move C′ W′ moved =
         let a = move-asks in
-        meets-done L (move c to) (lent S C′ M W′ T) _ (refusal-standing L (move c to) p ∙ sym free)
+        meets-done L (move c to) (lent P S C′ M W′ T) _ (refusal-standing L (move c to) p ∙ sym free)
         (move-is S C C′ M W W′ T c old to X (a .0 .1) (a .1 .2) (a .1 .3) here moved) (sym (move-reports (floorIn L) c to))

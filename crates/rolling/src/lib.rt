@@ -7,23 +7,22 @@ use ids::Station;
 ghost use mathlib.Core.Path.{_≡_};
 ghost use mathlib.Core.Bool.{true, false};
 ghost use mathlib.Core.List.{List, []};
-ghost use Prim.Native.Nat.{ℕ, _≤_};
+ghost use Prim.Native.Nat.{ℕ, _*_, _≤_};
 ghost use lib.ListN.{length};
-ghost use Rattle.protocol.specs.Floor.{limits, at};
+ghost use Rattle.protocol.specs.Floor.{Product, limitsOf, at};
 ghost use Rattle.protocol.specs.Events.{enter, move};
-ghost use Rattle.protocol.specs.Form.{passesForm};
 ghost use Rattle.protocol.specs.Refusals.{refusalIf};
-ghost use Rattle.stations.specs.View.{headIn};
+ghost use Rattle.stations.specs.View.{HasHead, headIn};
 ghost use Rattle.carts.specs.Words.{HasRow};
 ghost use Rattle.carts.specs.View.{cartsIn};
 ghost use Rattle.view.specs.View.{lent, floorIn};
 ghost use Rattle.answers.specs.Answers.{answerIn};
-ghost use Rattle.answers.specs.Met.{Met};
+ghost use Rattle.answers.specs.Met.{Passing, MetByEach};
 
 // The refusal of an enter, 8 to 10, or 0.
 fn enter_refusal(stations: &[u64], carts: &[u64], station: Station, cart: CartNumber) -> u64
-    requires { ⌜ (length (now stations) ≡ 1972) × (length (now carts) ≡ 1216) × (headIn (now stations) .carts ≤ 64) ⌝ }
-    ensures { λ r. ⌜ ((M W T : List ℕ) → r ≡ refusalIf limits (floorIn (lent (now (stations .entry)) (now (carts .entry)) M W T)) false (enter (station .0) (cart .0))) ⌝ }
+    requires { ⌜ HasHead (now stations) × (headIn (now stations) .carts * 19 ≤ length (now carts)) ⌝ }
+    ensures { λ r. ⌜ ((P : Product) (M W T : List ℕ) → r ≡ refusalIf (limitsOf P) (floorIn (lent P (now (stations .entry)) (now (carts .entry)) M W T)) false (enter (station .0) (cart .0))) ⌝ }
 {
     if stations::station_count(stations) <= station.0 {
         return 8;
@@ -48,8 +47,8 @@ pub fn enter(
     station: Station,
     cart: CartNumber,
 ) -> Answer
-    requires { ⌜ passesForm limits (floorIn (lent (now stations) (now carts) (now messages) (now lines) (now texts))) ≡ true ⌝ }
-    ensures { λ a. ⌜ Met (lent (now (stations .entry)) (now (carts .entry)) (now (messages .entry)) (now (lines .entry)) (now (texts .entry))) (lent (now (stations .exit)) (now (carts .exit)) (now (messages .entry)) (now (lines .entry)) (now (texts .entry))) (enter (station .0) (cart .0)) (answerIn a []) ⌝ }
+    requires { ⌜ Passing (λ P. lent P (now stations) (now carts) (now messages) (now lines) (now texts)) ⌝ }
+    ensures { λ a. ⌜ MetByEach (λ P. lent P (now (stations .entry)) (now (carts .entry)) (now (messages .entry)) (now (lines .entry)) (now (texts .entry))) (λ P. lent P (now (stations .exit)) (now (carts .exit)) (now (messages .entry)) (now (lines .entry)) (now (texts .entry))) (enter (station .0) (cart .0)) (answerIn a []) ⌝ }
 {
     let refusal = enter_refusal(stations, carts, station, cart);
     if refusal != 0 {
@@ -61,8 +60,8 @@ pub fn enter(
 
 // The refusal of a move, 8, 9 and 18 to 20, or 0.
 fn move_refusal(stations: &[u64], carts: &[u64], cart: CartNumber, to: Station) -> u64
-    requires { ⌜ (length (now stations) ≡ 1972) × (length (now carts) ≡ 1216) × (headIn (now stations) .carts ≤ 64) ⌝ }
-    ensures { λ r. ⌜ ((M W T : List ℕ) → r ≡ refusalIf limits (floorIn (lent (now (stations .entry)) (now (carts .entry)) M W T)) false (move (cart .0) (to .0))) ⌝ }
+    requires { ⌜ HasHead (now stations) × (headIn (now stations) .carts * 19 ≤ length (now carts)) ⌝ }
+    ensures { λ r. ⌜ ((P : Product) (M W T : List ℕ) → r ≡ refusalIf (limitsOf P) (floorIn (lent P (now (stations .entry)) (now (carts .entry)) M W T)) false (move (cart .0) (to .0))) ⌝ }
 {
     if stations::station_count(stations) <= to.0 {
         return 8;
@@ -101,8 +100,8 @@ pub fn move_cart(
     cart: CartNumber,
     to: Station,
 ) -> Answer
-    requires { ⌜ passesForm limits (floorIn (lent (now stations) (now carts) (now messages) (now lines) (now texts))) ≡ true ⌝ }
-    ensures { λ a. ⌜ Met (lent (now (stations .entry)) (now (carts .entry)) (now (messages .entry)) (now (lines .entry)) (now (texts .entry))) (lent (now (stations .entry)) (now (carts .exit)) (now (messages .entry)) (now (lines .exit)) (now (texts .entry))) (move (cart .0) (to .0)) (answerIn a []) ⌝ }
+    requires { ⌜ Passing (λ P. lent P (now stations) (now carts) (now messages) (now lines) (now texts)) ⌝ }
+    ensures { λ a. ⌜ MetByEach (λ P. lent P (now (stations .entry)) (now (carts .entry)) (now (messages .entry)) (now (lines .entry)) (now (texts .entry))) (λ P. lent P (now (stations .entry)) (now (carts .exit)) (now (messages .entry)) (now (lines .exit)) (now (texts .entry))) (move (cart .0) (to .0)) (answerIn a []) ⌝ }
 {
     let refusal = move_refusal(stations, carts, cart, to);
     if refusal != 0 {

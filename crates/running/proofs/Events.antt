@@ -10,10 +10,11 @@ use lib.Seq.{take-take, drop-drop}
 use borrow.Author.Tests.{eqb-true, not-true, not-false}
 use denote.Enum.Declared.{tagOf}
 use types.Run.{OneOf}
-use Rattle.protocol.specs.Floor.{Floor, limits}
+use Rattle.protocol.specs.Floor.{Product, wholeFloor, limits, limitsOf, Floor}
 use Rattle.protocol.specs.Events.{start, enter, send, wire, radio, move, refused, accepted}
 use Rattle.protocol.specs.Events as events
 use Rattle.protocol.specs.Form.{passesForm}
+use Rattle.protocol.specs.Blank.{BlankBeyond}
 use Rattle.protocol.specs.Refusals.{refusal, refusalIf}
 use Rattle.protocol.specs.Step.{step, accept}
 use Rattle.protocol.proofs.Tests.{by-test, clash, on-cond}
@@ -24,6 +25,7 @@ use Rattle.protocol.proofs.Theorems.{form-unstarted}
 use Rattle.stations.specs.View.{HasHead, headIn}
 use Rattle.view.specs.View.{Lent, floorIn}
 use Rattle.view.proofs.Lengths.{lengths-of, nothing-beyond}
+use Rattle.view.proofs.Standing.{standing}
 use Rattle.frames.specs.declared.Event.{Event}
 use Rattle.frames.specs.declared.Event.the-variants.{Send}
 use Rattle.frames.specs.Decoded.{eventIn}
@@ -158,8 +160,10 @@ lengths-stay F e r =
     (λ b. first-lengths F (not (passesForm limits F)) (ap not (form-unstarted limits F s)) e (eqb-true (refusal limits F e) 0 b)) (λ b. r))
 
 -- the run can go on
-pub goes-on : (L L′ : Lent) (e : events.Event) (a : events.Answer) → Ready L → Met L L′ e a → Ready L′
-goes-on L L′ e a R met =
-    let again : protocol.Ready limits (floorIn L′) =
-    subst (λ (F : Floor). protocol.Ready limits F) (sym (met .floor)) (protocol.ready-step limits (floorIn L) e (λ s. (nothing-beyond L (lengths-of L (R .lengths)), R .passes s))) in
-    record { lengths = ap (λ (F : Floor). F .lengthsRight) (met .floor) ∙ lengths-stay (floorIn L) e (R .lengths); passes = λ s. again s .1 }
+pub goes-on : (L L′ : Lent) (e : events.Event) (a : events.Answer) → Ready L → L′ .product ≡ wholeFloor → Met L L′ e a → Ready L′
+goes-on L L′ e a R same met =
+    let floor : floorIn L′ ≡ step limits (floorIn L) e = met .floor ∙ ap (λ (P : Product). step (limitsOf P) (floorIn L) e) (R .whole) in
+    let passes : floorIn L .started ≡ true → passesForm (limitsOf (L .product)) (floorIn L) ≡ true = λ s. ap (λ (P : Product). passesForm (limitsOf P) (floorIn L)) (R .whole) ∙ R .passes s in
+    let blank : floorIn L .started ≡ true → BlankBeyond limits (floorIn L) = λ s. subst (λ (P : Product). BlankBeyond (limitsOf P) (floorIn L)) (R .whole) (nothing-beyond L (lengths-of L (R .lengths)) (standing L (passes s) .laid)) in
+    let again : protocol.Ready limits (floorIn L′) = subst (λ (F : Floor). protocol.Ready limits F) (sym floor) (protocol.ready-step limits (floorIn L) e (λ s. (blank s, R .passes s))) in
+    record { whole = same; lengths = ap (λ (F : Floor). F .lengthsRight) floor ∙ lengths-stay (floorIn L) e (R .lengths); passes = λ s. again s .1 }

@@ -2,12 +2,12 @@
 use mathlib.Core.Path.{_≡_, refl, sym, ap, _∙_}
 use mathlib.Core.Bool.{Bool, true, false, cond, _&&_}
 use mathlib.Core.List.{List}
-use Prim.Native.Nat.{ℕ, _+_, _-_, _≤_, _<_}
+use Prim.Native.Nat.{ℕ, _*_, _+_, _-_, _≤_, _<_}
 use native.Mathlib.Omega.{arith}
 use lib.Dec.{eqb, leb}
 use lib.ListN.{length}
 use borrow.Author.Tests.{eqb-true, eq-eqb, ne-eqb, leb-true, leb-false, le-leb, lt-leb}
-use Rattle.protocol.specs.Floor.{limits}
+use Rattle.protocol.specs.Floor.{Product, limits, limitsOf, mostRecords}
 use Rattle.protocol.specs.Frames.{readAt}
 use Rattle.protocol.proofs.Tests.{and-left, and-right, by-eq, by-lt}
 use Rattle.view.specs.View.{Lent, floorIn}
@@ -124,17 +124,20 @@ module _ (L L′ : Lent) (R : Ready L) (R′ : Ready L′) where
   abbrev a′ : Lengths L′
   a′ = lengths-of L′ (R′ .lengths)
 
+  same : L .product ≡ L′ .product
+  same = R .whole ∙ sym (R′ .whole)
+
   pub same-stations : length (L′ .stations) ≡ length (L .stations)
-  same-stations = a′ .stations ∙ sym (a .stations)
+  same-stations = a′ .stations ∙ ap (λ (P : Product). 116 + P .stations * 116) (sym same) ∙ sym (a .stations)
 
   pub same-carts : length (L′ .carts) ≡ length (L .carts)
-  same-carts = a′ .carts ∙ sym (a .carts)
+  same-carts = a′ .carts ∙ ap (λ (P : Product). P .carts * 19) (sym same) ∙ sym (a .carts)
 
   pub same-messages : length (L′ .messages) ≡ length (L .messages)
-  same-messages = a′ .messages ∙ sym (a .messages)
+  same-messages = a′ .messages ∙ ap (λ (P : Product). P .held * 6) (sym same) ∙ sym (a .messages)
 
   pub same-lines : length (L′ .lines) ≡ length (L .lines)
-  same-lines = a′ .lines ∙ sym (a .lines)
+  same-lines = a′ .lines ∙ ap (λ (P : Product). 818 + mostRecords (limitsOf P) * 3) (sym same) ∙ sym (a .lines)
 
   pub same-texts : length (L′ .texts) ≡ length (L .texts)
-  same-texts = a′ .texts ∙ sym (a .texts)
+  same-texts = a′ .texts ∙ ap (λ (P : Product). P .held * 32) (sym same) ∙ sym (a .texts)

@@ -3,7 +3,7 @@ use mathlib.Core.Path.{_≡_, refl, sym, ap, ap₂, _∙_, subst}
 use mathlib.Core.Bool.{Bool, true, false, not, cond, _&&_}
 use mathlib.Core.List.{List, [], _∷_, _++_}
 use Prim.{tt}
-use Prim.Native.Nat.{ℕ, suc, _+_, _≤_}
+use Prim.Native.Nat.{ℕ, _*_, suc, _+_, _≤_}
 use native.Mathlib.Omega.{arith}
 use lib.Dec.{eqb}
 use lib.ListN.{length, drop, length-append}
@@ -11,7 +11,7 @@ use borrow.Author.Tests.{eqb-true, eq-eqb, ne-eqb, not-true, not-false}
 use denote.Enum.Declared.{tagOf}
 use types.Run.{OneOf, miss}
 use Rattle.protocol.proofs.Tests.{and-left, and-right}
-use Rattle.protocol.specs.Floor.{Floor, limits}
+use Rattle.protocol.specs.Floor.{Product, wholeFloor, limits, limitsOf, Floor}
 use Rattle.protocol.specs.Events.{refused}
 use Rattle.protocol.specs.Events as events
 use Rattle.protocol.specs.Step.{step, answer}
@@ -36,17 +36,17 @@ use Rattle.running.proofs.Pieces.{more, onward, one-more}
 use Rattle.running.proofs.Events.{goes-on}
 
 pub texts-long : (L : Lent) → Ready L → length (L .texts) ≡ 1024
-texts-long L R = lengths-of L (R .lengths) .texts
+texts-long L R = lengths-of L (R .lengths) .texts ∙ ap (λ (P : Product). P .held * 32) (R .whole)
 
 -- the event that happened and the line that was printed
 pub took : (index : ℕ) (L L′ : Lent) (out out′ : List ℕ) (p r : Progress) (e : events.Event) (size : ℕ) (a : events.Answer)
-    → Ready L → Met L L′ e a → Wrote longestLine (lineOf index a) out out′ (p .written) (r .written)
+    → Ready L → L′ .product ≡ wholeFloor → Met L L′ e a → Wrote longestLine (lineOf index a) out out′ (p .written) (r .written)
     → r .read ≡ p .read + size → r .frames ≡ p .frames + 1 → r .state ≡ 0 → Took index L L′ out out′ p r e size
-took index L L′ out out′ p r e size a R met line read frames state =
+took index L L′ out out′ p r e size a R same met line read frames state =
     record {
-      ready = goes-on L L′ e a R met;
-      floor = met .floor;
-      line = subst (λ (x : events.Answer). Wrote longestLine (lineOf index x) out out′ (p .written) (r .written)) (met .answers) line;
+      ready = goes-on L L′ e a R same met;
+      floor = met .floor ∙ ap (λ (P : Product). step (limitsOf P) (floorIn L) e) (R .whole);
+      line = subst (λ (x : events.Answer). Wrote longestLine (lineOf index x) out out′ (p .written) (r .written)) (met .answers ∙ ap (λ (P : Product). answer (limitsOf P) (floorIn L) e) (R .whole)) line;
       read = read;
       frames = frames;
       state = state;

@@ -1,10 +1,11 @@
--- A FLOOR THAT A RUN CAN GO ON WITH: its lent parts have their lengths, and it passes the form rule if it is started.
+-- A FLOOR THAT A RUN CAN GO ON WITH: its lent parts are a whole floor's and have their lengths, and it passes the form rule if it is started.
 use mathlib.Core.Path.{_≡_}
 use mathlib.Core.Bool.{true}
-use Rattle.protocol.specs.Floor.{limits}
+use Rattle.protocol.specs.Floor.{wholeFloor, limits}
 use Rattle.protocol.specs.Form.{passesForm}
 use Rattle.view.specs.View.{Lent, lengthsIn, floorIn}
 
 pub record Ready (L : Lent) : Type 0 where
+  pub whole : L .product ≡ wholeFloor
   pub lengths : lengthsIn L ≡ true
   pub passes : floorIn L .started ≡ true → passesForm limits (floorIn L) ≡ true

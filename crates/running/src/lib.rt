@@ -13,6 +13,7 @@ ghost use mathlib.Core.List.{List, []};
 ghost use Prim.Native.Nat.{ℕ, _+_, _*_, _<_, _≤_};
 ghost use lib.Dec.{eqb, leb};
 ghost use lib.ListN.{length, drop};
+ghost use Rattle.protocol.specs.Floor.{wholeFloor};
 ghost use Rattle.protocol.specs.Events.{enter, send, wire, radio, move, refused};
 ghost use Rattle.protocol.specs.Printed.{decimal, restOf, lineOf};
 ghost use Rattle.stations.specs.View.{HasHead, headIn};
@@ -30,6 +31,9 @@ ghost use Rattle.running.specs.Went.{Took, Turned, Went};
 const FRAME: usize = 16;
 
 const TEXT: usize = 32;
+
+// "last number 65,534".
+const LAST: u64 = 65534;
 
 // The mark that says started.
 const STARTED: u64 = 1;
@@ -108,8 +112,8 @@ fn enter(
     station: Station,
     cart: CartNumber,
 ) -> Told
-    requires { ⌜ Ready (lent (now stations) (now carts) (now messages) (now lines) (now texts)) ⌝ }
-    ensures { λ r. ⌜ Within r × Met (lent (now (stations .entry)) (now (carts .entry)) (now (messages .entry)) (now (lines .entry)) (now (texts .entry))) (lent (now (stations .exit)) (now (carts .exit)) (now (messages .exit)) (now (lines .exit)) (now (texts .entry))) (enter (station .0) (cart .0)) (toldIn (now (texts .entry)) r) ⌝ }
+    requires { ⌜ Ready (lent wholeFloor (now stations) (now carts) (now messages) (now lines) (now texts)) ⌝ }
+    ensures { λ r. ⌜ Within r × Met (lent wholeFloor (now (stations .entry)) (now (carts .entry)) (now (messages .entry)) (now (lines .entry)) (now (texts .entry))) (lent wholeFloor (now (stations .exit)) (now (carts .exit)) (now (messages .exit)) (now (lines .exit)) (now (texts .entry))) (enter (station .0) (cart .0)) (toldIn (now (texts .entry)) r) ⌝ }
 {
     if !is_started(stations) {
         return plainly(Answer::Refused(NOT_STARTED));
@@ -128,14 +132,24 @@ fn send(
     set: u64,
     text: &[u8],
 ) -> Told
-    requires { ⌜ Ready (lent (now stations) (now carts) (now messages) (now lines) (now texts)) ⌝ }
+    requires { ⌜ Ready (lent wholeFloor (now stations) (now carts) (now messages) (now lines) (now texts)) ⌝ }
     requires { ⌜ length (now text) ≤ 32 ⌝ }
-    ensures { λ r. ⌜ Within r × Met (lent (now (stations .entry)) (now (carts .entry)) (now (messages .entry)) (now (lines .entry)) (now (texts .entry))) (lent (now (stations .exit)) (now (carts .exit)) (now (messages .exit)) (now (lines .exit)) (now (texts .exit))) (send (station .0) set (now (text .entry))) (toldIn (now (texts .exit)) r) ⌝ }
+    ensures { λ r. ⌜ Within r × Met (lent wholeFloor (now (stations .entry)) (now (carts .entry)) (now (messages .entry)) (now (lines .entry)) (now (texts .entry))) (lent wholeFloor (now (stations .exit)) (now (carts .exit)) (now (messages .exit)) (now (lines .exit)) (now (texts .exit))) (send (station .0) set (now (text .entry))) (toldIn (now (texts .exit)) r) ⌝ }
 {
     if !is_started(stations) {
         return plainly(Answer::Refused(NOT_STARTED));
     }
-    plainly(posting::send(stations, carts, messages, lines, texts, station, set, text))
+    plainly(posting::send(
+        stations,
+        carts,
+        messages,
+        lines,
+        texts,
+        station,
+        set,
+        text,
+        LAST,
+    ))
 }
 
 // "Wire (from, to)".
@@ -148,8 +162,8 @@ fn wire(
     from: Station,
     to: Station,
 ) -> Told
-    requires { ⌜ Ready (lent (now stations) (now carts) (now messages) (now lines) (now texts)) ⌝ }
-    ensures { λ r. ⌜ Within r × Met (lent (now (stations .entry)) (now (carts .entry)) (now (messages .entry)) (now (lines .entry)) (now (texts .entry))) (lent (now (stations .exit)) (now (carts .exit)) (now (messages .exit)) (now (lines .exit)) (now (texts .entry))) (wire (from .0) (to .0)) (toldIn (now (texts .entry)) r) ⌝ }
+    requires { ⌜ Ready (lent wholeFloor (now stations) (now carts) (now messages) (now lines) (now texts)) ⌝ }
+    ensures { λ r. ⌜ Within r × Met (lent wholeFloor (now (stations .entry)) (now (carts .entry)) (now (messages .entry)) (now (lines .entry)) (now (texts .entry))) (lent wholeFloor (now (stations .exit)) (now (carts .exit)) (now (messages .exit)) (now (lines .exit)) (now (texts .entry))) (wire (from .0) (to .0)) (toldIn (now (texts .entry)) r) ⌝ }
 {
     if !is_started(stations) {
         return plainly(Answer::Refused(NOT_STARTED));
@@ -167,8 +181,8 @@ fn radio(
     station: Station,
     cart: CartNumber,
 ) -> Told
-    requires { ⌜ Ready (lent (now stations) (now carts) (now messages) (now lines) (now texts)) ⌝ }
-    ensures { λ r. ⌜ Within r × Met (lent (now (stations .entry)) (now (carts .entry)) (now (messages .entry)) (now (lines .entry)) (now (texts .entry))) (lent (now (stations .exit)) (now (carts .exit)) (now (messages .exit)) (now (lines .exit)) (now (texts .entry))) (radio (station .0) (cart .0) 32) (toldIn (now (texts .entry)) r) ⌝ }
+    requires { ⌜ Ready (lent wholeFloor (now stations) (now carts) (now messages) (now lines) (now texts)) ⌝ }
+    ensures { λ r. ⌜ Within r × Met (lent wholeFloor (now (stations .entry)) (now (carts .entry)) (now (messages .entry)) (now (lines .entry)) (now (texts .entry))) (lent wholeFloor (now (stations .exit)) (now (carts .exit)) (now (messages .exit)) (now (lines .exit)) (now (texts .entry))) (radio (station .0) (cart .0) 32) (toldIn (now (texts .entry)) r) ⌝ }
 {
     if !is_started(stations) {
         return plainly(Answer::Refused(NOT_STARTED));
@@ -186,8 +200,8 @@ fn move_cart(
     cart: CartNumber,
     to: Station,
 ) -> Told
-    requires { ⌜ Ready (lent (now stations) (now carts) (now messages) (now lines) (now texts)) ⌝ }
-    ensures { λ r. ⌜ Within r × Met (lent (now (stations .entry)) (now (carts .entry)) (now (messages .entry)) (now (lines .entry)) (now (texts .entry))) (lent (now (stations .exit)) (now (carts .exit)) (now (messages .exit)) (now (lines .exit)) (now (texts .entry))) (move (cart .0) (to .0)) (toldIn (now (texts .entry)) r) ⌝ }
+    requires { ⌜ Ready (lent wholeFloor (now stations) (now carts) (now messages) (now lines) (now texts)) ⌝ }
+    ensures { λ r. ⌜ Within r × Met (lent wholeFloor (now (stations .entry)) (now (carts .entry)) (now (messages .entry)) (now (lines .entry)) (now (texts .entry))) (lent wholeFloor (now (stations .exit)) (now (carts .exit)) (now (messages .exit)) (now (lines .exit)) (now (texts .entry))) (move (cart .0) (to .0)) (toldIn (now (texts .entry)) r) ⌝ }
 {
     if !is_started(stations) {
         return plainly(Answer::Refused(NOT_STARTED));
@@ -218,10 +232,10 @@ fn happen(
     numbers: &[u64],
     index: u64,
 ) -> Happened
-    requires { ⌜ Ready (lent (now stations) (now carts) (now messages) (now lines) (now texts)) ⌝ }
+    requires { ⌜ Ready (lent wholeFloor (now stations) (now carts) (now messages) (now lines) (now texts)) ⌝ }
     requires { ⌜ (at + sizeOf e ≤ length (now input)) × (sizeOf e ≤ 48) ⌝ }
     requires { ⌜ (line + 20 ≤ length (now output)) × Tabled (now numbers) ⌝ }
-    ensures { λ r. ⌜ Within (r .told) × Met (lent (now (stations .entry)) (now (carts .entry)) (now (messages .entry)) (now (lines .entry)) (now (texts .entry))) (lent (now (stations .exit)) (now (carts .exit)) (now (messages .exit)) (now (lines .exit)) (now (texts .exit))) (eventIn (drop at (now (input .entry))) e) (toldIn (now (texts .exit)) (r .told)) ⌝ }
+    ensures { λ r. ⌜ Within (r .told) × Met (lent wholeFloor (now (stations .entry)) (now (carts .entry)) (now (messages .entry)) (now (lines .entry)) (now (texts .entry))) (lent wholeFloor (now (stations .exit)) (now (carts .exit)) (now (messages .exit)) (now (lines .exit)) (now (texts .exit))) (eventIn (drop at (now (input .entry))) e) (toldIn (now (texts .exit)) (r .told)) ⌝ }
     ensures { λ r. ⌜ Began 3 20 (decimal index) (now (output .entry)) (now (output .exit)) line (r .next) ⌝ }
 {
     match e {
@@ -332,10 +346,10 @@ fn take_event(
     p: Progress,
     e: Event,
 ) -> Progress
-    requires { ⌜ Ready (lent (now stations) (now carts) (now messages) (now lines) (now texts)) ⌝ }
+    requires { ⌜ Ready (lent wholeFloor (now stations) (now carts) (now messages) (now lines) (now texts)) ⌝ }
     requires { ⌜ (p .read + sizeOf e ≤ length (now input)) × (sizeOf e ≤ 48) × (p .written + lineRoom ≤ length (now output)) ⌝ }
     requires { ⌜ (p .frames ≤ p .read) × (length (now input) + 1 < 18446744073709551616) × Tabled (now numbers) ⌝ }
-    ensures { λ r. ⌜ Took index (lent (now (stations .entry)) (now (carts .entry)) (now (messages .entry)) (now (lines .entry)) (now (texts .entry))) (lent (now (stations .exit)) (now (carts .exit)) (now (messages .exit)) (now (lines .exit)) (now (texts .exit))) (now (output .entry)) (now (output .exit)) p r (eventIn (drop (p .read) (now (input .entry))) e) (sizeOf e) ⌝ }
+    ensures { λ r. ⌜ Took index (lent wholeFloor (now (stations .entry)) (now (carts .entry)) (now (messages .entry)) (now (lines .entry)) (now (texts .entry))) (lent wholeFloor (now (stations .exit)) (now (carts .exit)) (now (messages .exit)) (now (lines .exit)) (now (texts .exit))) (now (output .entry)) (now (output .exit)) p r (eventIn (drop (p .read) (now (input .entry))) e) (sizeOf e) ⌝ }
 {
     let happened = happen(
         stations,
@@ -390,10 +404,10 @@ fn take_frame(
     p: Progress,
     last: bool,
 ) -> Progress
-    requires { ⌜ Ready (lent (now stations) (now carts) (now messages) (now lines) (now texts)) ⌝ }
+    requires { ⌜ Ready (lent wholeFloor (now stations) (now carts) (now messages) (now lines) (now texts)) ⌝ }
     requires { ⌜ (p .state ≡ 0) × (p .read ≤ length (now input)) × (p .written + lineRoom ≤ length (now output)) ⌝ }
     requires { ⌜ (p .frames ≤ p .read) × (length (now input) + 1 < 18446744073709551616) × Tabled (now numbers) ⌝ }
-    ensures { λ r. ⌜ Turned (now (input .entry)) index last (lent (now (stations .entry)) (now (carts .entry)) (now (messages .entry)) (now (lines .entry)) (now (texts .entry))) (lent (now (stations .exit)) (now (carts .exit)) (now (messages .exit)) (now (lines .exit)) (now (texts .exit))) (now (output .entry)) (now (output .exit)) p r ⌝ }
+    ensures { λ r. ⌜ Turned (now (input .entry)) index last (lent wholeFloor (now (stations .entry)) (now (carts .entry)) (now (messages .entry)) (now (lines .entry)) (now (texts .entry))) (lent wholeFloor (now (stations .exit)) (now (carts .exit)) (now (messages .exit)) (now (lines .exit)) (now (texts .exit))) (now (output .entry)) (now (output .exit)) p r ⌝ }
 {
     let reading = frames::frame_at(input, p.read);
     match reading {
@@ -447,9 +461,9 @@ pub fn take_frames(
     index: u64,
     last: bool,
 ) -> Progress
-    requires { ⌜ Ready (lent (now stations) (now carts) (now messages) (now lines) (now texts)) × Tabled (now numbers) ⌝ }
+    requires { ⌜ Ready (lent wholeFloor (now stations) (now carts) (now messages) (now lines) (now texts)) × Tabled (now numbers) ⌝ }
     requires { ⌜ index + length (now input) + 1 < 18446744073709551616 ⌝ }
-    ensures { λ p. ⌜ Went (now (input .entry)) index last (lent (now (stations .entry)) (now (carts .entry)) (now (messages .entry)) (now (lines .entry)) (now (texts .entry))) (lent (now (stations .exit)) (now (carts .exit)) (now (messages .exit)) (now (lines .exit)) (now (texts .exit))) (now (output .entry)) (now (output .exit)) p ⌝ }
+    ensures { λ p. ⌜ Went (now (input .entry)) index last (lent wholeFloor (now (stations .entry)) (now (carts .entry)) (now (messages .entry)) (now (lines .entry)) (now (texts .entry))) (lent wholeFloor (now (stations .exit)) (now (carts .exit)) (now (messages .exit)) (now (lines .exit)) (now (texts .exit))) (now (output .entry)) (now (output .exit)) p ⌝ }
 {
     let mut p = Progress {
         read: 0,

@@ -3,17 +3,18 @@ use mathlib.Core.Path.{_≡_, sym, ap, _∙_}
 use mathlib.Core.Bool.{Bool, true, false}
 use mathlib.Core.Option.{Option, none, some}
 use mathlib.Core.List.{List}
-use Prim.Native.Nat.{ℕ, _+_, _≤_, _<_}
+use Prim.Native.Nat.{ℕ, _+_, _≤_, _<_, _*_}
 use native.Mathlib.Omega.{arith}
+use lib.ListN.{length}
 use lib.Dec.{eqb}
 use borrow.Author.Tests.{eq-eqb, ne-eqb}
 use Rattle.protocol.specs.Folds.{first, isNone}
-use Rattle.protocol.specs.Floor.{limits}
+use Rattle.protocol.specs.Floor.{Limits, limitsOf}
 use Rattle.protocol.specs.Wired.{freeRoom}
 use Rattle.protocol.proofs.Tests.{by-lt, by-eq, by-option, clash, first-some, first-none, first-least}
 use Rattle.messages.specs.View.{roomsIn}
 use Rattle.view.specs.View.{Lent, floorIn}
-use Rattle.queue.specs.Rooms.{roomCode}
+use Rattle.queue.specs.Rooms.{roomCount, roomCode}
 use Rattle.sending.specs.Rooms.{firstFree}
 
 -- FIRST
@@ -48,40 +49,45 @@ module _ (messages : List ℕ) (m : ℕ) where
       by-eq k m (λ q. ap (isFree messages) q ∙ ne-eqb (roomsIn messages .waiting m) 0 (λ z. waits (e ∙ z))) (λ q. before k (omega arith))
 
   -- room m is free
-  pub free-here : (w : ℕ) → w ≡ roomsIn messages .waiting m → w ≡ 0 → m < 32 → TakenTo messages m → m ≡ firstFree messages
+  pub free-here : (w : ℕ) → w ≡ roomsIn messages .waiting m → w ≡ 0 → m < roomCount messages → TakenTo messages m → m ≡ firstFree messages
   unfolding firstFree
   free-here w e nobody l before =
-      sym (ap roomCode (found-first 32 (isFree messages) m l (eq-eqb (roomsIn messages .waiting m) 0 (sym e ∙ nobody)) before))
+      sym (ap roomCode (found-first (roomCount messages) (isFree messages) m l (eq-eqb (roomsIn messages .waiting m) 0 (sym e ∙ nobody)) before))
 
   -- no room is
-  pub free-nowhere : m ≤ 32 → 32 ≤ m → TakenTo messages m → m ≡ firstFree messages
+  pub free-nowhere : roomCount messages ≤ m → TakenTo messages m → 32 ≡ firstFree messages
   unfolding firstFree
-  free-nowhere l g before =
-      let z : m ≡ 32 = omega arith in
-      z ∙ sym (ap roomCode (found-none 32 (isFree messages) (λ k h. before k (omega arith))))
+  free-nowhere g before = sym (ap roomCode (found-none (roomCount messages) (isFree messages) (λ k h. before k (omega arith))))
 
 -- so of the floor that the lent parts say
-module _ (L : Lent) (m : ℕ) (e : m ≡ firstFree (L .messages)) where
-  pub room-found : m < 32 → freeRoom limits (floorIn L) ≡ some m
-  unfolding freeRoom firstFree
-  room-found l =
-      by-option (freeRoom limits (floorIn L))
-      (λ q. absurd (let z : m ≡ 32 = e ∙ ap roomCode q in omega arith))
-      (λ k q. let z : m ≡ k = e ∙ ap roomCode q in q ∙ ap some (sym z))
+module _ (L : Lent) (m : ℕ) (e : m ≡ firstFree (L .messages)) (sizes : length (L .messages) ≡ L .product .held * 6) where
+  abbrev N : Limits
+  N = limitsOf (L .product)
 
-  pub none-found : 32 ≤ m → freeRoom limits (floorIn L) ≡ none
+  same : m ≡ roomCode (freeRoom N (floorIn L))
   unfolding freeRoom firstFree
+  same =
+      let z : roomCount (L .messages) ≡ L .product .held = (omega arith) in
+      e ∙ ap (λ (k : ℕ). roomCode (first k (isFree (L .messages)))) z
+
+  pub room-found : m < 32 → freeRoom N (floorIn L) ≡ some m
+  room-found l =
+      by-option (freeRoom N (floorIn L))
+      (λ q. absurd (let z : m ≡ 32 = same ∙ ap roomCode q in omega arith))
+      (λ k q. let z : m ≡ k = same ∙ ap roomCode q in q ∙ ap some (sym z))
+
+  pub none-found : 32 ≤ m → freeRoom N (floorIn L) ≡ none
+  unfolding freeRoom
   none-found g =
-      by-option (freeRoom limits (floorIn L))
+      by-option (freeRoom N (floorIn L))
       (λ q. q)
-      (λ k q. absurd (let z : m ≡ k = e ∙ ap roomCode q in let y = first-some 32 (isFree (L .messages)) k q in omega (arith, y .0)))
+      (λ k q. absurd (let z : m ≡ k = same ∙ ap roomCode q in let y = first-some (L .product .held) (isFree (L .messages)) k q in let w = L .product .held-fit in omega (arith, y .0)))
 
   all-taken : 32 ≤ m → m ≡ 32
-  unfolding freeRoom firstFree
-  all-taken g = e ∙ ap roomCode (none-found g)
+  all-taken g = same ∙ ap roomCode (none-found g)
 
   -- the test of refusal 14
-  pub none-is-32 : isNone (freeRoom limits (floorIn L)) ≡ eqb m 32
+  pub none-is-32 : isNone (freeRoom N (floorIn L)) ≡ eqb m 32
   none-is-32 =
       by-lt m 32
       (λ l. ap (λ (o : Option ℕ). isNone o) (room-found l) ∙ sym (ne-eqb m 32 (omega arith)))

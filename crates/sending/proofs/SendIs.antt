@@ -10,7 +10,7 @@ use lib.ListN.{length}
 use borrow.Author.Tests.{eqb-true, ne-eqb, not-true}
 use Rattle.protocol.specs.Folds.{update}
 use Rattle.protocol.specs.CartSets.{has, setOf}
-use Rattle.protocol.specs.Floor.{Floor, limits, Record, multicast, put, toEvery}
+use Rattle.protocol.specs.Floor.{Floor, Product, limitsOf, Record, multicast, put, toEvery}
 use Rattle.protocol.specs.Events.{send, done}
 use Rattle.protocol.specs.Wired.{freeRoom, withMessage, onSend}
 use Rattle.protocol.specs.Step.{step}
@@ -30,7 +30,7 @@ use Rattle.view.specs.View.{Lent, lent, everyWord, textsIn, floorOf, floorIn}
 use Rattle.view.proofs.Lengths.{Lengths, lengths-right}
 use Rattle.view.proofs.Laid.{Laid, words-right, laid-stations, laid-texts, laid-messages}
 use Rattle.view.proofs.RecordWords.{multicast-is, multicast-right}
-use Rattle.view.proofs.Standing.{Standing}
+use Rattle.view.proofs.Standing.{Standing, few-stations}
 use Rattle.everyline.proofs.EveryView.{every-view, laid-every}
 use Rattle.sending.specs.Sent.{Sent}
 use Rattle.sending.proofs.SendRoom.{send-step}
@@ -75,18 +75,18 @@ waits-for-all n s l =
     (λ e. e)
 
 -- no text is longer than its part: beyond the rooms none is there
-short-texts : (M : List ℕ) → length M ≡ 192 → ((k : ℕ) → k < 32 → roomsIn M .length k ≤ 32) → (k : ℕ) → roomsIn M .length k ≤ 32
+short-texts : (h : ℕ) (M : List ℕ) → length M ≡ h * 6 → ((k : ℕ) → k < h → roomsIn M .length k ≤ 32) → (k : ℕ) → roomsIn M .length k ≤ 32
 unfolding roomsIn
-short-texts M whole short k = by-lt k 32 (λ l. short k l) (λ g. let z = cell-past 6 M k 5 (omega arith) in omega arith)
+short-texts h M whole short k = by-lt k h (λ l. short k l) (λ g. let z = cell-past 6 M k 5 (omega arith) in omega arith)
 
-module _ (S S′ C M M′ W W′ T T′ : List ℕ) (m s set : ℕ) (text : List ℕ) (X : Standing (lent S C M W T))
-    (may : MaySend limits (floorIn (lent S C M W T)) s set text m)
+module _ {P : Product} (S S′ C M M′ W W′ T T′ : List ℕ) (m s set : ℕ) (text : List ℕ) (X : Standing (lent P S C M W T))
+    (may : MaySend (limitsOf P) (floorIn (lent P S C M W T)) s set text m)
     (sent : Sent S S′ M M′ W W′ T T′ m s (headIn S .stations) (stationsIn S .sent s) set text) where
   abbrev L : Lent
-  L = lent S C M W T
+  L = lent P S C M W T
 
   abbrev L′ : Lent
-  L′ = lent S′ C M′ W′ T′
+  L′ = lent P S′ C M′ W′ T′
 
   abbrev n : ℕ
   n = headIn S .stations
@@ -98,7 +98,7 @@ module _ (S S′ C M M′ W W′ T T′ : List ℕ) (m s set : ℕ) (text : List
   R′ = messages.withMessage (roomsIn M) m s number set (setOf n (λ t. true)) (length text)
 
   few : n ≤ 16
-  few = X .sized .counts .stations
+  few = few-stations L X
 
   from : s < 16
   from = let a = few in let b = may .station in omega arith
@@ -114,7 +114,7 @@ module _ (S S′ C M M′ W W′ T T′ : List ℕ) (m s set : ℕ) (text : List
       }
 
   -- "text 0 to 32 octets"
-  still-short : (k : ℕ) → k < 32 → roomsIn M′ .length k ≤ 32
+  still-short : (k : ℕ) → k < P .held → roomsIn M′ .length k ≤ 32
   still-short k l =
       rw (sent .message .rooms)
       (on-update (λ (x : ℕ). x ≤ 32) (roomsIn M .length) m (length text) k (λ q. may .fits) (λ q. X .laid .short k l))
@@ -127,16 +127,23 @@ module _ (S S′ C M M′ W W′ T T′ : List ℕ) (m s set : ℕ) (text : List
   new-right : (j : ℕ) → roomRight (roomsIn M′) s j (wordsOf 1 m number 0) ≡ true
   new-right j =
       let lm = may .room in
+      let lh = P .held-fit in
       rw (sent .message .rooms)
       (multicast-right R′ s j m number (omega arith)
       (new-in (roomsIn M) m s number set (setOf n (λ t. true)) (length text) (may .free) (waits-for-all n s (may .station))))
+
+  few′ : (t k : ℕ) → t < P .stations → k < 32 → P .held ≤ k → (stationsIn S′ .copy k t ≡ 0) × (stationsIn S′ .queue k t ≡ 0)
+  few′ t k lt lk l =
+      let was = X .laid .few t k lt lk l in
+      let other : eqb k m ≡ false = ne-eqb k m (λ q. let z = may .room in omega arith) in
+      (ap (λ (Y : Stations). Y .copy k t) (sent .stations) ∙ rw other (was .0), ap (λ (Y : Stations). Y .queue k t) (sent .stations) ∙ rw other (was .1))
 
   pub laid : Laid L′
   laid =
       laid-every S′ C M′ W T′ W′
       (laid-messages S′ C M W T′
       (laid-texts S′ C M W T
-      (laid-stations S C M W T (X .laid) S′ (λ t l. ap (λ (Y : Stations). Y .local t) (sent .stations)))
+      (laid-stations S C M W T (X .laid) S′ (λ t l. ap (λ (Y : Stations). Y .local t) (sent .stations)) few′)
       T′)
       M′ still-short kept-right)
       s n (wordsOf 1 m number 0) from few (sent .lines) (λ j l. new-right j)
@@ -144,11 +151,12 @@ module _ (S S′ C M M′ W W′ T T′ : List ℕ) (m s set : ℕ) (text : List
   texts : textsIn T′ (roomsIn M′) ≡ update (textsIn T (roomsIn M)) m text
   texts =
       ap (λ (Y : Rooms). textsIn T′ Y) (sent .message .rooms)
-      ∙ texts-with T T′ text m (roomsIn M .length) (short-texts M (X .lengths .messages) (X .laid .short)) (sent .message .here) (sent .message .others)
+      ∙ texts-with T T′ text m (roomsIn M .length) (short-texts (P .held) M (X .lengths .messages) (X .laid .short)) (sent .message .here) (sent .message .others)
 
   lines : linesIn (cartsIn C .next) W′ ≡ put (toEvery n s) (multicast number) (linesIn (cartsIn C .next) W)
   lines =
       let lm = may .room in
+      let lh = P .held-fit in
       every-view W W′ s n (wordsOf 1 m number 0) from few (sent .lines) (cartsIn C .next)
       ∙ ap (λ (r : Record). put (toEvery n s) r (linesIn (cartsIn C .next) W)) (multicast-is (cartsIn C .next) m number (omega arith))
 
@@ -160,16 +168,16 @@ module _ (S S′ C M M′ W W′ T T′ : List ℕ) (m s set : ℕ) (text : List
       (sent .top i) (sent .stations i) (cartsIn C) (sent .message .rooms i) (texts i) (lines i)
 
   -- m is the first free room
-  module _ (found : freeRoom limits (floorIn L) ≡ some m) where
-    pub send-is : floorIn L′ ≡ onSend limits (floorIn L) s set text .floor
+  module _ (found : freeRoom (limitsOf P) (floorIn L) ≡ some m) where
+    pub send-is : floorIn L′ ≡ onSend (limitsOf P) (floorIn L) s set text .floor
     unfolding onSend
     send-is = rw found message-is
 
     -- and its report: no cart is passed over, and a record goes to each station
-    pub send-done : done (floorIn L′) 2 s number 0 n [] ≡ onSend limits (floorIn L) s set text
+    pub send-done : done (floorIn L′) 2 s number 0 n [] ≡ onSend (limitsOf P) (floorIn L) s set text
     unfolding onSend
     send-done = rw found (ap (λ (G : Floor). done G 2 s number 0 n []) message-is)
 
     -- the whole event
-    pub send-event : floorIn L′ ≡ step limits (floorIn L) (send s set text)
-    send-event = message-is ∙ sym (send-step limits (floorIn L) s set text m (X .passes) found may)
+    pub send-event : floorIn L′ ≡ step (limitsOf P) (floorIn L) (send s set text)
+    send-event = message-is ∙ sym (send-step (limitsOf P) (floorIn L) s set text m (X .passes) found may)

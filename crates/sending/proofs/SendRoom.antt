@@ -7,7 +7,7 @@ use Prim.Native.Nat.{ℕ, _+_, _^_, _≤_, _<_}
 use native.Mathlib.Omega.{arith}
 use lib.ListN.{length}
 use borrow.Author.Tests.{le-ltb, lt-leb}
-use Rattle.protocol.specs.Floor.{Limits, limits, Floor, multicast, toEvery}
+use Rattle.protocol.specs.Floor.{Limits, Product, limitsOf, Floor, multicast, toEvery}
 use Rattle.protocol.specs.Events.{send}
 use Rattle.protocol.specs.Wired.{freeRoom, withMessage, onSend}
 use Rattle.protocol.specs.Form.{passesForm}
@@ -17,7 +17,7 @@ use Rattle.protocol.proofs.Accepted.{MaySend}
 use Rattle.lines.specs.Lines.{used}
 use Rattle.lines.specs.Words.{capacity}
 use Rattle.view.specs.View.{Lent, floorIn}
-use Rattle.view.proofs.Standing.{Standing, room-after}
+use Rattle.view.proofs.Standing.{Standing, room-after, few-stations}
 use Rattle.everyline.proofs.EveryView.{every-counts}
 
 module _ (M : Limits) (F : Floor) (s set : ℕ) (text : List ℕ) (m : ℕ) (passes : passesForm M F ≡ true) (found : freeRoom M F ≡ some m) (may : MaySend M F s set text m) where
@@ -42,20 +42,23 @@ module _ (M : Limits) (F : Floor) (s set : ℕ) (text : List ℕ) (m : ℕ) (pas
   unfolding step accept onSend
   send-step = rw (not-refused, found) refl
 
-module _ (L : Lent) (s set : ℕ) (text : List ℕ) (m : ℕ) (X : Standing L) (found : freeRoom limits (floorIn L) ≡ some m) (may : MaySend limits (floorIn L) s set text m) where
+module _ (L : Lent) (s set : ℕ) (text : List ℕ) (m : ℕ) (X : Standing L) (found : freeRoom (limitsOf (L .product)) (floorIn L) ≡ some m) (may : MaySend (limitsOf (L .product)) (floorIn L) s set text m) where
   abbrev F : Floor
   F = floorIn L
 
-  after : step limits F (send s set text) ≡ withMessage F m s set text
-  after = send-step limits F s set text m (X .passes) found may
+  after : step (limitsOf (L .product)) F (send s set text) ≡ withMessage F m s set text
+  after = send-step (limitsOf (L .product)) F s set text m (X .passes) found may
 
   -- the room, the stations and the number of the message
-  pub send-numbers : (m < 32) × (s < 16) × (F .stations ≤ 16) × (F .sent s < 65536)
+  pub send-numbers : (m < 32) × (s < 16) × (F .stations ≤ 16) × (F .sent s < 4294967296)
   send-numbers =
-      let a = X .sized .counts .stations in
+      let a = few-stations L X in
       let b = may .station in
       let d = may .number in
-      (may .room, omega arith, a, omega arith)
+      let e = may .room in
+      let f = L .product .held-fit in
+      let g = L .product .last-fit in
+      (omega arith, omega arith, a, omega arith)
 
   -- room for as many records as there are stations
   pub send-room : used (L .lines) + F .stations ≤ capacity (L .lines)

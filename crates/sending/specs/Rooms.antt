@@ -4,8 +4,8 @@ use Prim.Native.Nat.{ℕ}
 use lib.Dec.{eqb}
 use Rattle.protocol.specs.Folds.{first}
 use Rattle.messages.specs.View.{roomsIn}
-use Rattle.queue.specs.Rooms.{roomCode}
+use Rattle.queue.specs.Rooms.{roomCount, roomCode}
 
 -- "Its room is then used again": the first room that no station waits for any more
 unfoldable pub firstFree : List ℕ → ℕ
-firstFree messages = roomCode (first 32 (λ m. eqb (roomsIn messages .waiting m) 0))
+firstFree messages = roomCode (first (roomCount messages) (λ m. eqb (roomsIn messages .waiting m) 0))

@@ -5,34 +5,38 @@ ghost use mathlib.Core.Path.{_≡_};
 ghost use mathlib.Core.Bool.{true};
 ghost use Prim.Native.Nat.{_+_, _<_, _≤_};
 ghost use lib.ListN.{length};
-ghost use Rattle.lines.specs.Form.{form};
+ghost use Rattle.lines.specs.Form.{form, sized};
 ghost use Rattle.lines.specs.Lines.{used};
 ghost use Rattle.lines.specs.Words.{capacity};
-ghost use Rattle.stations.specs.View.{rooms, HasStation, headIn, stationsIn};
+ghost use Rattle.messages.specs.View.{HasRoom};
+ghost use Rattle.messages.specs.Texts.{HasText};
+ghost use Rattle.stations.specs.View.{rooms, HasHead, HasStation, headIn, stationsIn};
 ghost use Rattle.sending.specs.Rooms.{firstFree};
-ghost use Rattle.sending.specs.Copies.{withoutCopy, withoutCopies};
+ghost use Rattle.sending.specs.Copies.{WholeRows, withoutCopy, withoutCopies};
 ghost use Rattle.sending.specs.Begun.{Begun};
 ghost use Rattle.sending.specs.Sent.{Kept, Sent};
 
-// "Stations 1 to 16": as many rows.
-const STATIONS: u64 = 16;
+// The words of a station's row, and of a room's.
+const STATION: usize = 116;
+
+const ROOM: usize = 6;
 
 // The mark that says started.
 const STARTED: u64 = 1;
 
 // "Its room is then used again": the first room whose message no station waits for any more; 32 where every room is taken.
 pub fn free_room(messages: &[u64]) -> usize
-    requires { ⌜ length (now messages) ≡ 192 ⌝ }
     ensures { λ r. ⌜ r ≡ firstFree (now (messages .entry)) ⌝ }
 {
+    let rooms = messages.len() / ROOM;
     let mut m: usize = 0;
-    while m < queue::ROOMS {
+    while m < rooms {
         if messages::waiting_of(messages, m) == 0 {
             return m;
         }
         m += 1;
     }
-    m
+    queue::NONE
 }
 
 // One station has no copy of the message in room m, no ack list and no entry for it.
@@ -49,13 +53,14 @@ fn clear_copy(stations: &mut [u64], m: usize, station: Station)
 
 // No station has a copy of the message in room m yet, an ack list or an entry for it.
 pub fn clear_copies(stations: &mut [u64], m: usize)
-    requires { ⌜ (length (now stations) ≡ 1972) × (m < rooms) ⌝ }
+    requires { ⌜ WholeRows (now stations) × (m < rooms) × (length (now stations) ≤ 1972) ⌝ }
     ensures { λ _. ⌜ stationsIn (now (stations .exit)) ≡ withoutCopies (stationsIn (now (stations .entry))) m ⌝ }
     ensures { λ _. ⌜ headIn (now (stations .exit)) ≡ headIn (now (stations .entry)) ⌝ }
     ensures { λ _. ⌜ length (now (stations .exit)) ≡ length (now (stations .entry)) ⌝ }
 {
+    let rows = (stations.len() / STATION) as u64;
     let mut t: u64 = 0;
-    while t < STATIONS {
+    while t + 1 < rows {
         clear_copy(stations, m, Station(t));
         t += 1;
     }
@@ -70,7 +75,7 @@ pub fn start_floor(
     n: u64,
     k: u64,
 )
-    requires { ⌜ (length (now stations) ≡ 1972) × (length (now lines) ≡ 10226) ⌝ }
+    requires { ⌜ HasHead (now stations) × (sized (now lines) ≡ true) ⌝ }
     ensures { λ _. ⌜ Begun (now (stations .entry)) (now (stations .exit)) (now (carts .entry)) (now (carts .exit)) (now (messages .entry)) (now (messages .exit)) (now (lines .entry)) (now (lines .exit)) n k ⌝ }
 {
     stations::clear_stations(stations);
@@ -92,7 +97,7 @@ fn keep_message(
     set: u64,
     text: &[u8],
 )
-    requires { ⌜ (length (now messages) ≡ 192) × (length (now texts) ≡ 1024) × (length (now text) ≤ 32) × (m < rooms) × (n ≤ 16) ⌝ }
+    requires { ⌜ HasRoom (now messages) m × HasText (now texts) m × (length (now text) ≤ 32) × (n ≤ 16) ⌝ }
     ensures { λ _. ⌜ Kept (now (messages .entry)) (now (messages .exit)) (now (texts .entry)) (now (texts .exit)) m (s .0) n (number .0) set (now (text .entry)) ⌝ }
 {
     messages::put_message(
@@ -121,8 +126,8 @@ pub fn on_send(
     set: u64,
     text: &[u8],
 )
-    requires { ⌜ (length (now stations) ≡ 1972) × (length (now messages) ≡ 192) × (length (now texts) ≡ 1024) × (length (now text) ≤ 32) ⌝ }
-    requires { ⌜ (m < rooms) × (s .0 < 16) × (n ≤ 16) × (number .0 < 65536) ⌝ }
+    requires { ⌜ WholeRows (now stations) × (length (now stations) ≤ 1972) × HasStation (now stations) (s .0) × HasRoom (now messages) m × HasText (now texts) m × (length (now text) ≤ 32) ⌝ }
+    requires { ⌜ (m < rooms) × (s .0 < 16) × (n ≤ 16) × (number .0 < 4294967296) ⌝ }
     requires { ⌜ (form (now lines) ≡ true) × (used (now lines) + n ≤ capacity (now lines)) ⌝ }
     ensures { λ _. ⌜ Sent (now (stations .entry)) (now (stations .exit)) (now (messages .entry)) (now (messages .exit)) (now (lines .entry)) (now (lines .exit)) (now (texts .entry)) (now (texts .exit)) m (s .0) n (number .0) set (now (text .entry)) ⌝ }
 {

@@ -3,13 +3,14 @@ use mathlib.Core.Path.{_≡_, refl, sym, ap, _∙_}
 use mathlib.Core.Bool.{Bool, true, false, _&&_, _||_, not}
 use mathlib.Core.List.{List, [], _∷_, _++_}
 use Prim.Native.Nat.{ℕ, _+_, _*_, _≤_, _<_}
-use lib.Dec.{eqb}
+use native.Mathlib.Omega.{arith}
+use lib.Dec.{eqb, ltb}
 use lib.ListN.{drop}
-use borrow.Author.Tests.{eqb-true, eq-eqb, ne-eqb, leb-true, le-leb}
+use borrow.Author.Tests.{eqb-true, eq-eqb, ne-eqb, leb-true, le-leb, lt-ltb, le-ltb}
 use Rattle.protocol.specs.Folds.{every, update}
 use Rattle.protocol.specs.CartSets.{with, without, setOf}
-use Rattle.protocol.specs.Floor.{Place, localTo}
-use Rattle.protocol.proofs.Tests.{and-left, and-right, and-intro, and-false, or-right, by-eq, on-update, every-at, every-all}
+use Rattle.protocol.specs.Floor.{Product, Place, localTo}
+use Rattle.protocol.proofs.Tests.{and-left, and-right, and-intro, and-false, or-right, by-eq, by-lt, on-update, every-at, every-all}
 use Rattle.protocol.proofs.SetLaws.{has-with, has-without, has-setOf, setOf-lt, with-lt, without-lt, same-members}
 use Rattle.stations.specs.View.{stationsIn}
 use Rattle.carts.specs.View.{cartsIn, canonicalIn}
@@ -19,55 +20,69 @@ use Rattle.lines.specs.Lines.{lineOf}
 use Rattle.lines.specs.Form.{form}
 use Rattle.lines.specs.Post.{Pushed, Popped}
 use Rattle.view.specs.Records.{roomRight}
-use Rattle.view.specs.View.{Lent, lent, localRight, everyWord, lineRight, shortText, wordsIn}
+use Rattle.view.specs.View.{Lent, lent, localRight, everyWord, lineRight, shortText, roomsRight, wordsIn}
 use Rattle.view.proofs.LinesView.{same-line, line-below}
 
 -- the words, fact by fact
 pub record Laid (L : Lent) : Type 0 where
   pub chains : form (L .lines) ≡ true
-  pub canonical : (c : ℕ) → c < 64 → canonicalIn (L .carts) c ≡ true
-  pub local : (t : ℕ) → t < 16 → stationsIn (L .stations) .local t ≡ setOf 64 (λ c. localTo (cartsIn (L .carts) .place c) t)
-  pub short : (m : ℕ) → m < 32 → roomsIn (L .messages) .length m ≤ 32
+  pub canonical : (c : ℕ) → c < L .product .carts → canonicalIn (L .carts) c ≡ true
+  pub local : (t : ℕ) → t < L .product .stations → stationsIn (L .stations) .local t ≡ setOf 64 (λ c. localTo (cartsIn (L .carts) .place c) t)
+  pub short : (m : ℕ) → m < L .product .held → roomsIn (L .messages) .length m ≤ 32
   pub rooms : (i j : ℕ) → i < 16 → j < 16 → everyWord (roomRight (roomsIn (L .messages)) i j) (lineOf (L .lines) (i * 16 + j)) ≡ true
+  pub few : (t m : ℕ) → t < L .product .stations → m < 32 → L .product .held ≤ m → (stationsIn (L .stations) .copy m t ≡ 0) × (stationsIn (L .stations) .queue m t ≡ 0)
 
 module _ (L : Lent) where
   abbrev a : Bool
   a = form (L .lines)
 
   abbrev b : Bool
-  b = every 64 (canonicalIn (L .carts))
+  b = every (L .product .carts) (canonicalIn (L .carts))
 
   abbrev c : Bool
-  c = every 16 (localRight L)
+  c = every (L .product .stations) (localRight L)
 
   abbrev d : Bool
-  d = every 32 (shortText L)
+  d = every (L .product .held) (shortText L)
 
   abbrev e : Bool
   e = every 16 (λ i. every 16 (lineRight L i))
 
+  abbrev f : Bool
+  f = every (L .product .stations) (roomsRight L)
+
+  room-few : (t m : ℕ) → L .product .held ≤ m → (ltb m (L .product .held) || (eqb (stationsIn (L .stations) .copy m t) 0 && eqb (stationsIn (L .stations) .queue m t) 0)) ≡ true
+      → (stationsIn (L .stations) .copy m t ≡ 0) × (stationsIn (L .stations) .queue m t ≡ 0)
+  room-few t m l h =
+      let h′ : (eqb (stationsIn (L .stations) .copy m t) 0 && eqb (stationsIn (L .stations) .queue m t) 0) ≡ true = rw (le-ltb m (L .product .held) l) at h in
+      (eqb-true (stationsIn (L .stations) .copy m t) 0 (and-left (eqb (stationsIn (L .stations) .copy m t) 0) _ h′), eqb-true (stationsIn (L .stations) .queue m t) 0 (and-right (eqb (stationsIn (L .stations) .copy m t) 0) _ h′))
+
   pub laid-of : wordsIn L ≡ true → Laid L
-  unfolding wordsIn localRight lineRight shortText
+  unfolding wordsIn localRight lineRight shortText roomsRight
   laid-of h =
-      let p = and-right a (b && (c && (d && e))) h in
-      let q = and-right b (c && (d && e)) p in
-      let r = and-right c (d && e) q in
+      let p = and-right a (b && (c && (d && (e && f)))) h in
+      let q = and-right b (c && (d && (e && f))) p in
+      let r = and-right c (d && (e && f)) q in
+      let s = and-right d (e && f) r in
       record {
-        chains = and-left a (b && (c && (d && e))) h;
-        canonical = every-at 64 (canonicalIn (L .carts)) (and-left b (c && (d && e)) p);
-        local = λ t l. eqb-true (stationsIn (L .stations) .local t) _ (every-at 16 (localRight L) (and-left c (d && e) q) t l);
-        short = λ m l. leb-true (roomsIn (L .messages) .length m) 32 (every-at 32 (shortText L) (and-left d e r) m l);
-        rooms = λ i j li lj. every-at 16 (lineRight L i) (every-at 16 (λ i. every 16 (lineRight L i)) (and-right d e r) i li) j lj;
+        chains = and-left a (b && (c && (d && (e && f)))) h;
+        canonical = every-at (L .product .carts) (canonicalIn (L .carts)) (and-left b (c && (d && (e && f))) p);
+        local = λ t l. eqb-true (stationsIn (L .stations) .local t) _ (every-at (L .product .stations) (localRight L) (and-left c (d && (e && f)) q) t l);
+        short = λ m l. leb-true (roomsIn (L .messages) .length m) 32 (every-at (L .product .held) (shortText L) (and-left d (e && f) r) m l);
+        rooms = λ i j li lj. every-at 16 (lineRight L i) (every-at 16 (λ i. every 16 (lineRight L i)) (and-left e f s) i li) j lj;
+        few = λ t m lt lm l. room-few t m l (every-at 32 _ (every-at (L .product .stations) (roomsRight L) (and-right e f s) t lt) m lm);
       }
 
   pub words-right : Laid L → wordsIn L ≡ true
-  unfolding wordsIn localRight lineRight shortText
+  unfolding wordsIn localRight lineRight shortText roomsRight
   words-right X =
-      and-intro a (b && (c && (d && e))) (X .chains)
-      (and-intro b (c && (d && e)) (every-all 64 (canonicalIn (L .carts)) (X .canonical))
-      (and-intro c (d && e) (every-all 16 (localRight L) (λ t l. eq-eqb (stationsIn (L .stations) .local t) _ (X .local t l)))
-      (and-intro d e (every-all 32 (shortText L) (λ m l. le-leb (roomsIn (L .messages) .length m) 32 (X .short m l)))
-      (every-all 16 (λ i. every 16 (lineRight L i)) (λ i li. every-all 16 (lineRight L i) (λ j lj. X .rooms i j li lj))))))
+      and-intro a (b && (c && (d && (e && f)))) (X .chains)
+      (and-intro b (c && (d && (e && f))) (every-all (L .product .carts) (canonicalIn (L .carts)) (X .canonical))
+      (and-intro c (d && (e && f)) (every-all (L .product .stations) (localRight L) (λ t l. eq-eqb (stationsIn (L .stations) .local t) _ (X .local t l)))
+      (and-intro d (e && f) (every-all (L .product .held) (shortText L) (λ m l. le-leb (roomsIn (L .messages) .length m) 32 (X .short m l)))
+      (and-intro e f (every-all 16 (λ i. every 16 (lineRight L i)) (λ i li. every-all 16 (lineRight L i) (λ j lj. X .rooms i j li lj)))
+      (every-all (L .product .stations) (roomsRight L) (λ t lt. every-all 32 _ (λ m lm. by-lt m (L .product .held) (λ l. rw (lt-ltb m (L .product .held) l) refl)
+      (λ l. let z = X .few t m lt lm l in rw (le-ltb m (L .product .held) l, z .0, z .1) refl))))))))
 
 -- RECORDS OF A LINE
 
@@ -134,32 +149,35 @@ module _ (place : ℕ → Place) (c t : ℕ) (p : Place) where
           (λ z. rw (ne-eqb c d (λ y. z (sym y))) (and-nothing (localTo (place d) t)))
 
 -- WRITES, each of one part; what it leaves is laid again
-module _ (S C M W T : List ℕ) (X : Laid (lent S C M W T)) where
+module _ {P : Product} (S C M W T : List ℕ) (X : Laid (lent P S C M W T)) where
   -- of the stations, when no local carts change
-  pub laid-stations : (S′ : List ℕ) → ((t : ℕ) → t < 16 → stationsIn S′ .local t ≡ stationsIn S .local t) → Laid (lent S′ C M W T)
-  laid-stations S′ h = record { chains = X .chains; canonical = X .canonical; local = λ t l. h t l ∙ X .local t l; short = X .short; rooms = X .rooms }
+  pub laid-stations : (S′ : List ℕ) → ((t : ℕ) → t < P .stations → stationsIn S′ .local t ≡ stationsIn S .local t)
+      → ((t m : ℕ) → t < P .stations → m < 32 → P .held ≤ m → (stationsIn S′ .copy m t ≡ 0) × (stationsIn S′ .queue m t ≡ 0)) → Laid (lent P S′ C M W T)
+  laid-stations S′ h few = record { chains = X .chains; canonical = X .canonical; local = λ t l. h t l ∙ X .local t l; short = X .short; rooms = X .rooms; few = few }
 
   -- of the carts and of the masks of local carts
-  pub laid-carts : (S′ C′ : List ℕ) → ((c : ℕ) → c < 64 → canonicalIn C′ c ≡ true) → ((t : ℕ) → t < 16 → stationsIn S′ .local t ≡ setOf 64 (λ c. localTo (cartsIn C′ .place c) t)) → Laid (lent S′ C′ M W T)
-  laid-carts S′ C′ canonical local = record { chains = X .chains; canonical = canonical; local = local; short = X .short; rooms = X .rooms }
+  pub laid-carts : (S′ C′ : List ℕ) → ((c : ℕ) → c < P .carts → canonicalIn C′ c ≡ true) → ((t : ℕ) → t < P .stations → stationsIn S′ .local t ≡ setOf 64 (λ c. localTo (cartsIn C′ .place c) t))
+      → ((t m : ℕ) → t < P .stations → m < 32 → P .held ≤ m → (stationsIn S′ .copy m t ≡ 0) × (stationsIn S′ .queue m t ≡ 0)) → Laid (lent P S′ C′ M W T)
+  laid-carts S′ C′ canonical local few = record { chains = X .chains; canonical = canonical; local = local; short = X .short; rooms = X .rooms; few = few }
 
   -- of the texts
-  pub laid-texts : (T′ : List ℕ) → Laid (lent S C M W T′)
-  laid-texts T′ = record { chains = X .chains; canonical = X .canonical; local = X .local; short = X .short; rooms = X .rooms }
+  pub laid-texts : (T′ : List ℕ) → Laid (lent P S C M W T′)
+  laid-texts T′ = record { chains = X .chains; canonical = X .canonical; local = X .local; short = X .short; rooms = X .rooms; few = X .few }
 
   -- of the messages, when the records on the lines are right in the new rooms too
-  pub laid-messages : (M′ : List ℕ) → ((m : ℕ) → m < 32 → roomsIn M′ .length m ≤ 32)
-      → ((i j : ℕ) → i < 16 → j < 16 → everyWord (roomRight (roomsIn M′) i j) (lineOf W (i * 16 + j)) ≡ true) → Laid (lent S C M′ W T)
-  laid-messages M′ short rooms = record { chains = X .chains; canonical = X .canonical; local = X .local; short = short; rooms = rooms }
+  pub laid-messages : (M′ : List ℕ) → ((m : ℕ) → m < P .held → roomsIn M′ .length m ≤ 32)
+      → ((i j : ℕ) → i < 16 → j < 16 → everyWord (roomRight (roomsIn M′) i j) (lineOf W (i * 16 + j)) ≡ true) → Laid (lent P S C M′ W T)
+  laid-messages M′ short rooms = record { chains = X .chains; canonical = X .canonical; local = X .local; short = short; rooms = rooms; few = X .few }
 
   -- a record joins a line
-  pub laid-push : (W′ : List ℕ) (a b : ℕ) (r : word.Record) → a < 16 → b < 16 → Pushed W W′ (a * 16 + b) r → roomRight (roomsIn M) a b r ≡ true → Laid (lent S C M W′ T)
+  pub laid-push : (W′ : List ℕ) (a b : ℕ) (r : word.Record) → a < 16 → b < 16 → Pushed W W′ (a * 16 + b) r → roomRight (roomsIn M) a b r ≡ true → Laid (lent P S C M W′ T)
   laid-push W′ a b r la lb p e =
       record {
         chains = p .formed;
         canonical = X .canonical;
         local = X .local;
         short = X .short;
+        few = X .few;
         rooms = λ i j li lj. by-eq (i * 16 + j) (a * 16 + b)
             (λ q. let z = same-line i j a b lj lb q in
             rw (z .0, z .1) (rw (p .line) (words-append (roomRight (roomsIn M) a b) (lineOf W (a * 16 + b)) r (X .rooms a b la lb) e)))
@@ -167,13 +185,14 @@ module _ (S C M W T : List ℕ) (X : Laid (lent S C M W T)) where
       }
 
   -- the head of a line is taken
-  pub laid-pop : (W′ : List ℕ) (a b : ℕ) → a < 16 → b < 16 → Popped W W′ (a * 16 + b) → Laid (lent S C M W′ T)
+  pub laid-pop : (W′ : List ℕ) (a b : ℕ) → a < 16 → b < 16 → Popped W W′ (a * 16 + b) → Laid (lent P S C M W′ T)
   laid-pop W′ a b la lb p =
       record {
         chains = p .formed;
         canonical = X .canonical;
         local = X .local;
         short = X .short;
+        few = X .few;
         rooms = λ i j li lj. by-eq (i * 16 + j) (a * 16 + b)
             (λ q. let z = same-line i j a b lj lb q in
             rw (z .0, z .1) (rw (p .line) (words-drop (roomRight (roomsIn M) a b) (lineOf W (a * 16 + b)) (X .rooms a b la lb))))

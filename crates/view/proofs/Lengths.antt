@@ -7,49 +7,52 @@ use native.Mathlib.Omega.{arith}
 use lib.Dec.{eqb}
 use lib.ListN.{length}
 use borrow.Author.Tests.{eqb-true, eq-eqb}
-use Rattle.protocol.specs.Floor.{limits, outside}
+use Rattle.protocol.specs.Floor.{Product, limitsOf, mostRecords, outside}
 use Rattle.protocol.specs.Blank.{BlankBeyond}
-use Rattle.protocol.proofs.Tests.{and-left, and-right}
+use Rattle.protocol.proofs.Tests.{and-left, and-right, by-lt}
 use Rattle.rows.proofs.RowLaws.{cell-past}
 use Rattle.carts.specs.View.{cartsIn}
 use Rattle.carts.proofs.TableLaws.{next-beyond}
 use Rattle.stations.proofs.TableLaws.{sent-past, queue-past, expected-beyond, queue-beyond}
 use Rattle.view.specs.View.{Lent, lengthsIn, floorIn}
 use Rattle.view.proofs.LinesView.{line-beyond}
+use Rattle.view.proofs.Laid.{Laid}
 
 -- the lengths, one by one
 pub record Lengths (L : Lent) : Type 0 where
-  pub stations : length (L .stations) ≡ 1972
-  pub carts : length (L .carts) ≡ 1216
-  pub messages : length (L .messages) ≡ 192
-  pub lines : length (L .lines) ≡ 10226
-  pub texts : length (L .texts) ≡ 1024
+  pub stations : length (L .stations) ≡ 116 + L .product .stations * 116
+  pub carts : length (L .carts) ≡ L .product .carts * 19
+  pub messages : length (L .messages) ≡ L .product .held * 6
+  pub lines : length (L .lines) ≡ 818 + mostRecords (limitsOf (L .product)) * 3
+  pub texts : length (L .texts) ≡ L .product .held * 32
 
 pub lengths-of : (L : Lent) → lengthsIn L ≡ true → Lengths L
 unfolding lengthsIn
 lengths-of L e =
-    let a = eqb (length (L .stations)) 1972 in
-    let b = eqb (length (L .carts)) 1216 in
-    let c = eqb (length (L .messages)) 192 in
-    let d = eqb (length (L .lines)) 10226 in
-    let f = eqb (length (L .texts)) 1024 in
+    let P = L .product in
+    let a = eqb (length (L .stations)) (116 + P .stations * 116) in
+    let b = eqb (length (L .carts)) (P .carts * 19) in
+    let c = eqb (length (L .messages)) (P .held * 6) in
+    let d = eqb (length (L .lines)) (818 + mostRecords (limitsOf P) * 3) in
+    let f = eqb (length (L .texts)) (P .held * 32) in
     let r = and-right a (b && (c && (d && f))) e in
     let q = and-right b (c && (d && f)) r in
     let p = and-right c (d && f) q in
     record {
-      stations = eqb-true (length (L .stations)) 1972 (and-left a (b && (c && (d && f))) e);
-      carts = eqb-true (length (L .carts)) 1216 (and-left b (c && (d && f)) r);
-      messages = eqb-true (length (L .messages)) 192 (and-left c (d && f) q);
-      lines = eqb-true (length (L .lines)) 10226 (and-left d f p);
-      texts = eqb-true (length (L .texts)) 1024 (and-right d f p);
+      stations = eqb-true (length (L .stations)) _ (and-left a (b && (c && (d && f))) e);
+      carts = eqb-true (length (L .carts)) _ (and-left b (c && (d && f)) r);
+      messages = eqb-true (length (L .messages)) _ (and-left c (d && f) q);
+      lines = eqb-true (length (L .lines)) _ (and-left d f p);
+      texts = eqb-true (length (L .texts)) _ (and-right d f p);
     }
 
 pub lengths-right : (L : Lent) → Lengths L → lengthsIn L ≡ true
 unfolding lengthsIn
-lengths-right L h = rw (eq-eqb (length (L .stations)) 1972 (h .stations), eq-eqb (length (L .carts)) 1216 (h .carts), eq-eqb (length (L .messages)) 192 (h .messages), eq-eqb (length (L .lines)) 10226 (h .lines), eq-eqb (length (L .texts)) 1024 (h .texts)) refl
+lengths-right L h =
+    rw (eq-eqb (length (L .stations)) _ (h .stations), eq-eqb (length (L .carts)) _ (h .carts), eq-eqb (length (L .messages)) _ (h .messages), eq-eqb (length (L .lines)) _ (h .lines), eq-eqb (length (L .texts)) _ (h .texts)) refl
 
 -- NOTHING BEYOND
-place-past : (l : List ℕ) (c : ℕ) → length l ≤ c * 19 → cartsIn l .place c ≡ outside
+pub place-past : (l : List ℕ) (c : ℕ) → length l ≤ c * 19 → cartsIn l .place c ≡ outside
 unfolding cartsIn
 place-past l c h = rw (cell-past 19 l c 0 h)
 
@@ -57,8 +60,8 @@ next-past : (l : List ℕ) (c s : ℕ) → length l ≤ c * 19 → cartsIn l .ne
 unfolding cartsIn
 next-past l c s h = cell-past 19 l c (3 + s) h
 
-pub nothing-beyond : (L : Lent) → Lengths L → BlankBeyond limits (floorIn L)
-nothing-beyond L h =
+pub nothing-beyond : (L : Lent) → Lengths L → Laid L → BlankBeyond (limitsOf (L .product)) (floorIn L)
+nothing-beyond L h laid =
     let a = h .stations in
     let b = h .carts in
     record {
@@ -66,7 +69,10 @@ nothing-beyond L h =
       expected = λ t s lt ls. expected-beyond (L .stations) t s ls;
       place = λ c l. place-past (L .carts) c (omega arith);
       next = record { below = λ c s l. next-past (L .carts) c s (omega arith); right = λ c s l. next-beyond (L .carts) c s l };
-      queue = record { below = λ m t l. queue-beyond (L .stations) m t l; right = λ m t l. queue-past (L .stations) t (omega arith) m };
+      queue = record {
+        below = λ m t l. by-lt m 32 (λ k. by-lt t (L .product .stations) (λ j. laid .few t m j k l .1) (λ j. queue-past (L .stations) t (omega arith) m)) (λ k. queue-beyond (L .stations) m t k);
+        right = λ m t l. queue-past (L .stations) t (omega arith) m;
+      };
       lines = record {
         below = λ i j l. line-beyond (cartsIn (L .carts) .next) (L .lines) i j (λ x y. omega arith);
         right = λ i j l. line-beyond (cartsIn (L .carts) .next) (L .lines) i j (λ x y. omega arith);

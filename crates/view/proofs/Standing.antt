@@ -6,7 +6,7 @@ use Prim.Native.Nat.{ℕ, _+_, _-_, _≤_, _<_}
 use native.Mathlib.Omega.{arith}
 use lib.Dec.{eqb}
 use Rattle.protocol.specs.Folds.{sum}
-use Rattle.protocol.specs.Floor.{Floor, limits, Record, put, between, onTheLines}
+use Rattle.protocol.specs.Floor.{Limits, limitsOf, mostRecords, Floor, Record, put, between, onTheLines}
 use Rattle.protocol.specs.Events.{Event}
 use Rattle.protocol.specs.Claims.{All}
 use Rattle.protocol.specs.Form.{passesForm, bit}
@@ -16,7 +16,7 @@ use Rattle.protocol.proofs.Counting.{sum-term}
 use Rattle.protocol.proofs.FormFacts.{FormFacts}
 use Rattle.protocol.proofs.FormTest.{clauses-of, form-of, sized-of}
 use Rattle.protocol.proofs.Sized.{Sized, OnFloor}
-use Rattle.protocol.proofs.Theorems.{form-closed, floor-records}
+use Rattle.protocol.proofs.Theorems.{form-closed, record-bound}
 use Rattle.lines.specs.Lines.{used}
 use Rattle.lines.specs.Words.{capacity}
 use Rattle.carts.specs.View.{cartsIn}
@@ -26,24 +26,33 @@ use Rattle.view.proofs.Laid.{Laid, laid-of}
 use Rattle.view.proofs.Room.{used-view, put-counts, fewer-stations}
 
 pub record Standing (L : Lent) : Type 0 where
-  pub passes : passesForm limits (floorIn L) ≡ true
+  pub passes : passesForm (limitsOf (L .product)) (floorIn L) ≡ true
   pub lengths : Lengths L
   pub laid : Laid L
-  pub facts : FormFacts limits (floorIn L)
-  pub sized : Sized limits (floorIn L)
+  pub facts : FormFacts (limitsOf (L .product)) (floorIn L)
+  pub sized : Sized (limitsOf (L .product)) (floorIn L)
 
-pub standing : (L : Lent) → passesForm limits (floorIn L) ≡ true → Standing L
+pub standing : (L : Lent) → passesForm (limitsOf (L .product)) (floorIn L) ≡ true → Standing L
 standing L h =
     let F = floorIn L in
-    let P = clauses-of limits F h in
+    let M = limitsOf (L .product) in
+    let P = clauses-of M F h in
     let lengths = lengths-of L (P .floor .1 .0) in
-    let B = nothing-beyond L lengths in
-    record { passes = h; lengths = lengths; laid = laid-of L (P .floor .1 .1 .0); facts = form-of limits F B P; sized = sized-of limits F B P }
+    let laid = laid-of L (P .floor .1 .1 .0) in
+    let B = nothing-beyond L lengths laid in
+    record { passes = h; lengths = lengths; laid = laid; facts = form-of M F B P; sized = sized-of M F B P }
 
--- the pool of the right length has rooms for 3,136 records
-pub rooms-in-pool : (L : Lent) → Lengths L → capacity (L .lines) ≡ 3136
+-- the pool of the right length has rooms for as many records as there may be
+pub rooms-in-pool : (L : Lent) → Lengths L → capacity (L .lines) ≡ mostRecords (limitsOf (L .product))
 unfolding capacity
 rooms-in-pool L h = let z = h .lines in omega arith
+
+-- no more stations and carts than rows and words have places for
+pub few-stations : (L : Lent) → Standing L → floorIn L .stations ≤ 16
+few-stations L X = let a = X .sized .counts .stations in let b = L .product .stations-fit in omega arith
+
+pub few-carts : (L : Lent) → Standing L → floorIn L .carts ≤ 64
+few-carts L X = let a = X .sized .counts .carts in let b = L .product .carts-fit in omega arith
 
 -- lines beyond the stations of the floor are empty
 empty-of : (P : Record → Type 0) (l : List Record) → All P l → ((r : Record) → P r → ⊥) → l ≡ []
@@ -53,6 +62,9 @@ empty-of P (r ∷ l) h never = absurd (never r (h .0))
 module _ (L : Lent) (X : Standing L) where
   abbrev F : Floor
   F = floorIn L
+
+  abbrev N : Limits
+  N = limitsOf (L .product)
 
   pub no-line-from : (i j : ℕ) → F .stations ≤ i → F .lines i j ≡ []
   no-line-from i j l = empty-of (OnFloor (F .stations) (F .carts) i j) (F .lines i j) (X .sized .lines i j) (λ r p. let a = p .0 in omega arith)
@@ -64,19 +76,20 @@ module _ (L : Lent) (X : Standing L) where
   pub used-on-floor : used (L .lines) ≡ onTheLines (F .stations) (F .lines)
   used-on-floor =
       let few = X .sized .counts .stations in
+      let most = L .product .stations-fit in
       let all : F .stations + (16 - F .stations) ≡ 16 = omega arith in
       used-view (cartsIn (L .carts) .next) (L .lines)
       ∙ ap (λ (n : ℕ). onTheLines n (F .lines)) (sym all)
       ∙ fewer-stations (F .stations) (16 - F .stations) (F .lines) no-line-from no-line-to
 
-  -- as many as an event puts on the lines have room: the floor that it leaves passes again, so it has no more than 3,136
-  pub room-after : (e : Event) (on : ℕ → ℕ → Bool) (r : Record) → step limits F e .stations ≡ F .stations → step limits F e .lines ≡ put on r (F .lines)
+  -- as many as an event puts on the lines have room: the floor that it leaves passes again, so it has no more than there may be
+  pub room-after : (e : Event) (on : ℕ → ℕ → Bool) (r : Record) → step N F e .stations ≡ F .stations → step N F e .lines ≡ put on r (F .lines)
       → used (L .lines) + sum (F .stations) (λ i. sum (F .stations) (λ j. bit (on i j))) ≤ capacity (L .lines)
   room-after e on r same after =
-      let B = nothing-beyond L (X .lengths) in
-      let next = form-closed limits F e B (X .passes) in
-      let bound = floor-records (step limits F e) (next .0) (next .1) in
-      let bound' : onTheLines (F .stations) (put on r (F .lines)) ≤ 3136 = rw (same, after) at bound in
+      let B = nothing-beyond L (X .lengths) (X .laid) in
+      let next = form-closed N F e B (X .passes) in
+      let bound = record-bound N (step N F e) (next .0) (next .1) in
+      let bound' : onTheLines (F .stations) (put on r (F .lines)) ≤ mostRecords N = rw (same, after) at bound in
       let counts = put-counts (F .stations) on r (F .lines) in
       let a = used-on-floor in
       let b = rooms-in-pool L (X .lengths) in

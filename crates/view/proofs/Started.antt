@@ -5,7 +5,7 @@ use mathlib.Core.List.{List}
 use Prim.Native.Nat.{ℕ, _+_, _*_}
 use native.Mathlib.Omega.{arith}
 use Rattle.protocol.specs.CartSets.{setOf}
-use Rattle.protocol.specs.Floor.{Carts, localTo, outside, justStarted}
+use Rattle.protocol.specs.Floor.{Product, Carts, localTo, outside, justStarted}
 use Rattle.protocol.proofs.SetLaws.{has-zero, has-setOf, setOf-lt, zero-below, same-members}
 use Rattle.stations.specs.View.{Stations, head, headIn, stationsIn, noStations}
 use Rattle.carts.specs.View.{cartsIn, canonicalIn, noCarts}
@@ -22,11 +22,11 @@ use Rattle.view.proofs.Laid.{Laid, words-right}
 nobody : (t : ℕ) → setOf 64 (λ c. localTo outside t) ≡ 0
 nobody t = same-members 64 (setOf 64 (λ c. false)) 0 (setOf-lt 64 (λ c. false)) (zero-below 64) (λ c l. has-setOf 64 (λ c. false) c l ∙ sym (has-zero c))
 
-module _ (S C M W₀ W T : List ℕ) (n k : ℕ)
+module _ {P : Product} (S C M W₀ W T : List ℕ) (n k : ℕ)
     (top : headIn S ≡ head 1 n k) (no-stations : stationsIn S ≡ noStations) (no-carts : cartsIn C ≡ noCarts) (canonical : canonicalIn C ≡ (λ c. true))
-    (no-rooms : roomsIn M ≡ noRooms) (cleared : Cleared W₀ W) (sizes : Lengths (lent S C M W T)) where
+    (no-rooms : roomsIn M ≡ noRooms) (cleared : Cleared W₀ W) (sizes : Lengths (lent P S C M W T)) where
   abbrev L : Lent
-  L = lent S C M W T
+  L = lent P S C M W T
 
   pub laid-start : Laid L
   laid-start =
@@ -35,6 +35,7 @@ module _ (S C M W₀ W T : List ℕ) (n k : ℕ)
         canonical = λ c l. ap (λ (f : ℕ → Bool). f c) canonical;
         local = λ t l. ap (λ (X : Stations). X .local t) no-stations ∙ sym (ap (λ (X : Carts). setOf 64 (λ c. localTo (X .place c) t)) no-carts ∙ nobody t);
         short = λ m l. let z : roomsIn M .length m ≡ 0 = ap (λ (R : Rooms). R .length m) no-rooms in omega arith;
+        few = λ t m lt lm l. (ap (λ (X : Stations). X .copy m t) no-stations, ap (λ (X : Stations). X .queue m t) no-stations);
         rooms = λ i j li lj. rw (cleared .empty (i * 16 + j) (line-below i j li lj)) refl;
       }
 

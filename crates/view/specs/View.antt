@@ -1,12 +1,12 @@
 -- THE FLOOR THAT THE LENT PARTS SAY: stations, carts, messages, lines (numbers) and texts (octets).
-use mathlib.Core.Bool.{Bool, true, _&&_}
+use mathlib.Core.Bool.{Bool, true, _&&_, _||_}
 use mathlib.Core.List.{List, [], _∷_}
 use Prim.Native.Nat.{ℕ, _+_, _*_}
-use lib.Dec.{eqb, leb}
+use lib.Dec.{eqb, ltb, leb}
 use lib.ListN.{length}
 use Rattle.protocol.specs.Folds.{every}
 use Rattle.protocol.specs.CartSets.{setOf}
-use Rattle.protocol.specs.Floor.{Floor, Carts, Record, localTo}
+use Rattle.protocol.specs.Floor.{Product, limitsOf, mostRecords, Floor, Carts, Record, localTo}
 use Rattle.stations.specs.View.{Head, Stations, stationsIn, headIn}
 use Rattle.carts.specs.View.{cartsIn, canonicalIn}
 use Rattle.messages.specs.View.{Rooms, roomsIn}
@@ -16,26 +16,34 @@ use Rattle.lines.specs.Lines.{lineOf}
 use Rattle.lines.specs.Form.{form}
 use Rattle.view.specs.Records.{linesIn, roomRight}
 
--- the lent parts
+-- the lent parts, and whose limits they are lent for
 pub record Lent : Type 0 where
+  pub product : Product
   pub stations : List ℕ
   pub carts : List ℕ
   pub messages : List ℕ
   pub lines : List ℕ
   pub texts : List ℕ
 
-abbrev pub lent : List ℕ → List ℕ → List ℕ → List ℕ → List ℕ → Lent
-lent stations carts messages lines texts = record { stations = stations; carts = carts; messages = messages; lines = lines; texts = texts }
+abbrev pub lent : Product → List ℕ → List ℕ → List ℕ → List ℕ → List ℕ → Lent
+lent product stations carts messages lines texts = record { product = product; stations = stations; carts = carts; messages = messages; lines = lines; texts = texts }
 
--- "a lent part of the floor has the wrong length" is no: 17 rows of 116 words, 64 of 19, 32 of 6; 818 words and 3,136 rows of 3; 32 texts of 32 octets
+-- "a lent part of the floor has the wrong length" is no: the floor's own row and one for each station, of 116 words; a row of 19 for each
+-- cart; of 6 for each held message, and 32 octets of text; 818 words, and a row of 3 for each record on the lines
 unfoldable pub lengthsIn : Lent → Bool
 lengthsIn L =
-    eqb (length (L .stations)) 1972
-    && (eqb (length (L .carts)) 1216 && (eqb (length (L .messages)) 192 && (eqb (length (L .lines)) 10226 && eqb (length (L .texts)) 1024)))
+    let P = L .product in
+    eqb (length (L .stations)) (116 + P .stations * 116)
+    && (eqb (length (L .carts)) (P .carts * 19) && (eqb (length (L .messages)) (P .held * 6) && (eqb (length (L .lines)) (818 + mostRecords (limitsOf P) * 3) && eqb (length (L .texts)) (P .held * 32))))
 
 -- the mask of the local carts at station t is right
 unfoldable pub localRight : Lent → ℕ → Bool
 localRight L t = eqb (stationsIn (L .stations) .local t) (setOf 64 (λ c. localTo (cartsIn (L .carts) .place c) t))
+
+-- no copy and no queue entry at station t is of a room that the messages' table does not have
+unfoldable pub roomsRight : Lent → ℕ → Bool
+roomsRight L t =
+    every 32 (λ m. ltb m (L .product .held) || (eqb (stationsIn (L .stations) .copy m t) 0 && eqb (stationsIn (L .stations) .queue m t) 0))
 
 -- does every record of a list pass
 abbrev pub everyWord : (word.Record → Bool) → List word.Record → Bool
@@ -55,7 +63,8 @@ shortText L m = leb (roomsIn (L .messages) .length m) 32
 unfoldable pub wordsIn : Lent → Bool
 wordsIn L =
     form (L .lines)
-    && (every 64 (canonicalIn (L .carts)) && (every 16 (localRight L) && (every 32 (shortText L) && every 16 (λ i. every 16 (lineRight L i)))))
+    && (every (L .product .carts) (canonicalIn (L .carts)) && (every (L .product .stations) (localRight L) && (every (L .product .held) (shortText L)
+    && (every 16 (λ i. every 16 (lineRight L i)) && every (L .product .stations) (roomsRight L)))))
 
 -- the texts of the rooms
 abbrev pub textsIn : List ℕ → Rooms → ℕ → List ℕ

@@ -24,7 +24,7 @@ const REGISTER: u64 = 5;
 
 // The word of these parts.
 fn word_of(kind: u64, index: u64, number: u64) -> u64
-    requires { ⌜ (kind < 8) × (index < 256) × (number < 65536) ⌝ }
+    requires { ⌜ (kind < 8) × (index < 256) × (number < 4294967296) ⌝ }
     ensures { λ r. ⌜ r ≡ wordOf kind index number ⌝ }
 {
     kind + INDEX * index + NUMBER * number
@@ -32,7 +32,7 @@ fn word_of(kind: u64, index: u64, number: u64) -> u64
 
 // "multicast (1)": of the message in room m.
 pub fn multicast(m: usize, number: MessageNumber) -> Record
-    requires { ⌜ (m < rooms) × (number .0 < 65536) ⌝ }
+    requires { ⌜ (m < rooms) × (number .0 < 4294967296) ⌝ }
     ensures { λ r. ⌜ r ≡ wordsOf 1 m (number .0) 0 ⌝ }
 {
     Record(word_of(MULTICAST, m as u64, number.0), 0)
@@ -40,7 +40,7 @@ pub fn multicast(m: usize, number: MessageNumber) -> Record
 
 // "ack list (2)": of the message in room m, with its carts.
 pub fn ack_list(m: usize, number: MessageNumber, carts: u64) -> Record
-    requires { ⌜ (m < rooms) × (number .0 < 65536) ⌝ }
+    requires { ⌜ (m < rooms) × (number .0 < 4294967296) ⌝ }
     ensures { λ r. ⌜ r ≡ wordsOf 2 m (number .0) carts ⌝ }
 {
     Record(word_of(ACK_LIST, m as u64, number.0), carts)
@@ -48,7 +48,7 @@ pub fn ack_list(m: usize, number: MessageNumber, carts: u64) -> Record
 
 // "delete (3)": of the message in room m.
 pub fn delete(m: usize, number: MessageNumber) -> Record
-    requires { ⌜ (m < rooms) × (number .0 < 65536) ⌝ }
+    requires { ⌜ (m < rooms) × (number .0 < 4294967296) ⌝ }
     ensures { λ r. ⌜ r ≡ wordsOf 3 m (number .0) 0 ⌝ }
 {
     Record(word_of(DELETE, m as u64, number.0), 0)

@@ -8,7 +8,7 @@ use lib.Dec.{eqb}
 use lib.ListN.{length}
 use borrow.Author.Tests.{eq-eqb, ne-eqb}
 use Rattle.protocol.specs.CartSets.{union}
-use Rattle.protocol.specs.Floor.{Floor, limits, Record, delete, onLines, behead, put, push, toEvery}
+use Rattle.protocol.specs.Floor.{Floor, Record, delete, onLines, behead, put, push, toEvery, limitsOf, Product}
 use Rattle.protocol.specs.Events.{Done, done, wire}
 use Rattle.protocol.specs.Handoff.{roomOf}
 use Rattle.protocol.specs.Wired.{addAcks, handle, onAckList, onWire}
@@ -27,7 +27,7 @@ use Rattle.view.proofs.LinesView.{pop-view}
 use Rattle.view.proofs.Lengths.{Lengths, lengths-right}
 use Rattle.view.proofs.Laid.{Laid, words-right, laid-pop, laid-messages}
 use Rattle.view.proofs.RecordWords.{delete-is, delete-right}
-use Rattle.view.proofs.Standing.{Standing}
+use Rattle.view.proofs.Standing.{Standing, few-stations, few-carts}
 use Rattle.everyline.specs.ToEvery.{PushedToEvery}
 use Rattle.everyline.proofs.EveryView.{every-view, laid-every, every-counts}
 use Rattle.wired.specs.Handled.{Acknowledged}
@@ -35,11 +35,11 @@ use Rattle.wired.proofs.LaidAgain.{room-is}
 use Rattle.wired.proofs.Head.{InRoom, from-below, to-below, wire-is, wire-steps, says-ack-list, ack-list-room}
 use Rattle.wired.proofs.RoomFor.{room-popped}
 
-module _ (S C M W W₁ T : List ℕ) (X : Standing (lent S C M W T)) (i j : ℕ)
+module _ {P : Product} (S C M W W₁ T : List ℕ) (X : Standing (lent P S C M W T)) (i j : ℕ)
     (from : i < headIn S .stations) (to : j < headIn S .stations) (said : word.Record) (rest : List word.Record)
     (top : lineOf W (i * 16 + j) ≡ said ∷ rest) (kind : kindOf (said .0) ≡ 2) (popped : Popped W W₁ (i * 16 + j)) where
   abbrev L : Lent
-  L = lent S C M W T
+  L = lent P S C M W T
 
   abbrev m : ℕ
   m = indexOf (said .0)
@@ -63,21 +63,21 @@ module _ (S C M W W₁ T : List ℕ) (X : Standing (lent S C M W T)) (i j : ℕ)
   lj : j < 16
   lj = to-below L X i j from to
 
-  in-room : InRoom F j n m
+  in-room : InRoom (limitsOf P) F j n m
   in-room = ack-list-room L X i j from to said rest top kind
 
   -- the written step, at the message's room
-  ack-step : onWire limits F i j ≡ cond (eqb known (roomsIn M .named m)) (done (push added (toEvery (headIn S .stations) j) (delete n)) 3 2 n 0 (headIn S .stations) []) (done added 3 2 n 0 0 [])
+  ack-step : onWire (limitsOf (L .product)) F i j ≡ cond (eqb known (roomsIn M .named m)) (done (push added (toEvery (headIn S .stations) j) (delete n)) 3 2 n 0 (headIn S .stations) []) (done added 3 2 n 0 0 [])
   unfolding handle onAckList roomOf
   ack-step =
       wire-is L X i j from to said rest top
-      ∙ ap (λ (r : Record). handle limits (unlined F i j) i j r) (says-ack-list L X i j from to said rest top kind)
+      ∙ ap (λ (r : Record). handle (limitsOf (L .product)) (unlined F i j) i j r) (says-ack-list L X i j from to said rest top kind)
       ∙ rw (in-room .found) refl
 
-  whole-step : known ≡ roomsIn M .named m → onWire limits F i j ≡ done (push added (toEvery (headIn S .stations) j) (delete n)) 3 2 n 0 (headIn S .stations) []
+  whole-step : known ≡ roomsIn M .named m → onWire (limitsOf (L .product)) F i j ≡ done (push added (toEvery (headIn S .stations) j) (delete n)) 3 2 n 0 (headIn S .stations) []
   whole-step e = ack-step ∙ rw (eq-eqb known (roomsIn M .named m) e) refl
 
-  part-step : (known ≡ roomsIn M .named m → ⊥) → onWire limits F i j ≡ done added 3 2 n 0 0 []
+  part-step : (known ≡ roomsIn M .named m → ⊥) → onWire (limitsOf (L .product)) F i j ≡ done added 3 2 n 0 0 []
   part-step e = ack-step ∙ rw (ne-eqb known (roomsIn M .named m) e) refl
 
   popped-lines : linesIn (cartsIn C .next) W₁ ≡ behead i j (linesIn (cartsIn C .next) W)
@@ -93,10 +93,10 @@ module _ (S C M W W₁ T : List ℕ) (X : Standing (lent S C M W T)) (i j : ℕ)
 
   module _ (M′ W₂ : List ℕ) (w : ℕ) (acknowledged : Acknowledged M M′ W₁ W₂ m n (said .1) j (headIn S .stations) w) where
     abbrev L′ : Lent
-    L′ = lent S C M′ W₂ T
+    L′ = lent P S C M′ W₂ T
 
     -- the words lie right once the carts are added
-    laid-added : Laid (lent S C M′ W₁ T)
+    laid-added : Laid (lent P S C M′ W₁ T)
     unfolding roomRight
     laid-added =
         let off = laid-pop S C M W T (X .laid) W₁ i j li lj popped in
@@ -109,13 +109,13 @@ module _ (S C M W W₁ T : List ℕ) (X : Standing (lent S C M W T)) (i j : ℕ)
         let below = in-room .below in
         delete-right (roomsIn M′) j b m n (omega arith) (rw (acknowledged .rooms) (room-is (roomsIn M) j n m (in-room .held .some) (in-room .initiator) (in-room .number)))
 
-    few-stations : headIn S .stations ≤ 16
-    few-stations = X .sized .counts .stations
+    few : headIn S .stations ≤ 16
+    few = few-stations L X
 
     pub laid : Laid L′
     laid =
         by-eq known (roomsIn M .named m)
-        (λ e. laid-every S C M′ W₁ T W₂ laid-added j (headIn S .stations) (wordsOf 3 m n 0) lj few-stations (acknowledged .whole e .1) (λ b l. right-room b))
+        (λ e. laid-every S C M′ W₁ T W₂ laid-added j (headIn S .stations) (wordsOf 3 m n 0) lj few (acknowledged .whole e .1) (λ b l. right-room b))
         (λ e. rw (acknowledged .part e .1) laid-added)
 
     -- the floor, when these are its lines
@@ -139,11 +139,11 @@ module _ (S C M W W₁ T : List ℕ) (X : Standing (lent S C M W T)) (i j : ℕ)
         → linesIn (cartsIn C .next) W₂ ≡ put (toEvery (headIn S .stations) j) (delete n) (behead i j (linesIn (cartsIn C .next) W))
     deletes p =
         let below = in-room .below in
-        every-view W₁ W₂ j (headIn S .stations) (wordsOf 3 m n 0) lj few-stations p (cartsIn C .next)
+        every-view W₁ W₂ j (headIn S .stations) (wordsOf 3 m n 0) lj few p (cartsIn C .next)
         ∙ (λ k. put (toEvery (headIn S .stations) j) (delete-is (cartsIn C .next) m n (omega arith) k) (popped-lines k))
 
     -- "the initiator adds its carts. When they make up the whole set, a delete goes to every station"
-    pub ack-list-is : floorIn L′ ≡ onWire limits F i j .floor
+    pub ack-list-is : floorIn L′ ≡ onWire (limitsOf (L .product)) F i j .floor
     ack-list-is =
         by-eq known (roomsIn M .named m)
         (λ e. let p = acknowledged .whole e .1 in
@@ -154,7 +154,7 @@ module _ (S C M W W₁ T : List ℕ) (X : Standing (lent S C M W T)) (i j : ℕ)
         ∙ sym (ap (λ (d : Done). d .floor) (part-step e)))
 
     -- "3, 2, number, 0, w"
-    pub ack-list-report : onWire limits F i j .report ≡ record { kind = 3; a = 2; b = n; p = 0; w = w; text = [] }
+    pub ack-list-report : onWire (limitsOf (L .product)) F i j .report ≡ record { kind = 3; a = 2; b = n; p = 0; w = w; text = [] }
     ack-list-report =
         by-eq known (roomsIn M .named m)
         (λ e. rw (acknowledged .whole e .0) (ap (λ (d : Done). d .report) (whole-step e)))

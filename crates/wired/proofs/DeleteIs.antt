@@ -7,7 +7,7 @@ use lib.Dec.{eqb}
 use borrow.Author.Tests.{ne-eqb}
 use Rattle.protocol.specs.Folds.{update}
 use Rattle.protocol.specs.CartSets.{without}
-use Rattle.protocol.specs.Floor.{Floor, limits, Record, behead}
+use Rattle.protocol.specs.Floor.{Floor, Record, behead, limitsOf, Product}
 use Rattle.protocol.specs.Events.{Done, done, wire}
 use Rattle.protocol.specs.Handoff.{roomOf}
 use Rattle.protocol.specs.Wired.{handle, onDelete, onWire, unbuffer}
@@ -30,14 +30,14 @@ use Rattle.wired.specs.Handled.{Deleted}
 use Rattle.wired.proofs.LaidAgain.{Fewer, rooms-again}
 use Rattle.wired.proofs.Head.{from-below, to-below, wire-is, wire-steps, says-delete, delete-room}
 
-module _ (S C M M′ W W₁ T : List ℕ) (X : Standing (lent S C M W T)) (i j : ℕ)
+module _ {P : Product} (S C M M′ W W₁ T : List ℕ) (X : Standing (lent P S C M W T)) (i j : ℕ)
     (from : i < headIn S .stations) (to : j < headIn S .stations) (said : word.Record) (rest : List word.Record)
     (top : lineOf W (i * 16 + j) ≡ said ∷ rest) (kind : kindOf (said .0) ≡ 3) (popped : Popped W W₁ (i * 16 + j)) (deleted : Deleted M M′ (indexOf (said .0)) j) where
   abbrev L : Lent
-  L = lent S C M W T
+  L = lent P S C M W T
 
   abbrev L′ : Lent
-  L′ = lent S C M′ W₁ T
+  L′ = lent P S C M′ W₁ T
 
   abbrev m : ℕ
   m = indexOf (said .0)
@@ -49,14 +49,14 @@ module _ (S C M M′ W W₁ T : List ℕ) (X : Standing (lent S C M W T)) (i j :
   F = floorIn L
 
   -- the written step, at the message's room
-  delete-step : onWire limits F i j ≡ done (unbuffer (unlined F i j) m j) 3 3 n 0 0 []
+  delete-step : onWire (limitsOf (L .product)) F i j ≡ done (unbuffer (unlined F i j) m j) 3 3 n 0 0 []
   unfolding handle onDelete roomOf
   delete-step =
       wire-is L X i j from to said rest top
-      ∙ ap (λ (r : Record). handle limits (unlined F i j) i j r) (says-delete L X i j from to said rest top kind)
+      ∙ ap (λ (r : Record). handle (limitsOf (L .product)) (unlined F i j) i j r) (says-delete L X i j from to said rest top kind)
       ∙ rw (delete-room L X i j from to said rest top kind .found) refl
 
-  stepped : step limits F (wire i j) ≡ unbuffer (unlined F i j) m j
+  stepped : step (limitsOf (L .product)) F (wire i j) ≡ unbuffer (unlined F i j) m j
   stepped = wire-steps L X i j from to said rest top ∙ ap (λ (d : Done). d .floor) delete-step
 
   lines : linesIn (cartsIn C .next) W₁ ≡ behead i j (linesIn (cartsIn C .next) W)
@@ -95,12 +95,12 @@ module _ (S C M M′ W W₁ T : List ℕ) (X : Standing (lent S C M W T)) (i j :
       fewer (off .rooms))
 
   -- "the message leaves this station's buffer"
-  pub delete-is : floorIn L′ ≡ onWire limits F i j .floor
+  pub delete-is : floorIn L′ ≡ onWire (limitsOf (L .product)) F i j .floor
   delete-is =
       (λ k. floorOf ((lengths-right L′ lengths ∙ sym (lengths-right L (X .lengths))) k) ((words-right L′ laid ∙ sym (words-right L (X .laid))) k)
       (headIn S) (stationsIn S) (cartsIn C) (deleted .rooms k) (textsIn T (deleted .rooms k)) (lines k))
       ∙ sym (ap (λ (d : Done). d .floor) delete-step)
 
   -- "3, 3, number, 0, 0"
-  pub delete-report : onWire limits F i j .report ≡ record { kind = 3; a = 3; b = n; p = 0; w = 0; text = [] }
+  pub delete-report : onWire (limitsOf (L .product)) F i j .report ≡ record { kind = 3; a = 3; b = n; p = 0; w = 0; text = [] }
   delete-report = ap (λ (d : Done). d .report) delete-step

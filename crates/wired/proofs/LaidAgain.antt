@@ -7,7 +7,7 @@ use Prim.Native.Nat.{ℕ, _+_, _*_, _<_}
 use native.Mathlib.Omega.{arith}
 use lib.Dec.{eqb}
 use borrow.Author.Tests.{eq-eqb, not-true}
-use Rattle.protocol.specs.Floor.{Floor, limits, Record, multicast, ackList, delete}
+use Rattle.protocol.specs.Floor.{Limits, Floor, Record, multicast, ackList, delete, limitsOf}
 use Rattle.protocol.specs.Claims.{All}
 use Rattle.protocol.specs.Events.{Event}
 use Rattle.protocol.specs.Step.{step}
@@ -44,11 +44,11 @@ pub record Fewer (R R′ : Rooms) (m : ℕ) : Type 0 where
   pub initiator : R′ .initiator m ≡ R .initiator m
   pub number : R′ .number m ≡ R .number m
 
-module _ (R R′ : Rooms)
+module _ (N : Limits) (R R′ : Rooms)
     (one : (m k : ℕ) → eqb (R .waiting m) 0 ≡ false → eqb (R .waiting k) 0 ≡ false → R .initiator m ≡ R .initiator k → R .number m ≡ R .number k → m ≡ k)
     (fewer : (m : ℕ) → eqb (R′ .waiting m) 0 ≡ false → Fewer R R′ m) where
   -- a message that is still held is still in its room
-  in-again : (s n k : ℕ) → Holds limits (R′ .waiting) (R′ .initiator) (R′ .number) s n → isIn R s n k ≡ true → isIn R′ s n k ≡ true
+  in-again : (s n k : ℕ) → Holds N (R′ .waiting) (R′ .initiator) (R′ .number) s n → isIn R s n k ≡ true → isIn R′ s n k ≡ true
   in-again s n k h e =
       let was = room-says R s n k e in
       let f = fewer (h .m) (h .held .some) in
@@ -57,7 +57,7 @@ module _ (R R′ : Rooms)
 
   module _ (carts : ℕ) (acked named : ℕ → ℕ) (i j : ℕ) (next : ℕ → ℕ → ℕ) where
     abbrev Right : Record → Type 0
-    Right = OfHeld limits carts (R′ .waiting) (R′ .initiator) (R′ .number) acked named i j
+    Right = OfHeld N carts (R′ .waiting) (R′ .initiator) (R′ .number) acked named i j
 
     -- a record
     word-again : (r : word.Record) → Right (recordIn next r) → roomRight R i j r ≡ true → roomRight R′ i j r ≡ true
@@ -86,10 +86,10 @@ no-words : (next : ℕ → ℕ → ℕ) (f : word.Record → Bool) (l : List wor
 no-words next f [] h = refl
 no-words next f (r ∷ l) h = absurd (let z : _≡_ {A = ℕ} 0 1 = cc in omega arith)
 
--- a taken room is one of the thirty-two
-pub taken-below : (L : Lent) → Standing L → (m : ℕ) → eqb (roomsIn (L .messages) .waiting m) 0 ≡ false → m < 32
+-- a taken room has a row
+pub taken-below : (L : Lent) → Standing L → (m : ℕ) → eqb (roomsIn (L .messages) .waiting m) 0 ≡ false → m < L .product .held
 taken-below L X m w =
-    by-lt m 32 (λ l. l)
+    by-lt m (L .product .held) (λ l. l)
     (λ l. absurd (let z = X .lengths .messages in let y : roomsIn (L .messages) .waiting m ≡ 0 = waiting-past (L .messages) m (omega arith) in
     let x : true ≡ false = rw y at w in let v : _≡_ {A = ℕ} 0 1 = cc in omega arith))
 
@@ -100,7 +100,7 @@ module _ (L : Lent) (X : Standing L) (e : Event) (M′ W′ : List ℕ) (next′
   F = floorIn L
 
   abbrev F′ : Floor
-  F′ = step limits F e
+  F′ = step (limitsOf (L .product)) F e
 
   abbrev R : Rooms
   R = roomsIn (L .messages)
@@ -113,21 +113,21 @@ module _ (L : Lent) (X : Standing L) (e : Event) (M′ W′ : List ℕ) (next′
       → ((i j : ℕ) → i < 16 → j < 16 → everyWord (roomRight R i j) (lineOf W′ (i * 16 + j)) ≡ true)
       → (i j : ℕ) → i < 16 → j < 16 → everyWord (roomRight R′ i j) (lineOf W′ (i * 16 + j)) ≡ true
   rooms-again waiting initiator number lines fewer right i j li lj =
-      let B = nothing-beyond L (X .lengths) in
-      let after = form-closed limits F e B (X .passes) in
-      let P = clauses-of limits F′ (after .1) in
-      let facts : FormFacts limits F′ = form-of limits F′ (after .0) P in
-      let whole = sized-of limits F′ (after .0) P in
+      let B = nothing-beyond L (X .lengths) (X .laid) in
+      let after = form-closed (limitsOf (L .product)) F e B (X .passes) in
+      let P = clauses-of (limitsOf (L .product)) F′ (after .1) in
+      let facts : FormFacts (limitsOf (L .product)) F′ = form-of (limitsOf (L .product)) F′ (after .0) P in
+      let whole = sized-of (limitsOf (L .product)) F′ (after .0) P in
       let here : F′ .lines i j ≡ map (recordIn next′) (lineOf W′ (i * 16 + j)) = ap (λ (f : ℕ → ℕ → List Record). f i j) lines ∙ line-in next′ W′ i j li lj in
       let empty : (i < F′ .stations → j < F′ .stations → ⊥) → everyWord (roomRight R′ i j) (lineOf W′ (i * 16 + j)) ≡ true =
       λ h. no-words next′ (roomRight R′ i j) (lineOf W′ (i * 16 + j)) (sym here ∙ no-line (F′ .stations) (F′ .carts) i j (F′ .lines i j) (whole .lines i j) h) in
       by-lt i (F′ .stations)
       (λ a. by-lt j (F′ .stations)
-      (λ b. line-again R R′ (λ m k hm hk. X .facts .one-room m k (held m hm) (held k hk)) fewer (F′ .carts) (F′ .acked) (F′ .named) i j next′ (lineOf W′ (i * 16 + j))
-      (subst (λ (l : List Record). All (OfHeld limits (F′ .carts) (R′ .waiting) (R′ .initiator) (R′ .number) (F′ .acked) (F′ .named) i j) l) here
+      (λ b. line-again (limitsOf (L .product)) R R′ (λ m k hm hk. X .facts .one-room m k (held m hm) (held k hk)) fewer (F′ .carts) (F′ .acked) (F′ .named) i j next′ (lineOf W′ (i * 16 + j))
+      (subst (λ (l : List Record). All (OfHeld (limitsOf (L .product)) (F′ .carts) (R′ .waiting) (R′ .initiator) (R′ .number) (F′ .acked) (F′ .named) i j) l) here
       (rw (waiting, initiator, number) at (facts .on-lines .records-held i j a b))) (right i j li lj))
       (λ b. empty (λ x y. omega arith)))
       (λ a. empty (λ x y. omega arith))
     where
-      held : (m : ℕ) → eqb (R .waiting m) 0 ≡ false → Held limits (F .waiting) m
+      held : (m : ℕ) → eqb (R .waiting m) 0 ≡ false → Held (limitsOf (L .product)) (F .waiting) m
       held m w = record { slot = taken-below L X m w; some = w }

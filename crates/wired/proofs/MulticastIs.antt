@@ -8,11 +8,12 @@ use native.Mathlib.Omega.{arith}
 use lib.Dec.{eqb}
 use Rattle.protocol.specs.Folds.{count}
 use Rattle.protocol.specs.CartSets.{minus, setOf}
-use Rattle.protocol.specs.Floor.{Floor, limits, Place, Carts, travelling, localTo, Record, behead}
+use Rattle.protocol.specs.Floor.{Floor, Place, Carts, travelling, localTo, Record, behead, limitsOf, Product}
 use Rattle.protocol.specs.Events.{Done, done}
 use Rattle.protocol.specs.Form.{multicastNumbers}
 use Rattle.protocol.specs.Handoff.{roomOf}
 use Rattle.protocol.specs.Wired.{handle, onMulticast, onWire, buffer, raiseExpected, passesOver, isQueued, isStruck}
+use borrow.Author.Tests.{ne-eqb}
 use Rattle.protocol.proofs.Tests.{and-left, clash}
 use Rattle.protocol.proofs.Accepted.{unlined}
 use Rattle.protocol.proofs.Updates.{counts-up-le}
@@ -39,22 +40,23 @@ stays : (p : Place) (t s u : ℕ) → localTo p t ≡ true → p ≡ travelling 
 stays p t s u e q = clash (localTo p t) e (ap (λ (x : Place). localTo x t) q)
 
 -- the number that a station expects is no more than 65,535
-pub expected-below : (L : Lent) → Standing L → (t s : ℕ) → t < floorIn L .stations → floorIn L .expected t s < 65536
+pub expected-below : (L : Lent) → Standing L → (t s : ℕ) → t < floorIn L .stations → floorIn L .expected t s < 4294967296
 expected-below L X t s l =
     let F = floorIn L in
     let a = counts-up-le (F .expected t s) (multicastNumbers (F .lines s t)) (F .sent s) (X .facts .run s t l) in
     let b = X .sized .numbers s in
+    let k = L .product .last-fit in
     omega arith
 
-module _ (S S′ C C′ M W W₁ T : List ℕ) (X : Standing (lent S C M W T)) (i j : ℕ)
+module _ {P : Product} (S S′ C C′ M W W₁ T : List ℕ) (X : Standing (lent P S C M W T)) (i j : ℕ)
     (from : i < headIn S .stations) (to : j < headIn S .stations) (said : word.Record) (rest : List word.Record)
     (top : lineOf W (i * 16 + j) ≡ said ∷ rest) (kind : kindOf (said .0) ≡ 1) (popped : Popped W W₁ (i * 16 + j))
     (p : ℕ) (buffered : Buffered S S′ C C′ M (indexOf (said .0)) (numberOf (said .0)) i j p) where
   abbrev L : Lent
-  L = lent S C M W T
+  L = lent P S C M W T
 
   abbrev L′ : Lent
-  L′ = lent S′ C′ M W₁ T
+  L′ = lent P S′ C′ M W₁ T
 
   abbrev m : ℕ
   m = indexOf (said .0)
@@ -71,15 +73,18 @@ module _ (S S′ C C′ M W W₁ T : List ℕ) (X : Standing (lent S C M W T)) (
   lj : j < 16
   lj = to-below L X i j from to
 
-  in-room : InRoom F i n m
+  lj′ : j < P .stations
+  lj′ = let z = X .sized .counts .stations in omega arith
+
+  in-room : InRoom (limitsOf P) F i n m
   in-room = multicast-room L X i j from to said rest top kind
 
   -- the written step, at the message's room
-  multicast-step : onWire limits F i j ≡ done (raiseExpected (buffer (unlined F i j) m j i n) j i) 3 1 n (count (headIn S .carts) (passesOver F m j i n)) 0 []
+  multicast-step : onWire (limitsOf (L .product)) F i j ≡ done (raiseExpected (buffer (unlined F i j) m j i n) j i) 3 1 n (count (headIn S .carts) (passesOver F m j i n)) 0 []
   unfolding handle onMulticast roomOf
   multicast-step =
       wire-is L X i j from to said rest top
-      ∙ ap (λ (r : Record). handle limits (unlined F i j) i j r) (says-multicast L X i j from to said rest top kind)
+      ∙ ap (λ (r : Record). handle (limitsOf (L .product)) (unlined F i j) i j r) (says-multicast L X i j from to said rest top kind)
       ∙ rw (in-room .found) refl
 
   lengths : Lengths L′
@@ -98,6 +103,9 @@ module _ (S S′ C C′ M W W₁ T : List ℕ) (X : Standing (lent S C M W T)) (
       (λ c l. ap (λ (f : ℕ → Bool). f c) (buffered .carts .canonical) ∙ X .laid .canonical c l)
       (λ t l. ap (λ (Y : Stations). Y .local t) (buffered .stations .stations) ∙ X .laid .local t l
       ∙ ap (λ (K : Carts). setOf 64 (λ c. localTo (K .place c) t)) (sym (buffered .carts .carts)))
+      (λ t k lt lk l. let other : eqb k m ≡ false = ne-eqb k m (λ q. let z = in-room .held .slot in omega arith) in
+      (ap (λ (Y : Stations). Y .copy k t) (buffered .stations .stations) ∙ rw other (X .laid .few t k lt lk l .0),
+      ap (λ (Y : Stations). Y .queue k t) (buffered .stations .stations) ∙ rw other (X .laid .few t k lt lk l .1)))
 
   -- the carts, with the next numbers that rise
   abbrev passed : Carts
@@ -108,7 +116,7 @@ module _ (S S′ C C′ M W W₁ T : List ℕ) (X : Standing (lent S C M W T)) (
       buffered .carts .carts
       ∙ (λ k. record {
         place = cartsIn C .place;
-        next = λ c u. cond (eqb u i && over-has L X m j i n (in-room .below) lj (buffered .over) (buffered .passed) c k) (add-one n k) (cartsIn C .next c u);
+        next = λ c u. cond (eqb u i && over-has L X m j i n (in-room .held .slot) lj′ (buffered .over) (buffered .passed) c k) (add-one n k) (cartsIn C .next c u);
       })
 
   -- the station, with the copy, the queue's entry and one more expected
@@ -118,7 +126,7 @@ module _ (S S′ C C′ M W W₁ T : List ℕ) (X : Standing (lent S C M W T)) (
   stations =
       buffered .stations .stations
       ∙ (λ k. withExpected
-      (withQueue (withCopy (stationsIn S) m j (copy-same L X m j i n (in-room .below) lj k)) m j (queue-same L X m j i n (in-room .below) lj (buffered .over) (buffered .passed) k))
+      (withQueue (withCopy (stationsIn S) m j (copy-same L X m j i n (in-room .held .slot) lj′ k)) m j (queue-same L X m j i n (in-room .held .slot) lj′ (buffered .over) (buffered .passed) k))
       j i (add-one (stationsIn S .expected j i) k))
 
   -- carts that are not passed over keep their next numbers, and those that are have no register on a line
@@ -134,7 +142,7 @@ module _ (S S′ C C′ M W W₁ T : List ℕ) (X : Standing (lent S C M W T)) (
       (none-unless-travelling (F .place c) a b _ (λ s u. stays (F .place c) j s u (and-left (localTo (F .place c) j) _ e)))))
 
   -- "the message is buffered with its own copy of the set. For each local cart: .."; "the expected number rises by one"
-  pub multicast-is : floorIn L′ ≡ onWire limits F i j .floor
+  pub multicast-is : floorIn L′ ≡ onWire (limitsOf (L .product)) F i j .floor
   unfolding buffer
   multicast-is =
       (λ k. floorOf ((lengths-right L′ lengths ∙ sym (lengths-right L (X .lengths))) k) ((words-right L′ laid ∙ sym (words-right L (X .laid))) k)
@@ -142,7 +150,7 @@ module _ (S S′ C C′ M W W₁ T : List ℕ) (X : Standing (lent S C M W T)) (
       ∙ sym (ap (λ (d : Done). d .floor) multicast-step)
 
   -- "3, 1, number, p, 0"
-  pub multicast-report : onWire limits F i j .report ≡ record { kind = 3; a = 1; b = n; p = p; w = 0; text = [] }
+  pub multicast-report : onWire (limitsOf (L .product)) F i j .report ≡ record { kind = 3; a = 1; b = n; p = p; w = 0; text = [] }
   multicast-report =
       ap (λ (d : Done). d .report) multicast-step
-      ∙ rw (buffered .count, over-count L X m j i n (in-room .below) lj (buffered .over) (buffered .passed)) refl
+      ∙ rw (buffered .count, over-count L X m j i n (in-room .held .slot) lj′ (buffered .over) (buffered .passed)) refl

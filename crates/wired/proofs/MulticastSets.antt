@@ -17,11 +17,11 @@ use Rattle.carts.specs.View.{cartsIn}
 use Rattle.messages.specs.View.{roomsIn}
 use Rattle.cartset.specs.Masks.{size}
 use Rattle.view.specs.View.{Lent, floorIn}
-use Rattle.view.proofs.Standing.{Standing}
+use Rattle.view.proofs.Standing.{Standing, few-stations, few-carts}
 use Rattle.wired.specs.Handled.{dueAmong, pastAmong}
 
 -- a local cart has entered
-local-entered : (p : Place) (t : ℕ) → localTo p t ≡ true → entered p ≡ true
+pub local-entered : (p : Place) (t : ℕ) → localTo p t ≡ true → entered p ≡ true
 local-entered outside t e = clash false e refl
 local-entered (at s) t e = refl
 local-entered (leaving s u) t e = refl
@@ -53,7 +53,7 @@ struck-test true true true = refl
 struck-test true false true = refl
 struck-test false g true = refl
 
-module _ (L : Lent) (X : Standing L) (m t s n : ℕ) (lm : m < 32) (lt : t < 16) where
+module _ (L : Lent) (X : Standing L) (m t s n : ℕ) (lm : m < L .product .held) (lt : t < L .product .stations) where
   abbrev F : Floor
   F = floorIn L
 
@@ -71,7 +71,7 @@ module _ (L : Lent) (X : Standing L) (m t s n : ℕ) (lm : m < 32) (lt : t < 16)
   far c l = by-test (localTo (F .place c) t) (λ e. absurd (let z = X .facts .real c (local-entered (F .place c) t e) in omega arith)) (λ e. e)
 
   few : F .carts ≤ 64
-  few = X .sized .counts .carts
+  few = few-carts L X
 
   local-has : (c : ℕ) → c < 64 → has (stationsIn (L .stations) .local t) c ≡ localTo (F .place c) t
   local-has c l = ap (λ (x : ℕ). has x c) (X .laid .local t lt) ∙ has-setOf 64 (λ d. localTo (F .place d) t) c l

@@ -5,10 +5,10 @@ use ids::Station;
 use lines::Record;
 ghost use mathlib.Core.Path.{_≡_};
 ghost use mathlib.Core.Bool.{true, cond, not};
-ghost use Prim.Native.Nat.{_+_, _<_, _≤_};
-ghost use lib.ListN.{length};
-ghost use Rattle.protocol.specs.CartSets.{union, minus};
+ghost use Prim.Native.Nat.{ℕ, _+_, _<_, _≤_};
+ghost use Rattle.protocol.specs.CartSets.{has, union, minus};
 ghost use Rattle.stations.specs.View.{initiators, rooms, HasStation, stationsIn};
+ghost use Rattle.carts.specs.Words.{HasRow};
 ghost use Rattle.carts.specs.View.{cartsIn};
 ghost use Rattle.messages.specs.View.{HasRoom, roomsIn};
 ghost use Rattle.cartset.specs.Masks.{size};
@@ -35,7 +35,7 @@ fn rise(named: bool) -> u64
 // "For each local cart: next number equal ..; greater ..". Nearly all are equal, so that is asked first, and the others are gathered; whether a cart
 // that is due is named cannot be guessed, so its number is put back risen or not, without a branch.
 fn meet(carts: &mut [u64], local: u64, named: u64, initiator: Station, number: u64) -> Met
-    requires { ⌜ (length (now carts) ≡ 1216) × (initiator .0 < initiators) × (number < 65536) ⌝ }
+    requires { ⌜ ((c : ℕ) → has local c ≡ true → HasRow (now carts) c) × (initiator .0 < initiators) × (number < 4294967296) ⌝ }
     ensures { λ r. ⌜ r .due ≡ dueAmong (cartsIn (now (carts .entry))) local (initiator .0) number ⌝ }
     ensures { λ r. ⌜ r .past ≡ pastAmong (cartsIn (now (carts .entry))) local (initiator .0) number ⌝ }
     ensures { λ r. ⌜ Raised (now (carts .entry)) (now (carts .exit)) (minus (r .due) named) (initiator .0) (number + 1) ⌝ }
@@ -67,7 +67,7 @@ fn meet(carts: &mut [u64], local: u64, named: u64, initiator: Station, number: u
 
 // The copy and the queue's entry of the message in room m; "the expected number rises by one".
 fn store(stations: &mut [u64], m: usize, initiator: Station, to: Station, copy: u64, queue: u64)
-    requires { ⌜ HasStation (now stations) (to .0) × (m < rooms) × (initiator .0 < initiators) × (stationsIn (now stations) .expected (to .0) (initiator .0) < 65536) ⌝ }
+    requires { ⌜ HasStation (now stations) (to .0) × (m < rooms) × (initiator .0 < initiators) × (stationsIn (now stations) .expected (to .0) (initiator .0) < 4294967296) ⌝ }
     ensures { λ _. ⌜ Stored (now (stations .entry)) (now (stations .exit)) m (initiator .0) (to .0) copy queue ⌝ }
 {
     let expected = stations::expected_of(stations, to, initiator);
@@ -86,8 +86,8 @@ pub fn on_multicast(
     initiator: Station,
     to: Station,
 ) -> u64
-    requires { ⌜ HasStation (now stations) (to .0) × (initiator .0 < initiators) × (stationsIn (now stations) .expected (to .0) (initiator .0) < 65536) ⌝ }
-    requires { ⌜ (length (now carts) ≡ 1216) × HasRoom (now messages) (indexOf (said .0)) × (indexOf (said .0) < rooms) × (numberOf (said .0) < 65536) ⌝ }
+    requires { ⌜ HasStation (now stations) (to .0) × (initiator .0 < initiators) × (stationsIn (now stations) .expected (to .0) (initiator .0) < 4294967296) ⌝ }
+    requires { ⌜ ((c : ℕ) → has (stationsIn (now stations) .local (to .0)) c ≡ true → HasRow (now carts) c) × HasRoom (now messages) (indexOf (said .0)) × (indexOf (said .0) < rooms) × (numberOf (said .0) < 4294967296) ⌝ }
     ensures { λ r. ⌜ Buffered (now (stations .entry)) (now (stations .exit)) (now (carts .entry)) (now (carts .exit)) (now (messages .entry)) (indexOf (said .0)) (numberOf (said .0)) (initiator .0) (to .0) r ⌝ }
 {
     let m = view::index_of(said) as usize;
@@ -131,7 +131,7 @@ pub fn on_ack_list(
     initiator: Station,
     n: u64,
 ) -> u64
-    requires { ⌜ HasRoom (now messages) (indexOf (said .0)) × (indexOf (said .0) < rooms) × (numberOf (said .0) < 65536) ⌝ }
+    requires { ⌜ HasRoom (now messages) (indexOf (said .0)) × (indexOf (said .0) < rooms) × (numberOf (said .0) < 4294967296) ⌝ }
     requires { ⌜ (initiator .0 < initiators) × (n ≤ 16) × (form (now lines) ≡ true) ⌝ }
     requires { ⌜ (union (roomsIn (now messages) .acked (indexOf (said .0))) (said .1) ≡ roomsIn (now messages) .named (indexOf (said .0)) → used (now lines) + n ≤ capacity (now lines)) ⌝ }
     ensures { λ r. ⌜ Acknowledged (now (messages .entry)) (now (messages .exit)) (now (lines .entry)) (now (lines .exit)) (indexOf (said .0)) (numberOf (said .0)) (said .1) (initiator .0) n r ⌝ }

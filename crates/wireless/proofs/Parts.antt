@@ -1,20 +1,46 @@
 -- The parts of a radio step, store by store.
 use mathlib.Core.Path.{_≡_, refl, sym, ap, ap₂, _∙_}
+use mathlib.Core.Bool.{true, false}
+use mathlib.Core.List.{List}
 use mathlib.Core.Option.{Option, none, some}
 use Prim.Native.Nat.{ℕ, _+_, _-_, _<_, _≤_}
 use native.Mathlib.Omega.{arith}
 use lib.Dec.{ltb}
-use borrow.Author.Tests.{ltb-true}
+use borrow.Author.Tests.{ltb-true, ne-eqb}
 use Rattle.protocol.specs.CartSets.{has, minus, with, without}
 use Rattle.protocol.specs.Floor.{Floor}
-use Rattle.protocol.proofs.Tests.{and-right}
-use Rattle.stations.specs.View.{Stations, withCopy, withAcks, withQueue}
+use Rattle.protocol.proofs.SetLaws.{has-zero, has-setOf}
+use Rattle.protocol.proofs.Tests.{and-right, by-lt, by-test, clash, on-update2}
+use Rattle.stations.specs.View.{Stations, stationsIn, namingIn, withCopy, withAcks, withQueue}
 use Rattle.queue.specs.Rooms.{roomCode, roomIn}
 use Rattle.catchup.specs.Nearest.{nearestAmong, stopBy}
 use Rattle.catchup.specs.Arrival.{isFound, queuedFor}
 use Rattle.catchup.proofs.ClosedForm.{IsNearest, nearest-is, would}
+use Rattle.catchup.proofs.NamingLaws.{naming-inside}
 use Rattle.catchup.proofs.RoomLaws.{nearest-decoded}
 use Rattle.catchup.proofs.QueueLaws.{queued-none}
+use Rattle.wireless.specs.Handed.{holdNone, AcksSent}
+
+-- a copy that names a cart is of a room below any number that no copy is beyond
+pub naming-below : (S : List ℕ) (t c n : ℕ) → ((r : ℕ) → n ≤ r → stationsIn S .copy r t ≡ 0) → (m : ℕ) → has (namingIn (stationsIn S) t c) m ≡ true → m < n
+naming-below S t c n beyond m h =
+    by-lt m n (λ k. k)
+    (λ k. let i = naming-inside S t c m h in
+    let y : has (stationsIn S .copy m t) c ≡ true = sym (has-setOf 32 (λ r. has (stationsIn S .copy r t) c) m i) ∙ h in
+    clash (has 0 c) (rw (beyond m k) at y) (has-zero c))
+
+-- another room's copy, when that of room m changes
+pub beyond-kept : (X : Stations) (m t n x : ℕ) → m < n → ((r : ℕ) → n ≤ r → X .copy r t ≡ 0) → (r : ℕ) → n ≤ r → withCopy X m t x .copy r t ≡ 0
+beyond-kept X m t n x l beyond r h = on-update2 (λ (y : ℕ). y ≡ 0) (X .copy) m t x r t (λ e f. absurd (omega arith)) (λ e. beyond r h)
+
+-- and so it is once an ack list has gone
+pub acks-beyond : (S S′ W W′ : List ℕ) (m s n t w k : ℕ) → AcksSent S S′ W W′ m s n t w → m < k → ((r : ℕ) → k ≤ r → stationsIn S .copy r t ≡ 0)
+    → (r : ℕ) → k ≤ r → stationsIn S′ .copy r t ≡ 0
+acks-beyond S S′ W W′ m s n t w k acks l beyond r h =
+    let X = stationsIn S in
+    by-test (holdNone X m t)
+    (λ e. ap (λ (Y : Stations). Y .copy r t) (acks .yes e .0) ∙ beyond-kept X m t k (minus (X .copy m t) (X .acks m t)) l beyond r h)
+    (λ e. ap (λ (Y : Stations). Y .copy r t) (acks .no e .0) ∙ beyond r h)
 
 -- the entry, then the ack list
 pub received-stations : (X X₁ X₂ : Stations) (m t c q q′ a a′ : ℕ) → q ≡ X .queue m t → q′ ≡ without q c → X₁ ≡ withQueue X m t q′ → a ≡ X₁ .acks m t → a′ ≡ with a c → X₂ ≡ withAcks X₁ m t a′
@@ -34,6 +60,29 @@ module _ (F : Floor) (t c s x : ℕ) where
   -- what was found, from its word
   pub found-is : (h : ℕ) → h ≡ roomCode (nearestAmong F t c s x 32) → roomIn h ≡ nearestAmong F t c s x 32
   found-is h e = ap roomIn e ∙ nearest-decoded F t c s x 32 (omega arith)
+
+  -- a room that was found names the cart, so it is below any number that no copy is beyond
+  pub found-below : (n h : ℕ) → ((r : ℕ) → n ≤ r → F .copy r t ≡ 0) → h ≡ roomCode (nearestAmong F t c s x 32) → h < 32 → h < n
+  found-below n h beyond e l = below (nearestAmong F t c s x 32) (nearest-is F t c s x 32) e
+    where
+      below : (o : Option ℕ) → IsNearest F t c s x 32 o → h ≡ roomCode o → h < n
+      below none q e = absurd (let z : h ≡ 32 = e in omega arith)
+      below (some k) q e =
+          let z : h ≡ k = e in
+          by-lt k n (λ u. omega arith)
+          (λ u. let y = would F t c s x k (q .1 .0) .in-copy in clash (has 0 c) (rw (beyond k u) at y) (has-zero c))
+
+  -- so no other was found
+  pub not-found : (n m : ℕ) → ((r : ℕ) → n ≤ r → F .copy r t ≡ 0) → n ≤ m → isFound (nearestAmong F t c s x 32) m ≡ false
+  not-found n m beyond l = other (nearestAmong F t c s x 32) (nearest-is F t c s x 32)
+    where
+      other : (o : Option ℕ) → IsNearest F t c s x 32 o → isFound o m ≡ false
+      other none q = refl
+      other (some k) q =
+          ne-eqb m k
+          (λ e. let y = would F t c s x k (q .1 .0) .in-copy in
+          let z : F .copy k t ≡ 0 = beyond k (omega arith) in
+          clash (has 0 c) (rw z at y) (has-zero c))
 
   -- no number falls
   pub no-fall : x ≤ stopBy F t s x (nearestAmong F t c s x 32) .upto

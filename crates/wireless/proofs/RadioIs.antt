@@ -8,17 +8,19 @@ use native.Mathlib.Omega.{arith}
 use lib.Dec.{eqb}
 use borrow.Author.Tests.{eq-eqb}
 use Rattle.protocol.specs.Folds.{update2, byOption}
-use Rattle.protocol.specs.CartSets.{setOf, with}
-use Rattle.protocol.specs.Floor.{Floor, limits, Carts, at, travelling, Record, ackList, put, between, localTo, setNext}
+use Rattle.protocol.specs.CartSets.{has, setOf, with, without, minus}
+use Rattle.protocol.specs.Floor.{Product, limitsOf, Floor, Carts, at, travelling, Record, ackList, put, between, localTo, setNext}
 use Rattle.protocol.specs.Form.{handoffs}
 use Rattle.protocol.specs.Handoff.{catchUp, catchUpStop, enqueue, rowOf}
 use Rattle.protocol.specs.Wireless.{receive, allAcked, sendAcks, sendAcksIfAll, handOver, onRadio}
-use Rattle.protocol.proofs.Tests.{on-update2, on-cond, update2-at, by-test, both-differ, eqb-self}
+use Rattle.protocol.proofs.Tests.{on-update2, on-cond, update2-at, by-test, by-lt, both-differ, eqb-self}
+use Rattle.protocol.proofs.SetLaws.{has-zero}
 use Rattle.protocol.proofs.FloorLaws.{at-is}
 use Rattle.protocol.proofs.Accepted.{MayRadio}
 use Rattle.protocol.proofs.Invariant.{Queued}
 use Rattle.protocol.proofs.Updates.{handoffs-append}
-use Rattle.stations.specs.View.{Stations, Head, headIn, stationsIn, withQueue}
+use Rattle.stations.specs.View.{Stations, Head, headIn, stationsIn, withCopy, withAcks, withQueue}
+use Rattle.stations.proofs.TableLaws.{copy-beyond}
 use Rattle.carts.specs.View.{cartsIn, withNext}
 use Rattle.messages.specs.View.{roomsIn}
 use Rattle.view.specs.Records.{linesIn, wordsOf, isIn}
@@ -28,27 +30,28 @@ use Rattle.view.proofs.Lengths.{Lengths, lengths-right}
 use Rattle.view.proofs.Laid.{Laid, words-right, laid-stations, laid-carts, laid-push}
 use Rattle.view.proofs.Registers.{NoRegister, none-unless-travelling, lines-kept}
 use Rattle.view.proofs.RecordWords.{ack-list-is, ack-list-right}
-use Rattle.view.proofs.Standing.{Standing}
+use Rattle.view.proofs.Standing.{Standing, few-carts}
 use Rattle.queue.specs.Rooms.{tablesFloor, roomCode}
 use Rattle.queue.proofs.AckLaws.{all-acked}
 use Rattle.catchup.proofs.ClosedForm.{same-stop}
 use Rattle.catchup.proofs.RoomLaws.{nearest-decoded}
 use Rattle.catchup.proofs.QueueLaws.{queued-none}
-use Rattle.catchup.proofs.Stops.{lent-agree, stops-there, stop-found}
+use Rattle.catchup.proofs.Stops.{NoneBeyond, lent-agree, stops-there, stop-found}
 use Rattle.catchup.specs.Nearest.{nearestAmong, stopBy}
 use Rattle.catchup.specs.Arrival.{isFound, queuedFor}
 use Rattle.wireless.specs.Handed.{Received, holdNone, AcksSent, nearestFrom, CaughtUp, HandedOver}
 use Rattle.wireless.proofs.Asks.{radio-numbers}
+use Rattle.wireless.proofs.Parts.{not-found}
 
 -- THE FIRST PART: from any lent parts that lie right
-module _ (S S₁ C C₁ M W T : List ℕ) (m s t c : ℕ) (sizes : Lengths (lent S C M W T)) (laid : Laid (lent S C M W T))
+module _ {P : Product} (S S₁ C C₁ M W T : List ℕ) (m s t c : ℕ) (lh : m < P .held) (sizes : Lengths (lent P S C M W T)) (laid : Laid (lent P S C M W T))
     (received : Received S S₁ C C₁ m s t c) (due : cartsIn C .next c s ≡ roomsIn M .number m) (from : s ≡ roomsIn M .initiator m)
     (none-there : (i j : ℕ) → NoRegister (handoffs c (linesIn (cartsIn C .next) W i j))) where
   abbrev L : Lent
-  L = lent S C M W T
+  L = lent P S C M W T
 
   abbrev L₁ : Lent
-  L₁ = lent S₁ C₁ M W T
+  L₁ = lent P S₁ C₁ M W T
 
   pub lengths₁ : Lengths L₁
   lengths₁ = record { stations = received .words ∙ sizes .stations; carts = received .rows ∙ sizes .carts; messages = sizes .messages; lines = sizes .lines; texts = sizes .texts }
@@ -58,6 +61,11 @@ module _ (S S₁ C C₁ M W T : List ℕ) (m s t c : ℕ) (sizes : Lengths (lent
       laid-carts S C M W T laid S₁ C₁
       (λ d ld. ap (λ (f : ℕ → Bool). f d) (received .canonical) ∙ laid .canonical d ld)
       (λ u l. ap (λ (X : Stations). X .local u) (received .stations) ∙ laid .local u l ∙ ap (λ (K : Carts). setOf 64 (λ d. localTo (K .place d) u)) (sym (received .carts)))
+      (λ u r lu lr l. let was = laid .few u r lu lr l in (
+        ap (λ (X : Stations). X .copy r u) (received .stations) ∙ was .0,
+        ap (λ (X : Stations). X .queue r u) (received .stations)
+            ∙ on-update2 (λ (y : ℕ). y ≡ 0) (stationsIn S .queue) m t (without (stationsIn S .queue m t) c) r u (λ e f. absurd (omega arith)) (λ e. was .1),
+      ))
 
   -- only that cart's numbers are others
   pub others₁ : (d u : ℕ) → (d ≡ c → ⊥) → cartsIn C₁ .next d u ≡ cartsIn C .next d u
@@ -76,14 +84,14 @@ module _ (S S₁ C C₁ M W T : List ℕ) (m s t c : ℕ) (sizes : Lengths (lent
       (received .head i) (received .stations i) (carts₁ i) (roomsIn M) (textsIn T (roomsIn M)) (lines₁ i)
 
 -- THE SECOND: the ack list goes if nobody holds it back
-module _ (S₁ S₂ C₁ M W W′ T : List ℕ) (m t w : ℕ) (sizes : Lengths (lent S₁ C₁ M W T)) (laid : Laid (lent S₁ C₁ M W T))
-    (lm : m < 32) (lt : t < 16) (few : headIn S₁ .carts ≤ 64) (ls : roomsIn M .initiator m < 16) (fits : stationsIn S₁ .copy m t < 2 ^ headIn S₁ .carts) (held : eqb (roomsIn M .waiting m) 0 ≡ false)
+module _ {P : Product} (S₁ S₂ C₁ M W W′ T : List ℕ) (m t w : ℕ) (lh : m < P .held) (lp : t < P .stations) (sizes : Lengths (lent P S₁ C₁ M W T)) (laid : Laid (lent P S₁ C₁ M W T))
+    (lt : t < 16) (few : headIn S₁ .carts ≤ 64) (ls : roomsIn M .initiator m < 16) (fits : stationsIn S₁ .copy m t < 2 ^ headIn S₁ .carts) (held : eqb (roomsIn M .waiting m) 0 ≡ false)
     (acks : AcksSent S₁ S₂ W W′ m (roomsIn M .initiator m) (roomsIn M .number m) t w) where
   abbrev L₁′ : Lent
-  L₁′ = lent S₁ C₁ M W T
+  L₁′ = lent P S₁ C₁ M W T
 
   abbrev L₂ : Lent
-  L₂ = lent S₂ C₁ M W′ T
+  L₂ = lent P S₂ C₁ M W′ T
 
   abbrev s : ℕ
   s = roomsIn M .initiator m
@@ -100,19 +108,33 @@ module _ (S₁ S₂ C₁ M W W′ T : List ℕ) (m t w : ℕ) (sizes : Lengths (
   -- the code's test is the written one
   all-is : holdNone X m t ≡ allAcked (floorIn L₁′) m t
   unfolding localRight
-  all-is = all-acked L₁′ m t (eq-eqb (X .local t) _ (laid .local t lt)) few fits
+  all-is = all-acked L₁′ m t (eq-eqb (X .local t) _ (laid .local t lp)) few fits
 
   in-room : isIn (roomsIn M) s n m ≡ true
   in-room = rw (held, eqb-self s, eqb-self n) refl
+
+  lm : m < 32
+  lm = let a = P .held-fit in omega arith
+
+  -- no copy and no entry beyond the rooms
+  few-sent : stationsIn S₂ ≡ withAcks (withCopy X m t (minus (X .copy m t) (X .acks m t))) m t 0
+      → (u r : ℕ) → u < P .stations → r < 32 → P .held ≤ r → (stationsIn S₂ .copy r u ≡ 0) × (stationsIn S₂ .queue r u ≡ 0)
+  few-sent q u r lu lr l =
+      let was = laid .few u r lu lr l in (
+        ap (λ (Y : Stations). Y .copy r u) q
+            ∙ on-update2 (λ (y : ℕ). y ≡ 0) (X .copy) m t (minus (X .copy m t) (X .acks m t)) r u (λ e f. absurd (omega arith)) (λ e. was .0),
+        ap (λ (Y : Stations). Y .queue r u) q ∙ was .1,
+      )
 
   when-all : (holdNone X m t ≡ true) → Lengths L₂ × Laid L₂ × (floorIn L₂ ≡ sendAcks (floorIn L₁′) m t)
   unfolding sendAcks
   when-all e =
       let y = acks .yes e in
+      let z = lm in
       let lengths₂ : Lengths L₂ =
       record { stations = acks .words ∙ sizes .stations; carts = sizes .carts; messages = sizes .messages; lines = y .1 .words ∙ sizes .lines; texts = sizes .texts } in
       let laid₂ : Laid L₂ =
-      laid-push S₂ C₁ M W T (laid-stations S₁ C₁ M W T laid S₂ (λ u l. ap (λ (Y : Stations). Y .local u) (y .0))) W′ t s (wordsOf 2 m n (X .acks m t)) lt ls (y .1)
+      laid-push S₂ C₁ M W T (laid-stations S₁ C₁ M W T laid S₂ (λ u l. ap (λ (Y : Stations). Y .local u) (y .0)) (few-sent (y .0))) W′ t s (wordsOf 2 m n (X .acks m t)) lt ls (y .1)
       (ack-list-right (roomsIn M) t s m n (X .acks m t) (omega arith) in-room) in (
         lengths₂,
         laid₂,
@@ -125,20 +147,21 @@ module _ (S₁ S₂ C₁ M W W′ T : List ℕ) (m t w : ℕ) (sizes : Lengths (
   when-not : (holdNone X m t ≡ false) → Lengths L₂ × Laid L₂ × (floorIn L₂ ≡ floorIn L₁′)
   when-not e =
       let y = acks .no e in
-      let same : (Z : List ℕ) → Z ≡ W → Lengths (lent S₂ C₁ M Z T) × Laid (lent S₂ C₁ M Z T) × (floorIn (lent S₂ C₁ M Z T) ≡ floorIn L₁′) =
-      λ Z q. subst (λ (Z : List ℕ). Lengths (lent S₂ C₁ M Z T) × Laid (lent S₂ C₁ M Z T) × (floorIn (lent S₂ C₁ M Z T) ≡ floorIn L₁′)) (sym q) stays in
+      let same : (Z : List ℕ) → Z ≡ W → Lengths (lent P S₂ C₁ M Z T) × Laid (lent P S₂ C₁ M Z T) × (floorIn (lent P S₂ C₁ M Z T) ≡ floorIn L₁′) =
+      λ Z q. subst (λ (Z : List ℕ). Lengths (lent P S₂ C₁ M Z T) × Laid (lent P S₂ C₁ M Z T) × (floorIn (lent P S₂ C₁ M Z T) ≡ floorIn L₁′)) (sym q) stays in
       same W′ (y .1)
     where
       K : Lent
-      K = lent S₂ C₁ M W T
+      K = lent P S₂ C₁ M W T
 
       lengthsK : Lengths K
       lengthsK = record { stations = acks .words ∙ sizes .stations; carts = sizes .carts; messages = sizes .messages; lines = sizes .lines; texts = sizes .texts }
 
       laidK : Laid K
       laidK = laid-stations S₁ C₁ M W T laid S₂ (λ u l. ap (λ (Y : Stations). Y .local u) (acks .no e .0))
+          (λ u r lu lr l. let was = laid .few u r lu lr l in (ap (λ (Y : Stations). Y .copy r u) (acks .no e .0) ∙ was .0, ap (λ (Y : Stations). Y .queue r u) (acks .no e .0) ∙ was .1))
 
-      stays : Lengths (lent S₂ C₁ M W T) × Laid (lent S₂ C₁ M W T) × (floorIn (lent S₂ C₁ M W T) ≡ floorIn L₁′)
+      stays : Lengths (lent P S₂ C₁ M W T) × Laid (lent P S₂ C₁ M W T) × (floorIn (lent P S₂ C₁ M W T) ≡ floorIn L₁′)
       stays = (
         lengthsK,
         laidK,
@@ -154,14 +177,14 @@ module _ (S₁ S₂ C₁ M W W′ T : List ℕ) (m t w : ℕ) (sizes : Lengths (
       (λ e. let y = when-not e in let some : allAcked (floorIn L₁′) m t ≡ false = sym all-is ∙ e in (y .0, y .1, rw some (y .2), rw some (acks .no e .2)))
 
 -- THE THIRD: catch-up for that initiator
-module _ (S₂ S′ C₁ C′ M W T : List ℕ) (s t c x p : ℕ) (sizes : Lengths (lent S₂ C₁ M W T)) (laid : Laid (lent S₂ C₁ M W T))
+module _ {P : Product} (S₂ S′ C₁ C′ M W T : List ℕ) (s t c x p : ℕ) (lp : t < P .stations) (sizes : Lengths (lent P S₂ C₁ M W T)) (laid : Laid (lent P S₂ C₁ M W T))
     (caught : CaughtUp S₂ S′ C₁ C′ M s t c x p) (next-is : cartsIn C₁ .next c s ≡ x)
     (none-there : (i j : ℕ) → NoRegister (handoffs c (linesIn (cartsIn C₁ .next) W i j))) where
   abbrev L₂′ : Lent
-  L₂′ = lent S₂ C₁ M W T
+  L₂′ = lent P S₂ C₁ M W T
 
   abbrev L₃ : Lent
-  L₃ = lent S′ C′ M W T
+  L₃ = lent P S′ C′ M W T
 
   abbrev G : Floor
   G = floorIn L₂′
@@ -172,6 +195,13 @@ module _ (S₂ S′ C₁ C′ M W T : List ℕ) (s t c x p : ℕ) (sizes : Lengt
   abbrev u : ℕ
   u = stopBy (tablesFloor S₂ M) t s x o .upto
 
+  -- no copy here is of a room beyond the table
+  none-named : (r : ℕ) → P .held ≤ r → stationsIn S₂ .copy r t ≡ 0
+  none-named r l = by-lt r 32 (λ k. laid .few t r lp k l .0) (λ k. copy-beyond S₂ r t k)
+
+  beyond : NoneBeyond (limitsOf P) G t c
+  beyond = (P .held-fit, λ r l. ap (λ (y : ℕ). has y c) (none-named r l) ∙ has-zero c)
+
   lengths₃ : Lengths L₃
   lengths₃ = record { stations = caught .words ∙ sizes .stations; carts = caught .rows ∙ sizes .carts; messages = sizes .messages; lines = sizes .lines; texts = sizes .texts }
 
@@ -179,6 +209,11 @@ module _ (S₂ S′ C₁ C′ M W T : List ℕ) (s t c x p : ℕ) (sizes : Lengt
   laid₃ =
       laid-carts S₂ C₁ M W T laid S′ C′ (λ d ld. ap (λ (f : ℕ → Bool). f d) (caught .canonical) ∙ laid .canonical d ld)
       (λ v l. ap (λ (Y : Stations). Y .local v) (caught .stations) ∙ laid .local v l ∙ ap (λ (K : Carts). setOf 64 (λ d. localTo (K .place d) v)) (sym (caught .carts)))
+      (λ v r lv lr l. let was = laid .few v r lv lr l in (
+        ap (λ (Y : Stations). Y .copy r v) (caught .stations) ∙ was .0,
+        ap (λ (Y : Stations). Y .queue r v) (caught .stations)
+            ∙ rw (not-found (tablesFloor S₂ M) t c s x (P .held) r none-named l) (by-test (eqb v t) (λ e. rw e (was .1)) (λ e. rw e (was .1))),
+      ))
 
   lines₃ : linesIn (cartsIn C′ .next) W ≡ linesIn (cartsIn C₁ .next) W
   lines₃ =
@@ -187,9 +222,9 @@ module _ (S₂ S′ C₁ C′ M W T : List ℕ) (s t c x p : ℕ) (sizes : Lengt
       W none-there
 
   -- where the code stopped is where the written loop stops
-  stop-is : catchUpStop limits G t c s ≡ record { upto = u; found = o }
+  stop-is : catchUpStop (limitsOf P) G t c s ≡ record { upto = u; found = o }
   stop-is =
-      let a = stops-there G S₂ M (lent-agree L₂′) t c s (roomCode (nearestAmong (tablesFloor S₂ M) t c s (G .next c s) 32)) refl in
+      let a = stops-there (limitsOf P) G S₂ M (lent-agree L₂′) t c beyond s (roomCode (nearestAmong (tablesFloor S₂ M) t c s (G .next c s) 32)) refl in
       sym a ∙ ap (λ (h : Option ℕ). stopBy (tablesFloor S₂ M) t s (G .next c s) h) (nearest-decoded (tablesFloor S₂ M) t c s (G .next c s) 32 (omega arith))
       ∙ ap (λ (y : ℕ). stopBy (tablesFloor S₂ M) t s y (nearestAmong (tablesFloor S₂ M) t c s y 32)) next-is
       ∙ same-stop (stopBy (tablesFloor S₂ M) t s x o) u o refl (stop-found (tablesFloor S₂ M) t s x o)
@@ -219,7 +254,7 @@ module _ (S₂ S′ C₁ C′ M W T : List ℕ) (s t c x p : ℕ) (sizes : Lengt
         queue = λ d v. queue-of k d v i;
       }
 
-  pub caught-is : floorIn L₃ ≡ catchUp limits G t c s
+  pub caught-is : floorIn L₃ ≡ catchUp (limitsOf P) G t c s
   unfolding catchUp
   caught-is =
       rw stop-is
@@ -230,10 +265,10 @@ module _ (S₂ S′ C₁ C′ M W T : List ℕ) (s t c x p : ℕ) (sizes : Lengt
 no-register-behind : (c n x : ℕ) (l : List Record) → NoRegister (handoffs c l) → NoRegister (handoffs c (l ++ (ackList n x ∷ [])))
 no-register-behind c n x l h = subst NoRegister (sym (handoffs-append c l (ackList n x ∷ []) ∙ append-nil (handoffs c l))) h
 
-module _ (S S′ C C′ M W W′ T : List ℕ) (m t c p w : ℕ) (X : Standing (lent S C M W T)) (may : MayRadio limits (floorIn (lent S C M W T)) t c m)
+module _ {P : Product} (S S′ C C′ M W W′ T : List ℕ) (m t c p w : ℕ) (X : Standing (lent P S C M W T)) (may : MayRadio (limitsOf P) (floorIn (lent P S C M W T)) t c m)
     (over : HandedOver S S′ C C′ M W W′ m (roomsIn M .initiator m) (roomsIn M .number m) t c p w) where
   abbrev K₀ : Lent
-  K₀ = lent S C M W T
+  K₀ = lent P S C M W T
 
   abbrev F : Floor
   F = floorIn K₀
@@ -245,22 +280,28 @@ module _ (S S′ C C′ M W W′ T : List ℕ) (m t c p w : ℕ) (X : Standing (
   n₀ = roomsIn M .number m
 
   abbrev K₁ : Lent
-  K₁ = lent (over .S₁) (over .C₁) M W T
+  K₁ = lent P (over .S₁) (over .C₁) M W T
 
   abbrev K₂ : Lent
-  K₂ = lent (over .S₂) (over .C₁) M W′ T
+  K₂ = lent P (over .S₂) (over .C₁) M W′ T
 
-  is-queued : Queued limits (F .waiting) (F .initiator) (F .number) (F .named) (F .place) (F .next) m t c
+  is-queued : Queued (limitsOf P) (F .waiting) (F .initiator) (F .number) (F .named) (F .place) (F .next) m t c
   is-queued = X .facts .queues m t c (may .queued)
 
   not-travelling : (a b : ℕ) → F .place c ≡ travelling a b → ⊥
   not-travelling a b q = let z : at t ≡ travelling a b = sym (at-is (F .place c) t (may .is-at)) ∙ q in let y : _≡_ {A = ℕ} 0 1 = cc in omega arith
 
   none₀ : (i j : ℕ) → NoRegister (handoffs c (F .lines i j))
-  none₀ i j = subst NoRegister (sym (X .facts .handoffs-right c i j)) (none-unless-travelling (F .place c) i j (rowOf limits (F .next c)) not-travelling)
+  none₀ i j = subst NoRegister (sym (X .facts .handoffs-right c i j)) (none-unless-travelling (F .place c) i j (rowOf (limitsOf P) (F .next c)) not-travelling)
+
+  lh₀ : m < P .held
+  lh₀ = radio-numbers K₀ X t c m may .0
+
+  lp₀ : t < P .stations
+  lp₀ = let a = may .station in let b = X .sized .counts .stations in omega arith
 
   one : floorIn K₁ ≡ receive F m t c
-  one = received-is S (over .S₁) C (over .C₁) M W T m i₀ t c (X .lengths) (X .laid) (over .received) (is-queued .due) refl none₀
+  one = received-is S (over .S₁) C (over .C₁) M W T m i₀ t c lh₀ (X .lengths) (X .laid) (over .received) (is-queued .due) refl none₀
 
   two : Lengths K₂ × Laid K₂ × (floorIn K₂ ≡ sendAcksIfAll (floorIn K₁) m t) × (w ≡ cond (allAcked (floorIn K₁) m t) 1 0)
   two =
@@ -268,15 +309,15 @@ module _ (S S′ C C′ M W W′ T : List ℕ) (m t c p w : ℕ) (X : Standing (
       let top = over .received .head in
       let many : headIn (over .S₁) .carts ≡ headIn S .carts = ap (λ (h : Head). h .carts) top in
       let copy : stationsIn (over .S₁) .copy m t ≡ stationsIn S .copy m t = ap (λ (Y : Stations). Y .copy m t) (over .received .stations) in
-      let fit = X .sized .copies .copy m t (r .0) (r .1) in
-      let e = X .sized .counts .carts in
-      acks-are (over .S₁) (over .S₂) (over .C₁) M W W′ T m t w
-      (lengths₁ S (over .S₁) C (over .C₁) M W T m i₀ t c (X .lengths) (X .laid) (over .received) (is-queued .due) refl none₀)
-      (laid₁ S (over .S₁) C (over .C₁) M W T m i₀ t c (X .lengths) (X .laid) (over .received) (is-queued .due) refl none₀)
-      (r .0) (r .1) (omega arith) (r .3) (rw (copy, many) fit) (is-queued .held .some) (over .acks)
+      let fit = X .sized .copies .copy m t lh₀ lp₀ in
+      let e = few-carts K₀ X in
+      acks-are (over .S₁) (over .S₂) (over .C₁) M W W′ T m t w lh₀ lp₀
+      (lengths₁ S (over .S₁) C (over .C₁) M W T m i₀ t c lh₀ (X .lengths) (X .laid) (over .received) (is-queued .due) refl none₀)
+      (laid₁ S (over .S₁) C (over .C₁) M W T m i₀ t c lh₀ (X .lengths) (X .laid) (over .received) (is-queued .due) refl none₀)
+      (r .1) (omega arith) (r .3) (rw (copy, many) fit) (is-queued .held .some) (over .acks)
 
   none₁ : (i j : ℕ) → NoRegister (handoffs c (floorIn K₁ .lines i j))
-  none₁ i j = subst (λ (f : ℕ → ℕ → List Record). NoRegister (handoffs c (f i j))) (sym (lines₁ S (over .S₁) C (over .C₁) M W T m i₀ t c (X .lengths) (X .laid) (over .received) (is-queued .due) refl none₀)) (none₀ i j)
+  none₁ i j = subst (λ (f : ℕ → ℕ → List Record). NoRegister (handoffs c (f i j))) (sym (lines₁ S (over .S₁) C (over .C₁) M W T m i₀ t c lh₀ (X .lengths) (X .laid) (over .received) (is-queued .due) refl none₀)) (none₀ i j)
 
   none₂ : (i j : ℕ) → NoRegister (handoffs c (floorIn K₂ .lines i j))
   unfolding sendAcks
@@ -291,29 +332,29 @@ module _ (S S′ C C′ M W W′ T : List ℕ) (m t c p w : ℕ) (X : Standing (
   next₁ = ap (λ (k : Carts). k .next c i₀) (over .received .carts) ∙ update2-at (cartsIn C .next) c i₀ (cartsIn C .next c i₀ + 1) ∙ ap (λ (y : ℕ). y + 1) (is-queued .due)
 
   -- "the head message of the queue is handed to the cart"
-  pub over-is : floorIn (lent S′ C′ M W′ T) ≡ handOver limits F m t c .floor
+  pub over-is : floorIn (lent P S′ C′ M W′ T) ≡ handOver (limitsOf P) F m t c .floor
   unfolding handOver
   over-is =
-      caught-is (over .S₂) S′ (over .C₁) C′ M W′ T i₀ t c (n₀ + 1) p (two .0) (two .1) (over .caught) next₁ none₂
-      ∙ ap (λ (G : Floor). catchUp limits G t c i₀) (two .2 ∙ ap (λ (G : Floor). sendAcksIfAll G m t) one)
+      caught-is (over .S₂) S′ (over .C₁) C′ M W′ T i₀ t c (n₀ + 1) p lp₀ (two .0) (two .1) (over .caught) next₁ none₂
+      ∙ ap (λ (G : Floor). catchUp (limitsOf P) G t c i₀) (two .2 ∙ ap (λ (G : Floor). sendAcksIfAll G m t) one)
 
   -- what it reports
-  pub over-reports : (p ≡ handOver limits F m t c .report .p) × (w ≡ handOver limits F m t c .report .w)
+  pub over-reports : (p ≡ handOver (limitsOf P) F m t c .report .p) × (w ≡ handOver (limitsOf P) F m t c .report .w)
   unfolding handOver
   over-reports =
-      let upto : floorIn (lent S′ C′ M W′ T) .next c i₀ ≡ stopBy (tablesFloor (over .S₂) M) t i₀ (n₀ + 1) (nearestFrom (tablesFloor (over .S₂) M) t c i₀ (n₀ + 1)) .upto =
+      let upto : floorIn (lent P S′ C′ M W′ T) .next c i₀ ≡ stopBy (tablesFloor (over .S₂) M) t i₀ (n₀ + 1) (nearestFrom (tablesFloor (over .S₂) M) t c i₀ (n₀ + 1)) .upto =
       ap (λ (k : Carts). k .next c i₀) (over .caught .carts) ∙ update2-at (cartsIn (over .C₁) .next) c i₀ _ in
       let plus : n₀ + 1 ≡ suc n₀ = omega arith in (
         over .caught .passed ∙ ap₂ (λ (y z : ℕ). y - z) (sym upto) plus ∙ ap (λ (G : Floor). G .next c i₀ - suc n₀) over-is,
         two .3 ∙ ap (λ (G : Floor). cond (allAcked G m t) 1 0) one,
       )
 
-  pub radio-is : floorIn (lent S′ C′ M W′ T) ≡ onRadio limits F t c .floor
+  pub radio-is : floorIn (lent P S′ C′ M W′ T) ≡ onRadio (limitsOf P) F t c .floor
   unfolding onRadio
   radio-is = rw (may .is-head) over-is
 
   -- "4": radio, with the message's initiator, number and text
-  pub radio-reports : onRadio limits F t c .report ≡ record { kind = 4; a = i₀; b = n₀; p = p; w = w; text = textsIn T (roomsIn M) m }
+  pub radio-reports : onRadio (limitsOf P) F t c .report ≡ record { kind = 4; a = i₀; b = n₀; p = p; w = w; text = textsIn T (roomsIn M) m }
   unfolding onRadio handOver
   radio-reports =
       rw (may .is-head)

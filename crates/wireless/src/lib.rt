@@ -4,12 +4,12 @@ use ids::MessageNumber;
 use ids::Station;
 ghost use mathlib.Core.Path.{_≡_};
 ghost use mathlib.Core.Bool.{true};
-ghost use Prim.Native.Nat.{_+_, _<_};
+ghost use Prim.Native.Nat.{ℕ, _+_, _<_, _≤_};
 ghost use lib.ListN.{length};
 ghost use Rattle.stations.specs.View.{initiators, rooms, HasStation, stationsIn};
 ghost use Rattle.carts.specs.View.{cartsIn, canonicalIn, withNext};
 ghost use Rattle.carts.specs.Words.{HasRow};
-ghost use Rattle.queue.specs.Rooms.{HasRooms};
+ghost use Rattle.queue.specs.Rooms.{roomCount, HasRooms};
 ghost use Rattle.lines.specs.Form.{form};
 ghost use Rattle.lines.specs.Lines.{used};
 ghost use Rattle.lines.specs.Words.{capacity};
@@ -17,7 +17,7 @@ ghost use Rattle.wireless.specs.Handed.{tookFrom, Received, holdNone, Ac
 
 // "its next number rises": the cart's record is handed in and handed back. That number alone is new in it, so that alone is stored.
 fn rise(carts: &mut [u64], initiator: Station, number: CartNumber)
-    requires { ⌜ HasRow (now carts) (number .0) × (initiator .0 < initiators) × (cartsIn (now carts) .next (number .0) (initiator .0) < 65536) ⌝ }
+    requires { ⌜ HasRow (now carts) (number .0) × (initiator .0 < initiators) × (cartsIn (now carts) .next (number .0) (initiator .0) < 4294967296) ⌝ }
     ensures { λ _. ⌜ cartsIn (now (carts .exit)) ≡ withNext (cartsIn (now (carts .entry))) (number .0) (initiator .0) (cartsIn (now (carts .entry)) .next (number .0) (initiator .0) + 1) ⌝ }
     ensures { λ _. ⌜ canonicalIn (now (carts .exit)) ≡ canonicalIn (now (carts .entry)) ⌝ }
     ensures { λ _. ⌜ length (now (carts .exit)) ≡ length (now (carts .entry)) ⌝ }
@@ -37,7 +37,7 @@ fn receive(
     number: CartNumber,
 )
     requires { ⌜ HasStation (now stations) (station .0) × (m < rooms) × (initiator .0 < initiators) ⌝ }
-    requires { ⌜ HasRow (now carts) (number .0) × (number .0 < 64) × (cartsIn (now carts) .next (number .0) (initiator .0) < 65536) ⌝ }
+    requires { ⌜ HasRow (now carts) (number .0) × (number .0 < 64) × (cartsIn (now carts) .next (number .0) (initiator .0) < 4294967296) ⌝ }
     ensures { λ _. ⌜ Received (now (stations .entry)) (now (stations .exit)) (now (carts .entry)) (now (carts .exit)) m (initiator .0) (station .0) (number .0) ⌝ }
 {
     let queue = stations::queue_of(stations, m, station);
@@ -57,7 +57,7 @@ fn send_acks_if_all(
     n: MessageNumber,
     station: Station,
 ) -> u64
-    requires { ⌜ HasStation (now stations) (station .0) × (station .0 < 16) × (m < rooms) × (initiator .0 < initiators) × (n .0 < 65536) ⌝ }
+    requires { ⌜ HasStation (now stations) (station .0) × (station .0 < 16) × (m < rooms) × (initiator .0 < initiators) × (n .0 < 4294967296) ⌝ }
     requires { ⌜ (form (now lines) ≡ true) × (holdNone (stationsIn (now stations)) m (station .0) ≡ true → used (now lines) < capacity (now lines)) ⌝ }
     ensures { λ r. ⌜ AcksSent (now (stations .entry)) (now (stations .exit)) (now (lines .entry)) (now (lines .exit)) m (initiator .0) (n .0) (station .0) r ⌝ }
 {
@@ -88,6 +88,7 @@ fn catch_up(
     next: u64,
 ) -> u64
     requires { ⌜ HasStation (now stations) (station .0) × HasRooms (now messages) × (station .0 < 16) × (initiator .0 < initiators) × (number .0 < 64) × HasRow (now carts) (number .0) ⌝ }
+    requires { ⌜ ((r : ℕ) → roomCount (now messages) ≤ r → stationsIn (now stations) .copy r (station .0) ≡ 0) ⌝ }
     ensures { λ r. ⌜ CaughtUp (now (stations .entry)) (now (stations .exit)) (now (carts .entry)) (now (carts .exit)) (now (messages .entry)) (initiator .0) (station .0) (number .0) next r ⌝ }
 {
     // "while the cart's next number is below the expected number": it is not, so no message is looked at.
@@ -120,8 +121,9 @@ pub fn hand_over(
     station: Station,
     number: CartNumber,
 ) -> Handed
-    requires { ⌜ HasStation (now stations) (station .0) × (station .0 < 16) × (m < rooms) × (initiator .0 < initiators) × (n .0 < 65536) × HasRooms (now messages) ⌝ }
-    requires { ⌜ HasRow (now carts) (number .0) × (number .0 < 64) × (cartsIn (now carts) .next (number .0) (initiator .0) < 65536) ⌝ }
+    requires { ⌜ HasStation (now stations) (station .0) × (station .0 < 16) × (m < roomCount (now messages)) × (initiator .0 < initiators) × (n .0 < 4294967296) × HasRooms (now messages) ⌝ }
+    requires { ⌜ HasRow (now carts) (number .0) × (number .0 < 64) × (cartsIn (now carts) .next (number .0) (initiator .0) < 4294967296) ⌝ }
+    requires { ⌜ ((r : ℕ) → roomCount (now messages) ≤ r → stationsIn (now stations) .copy r (station .0) ≡ 0) ⌝ }
     requires { ⌜ (form (now lines) ≡ true) × (holdNone (tookFrom (stationsIn (now stations)) m (station .0) (number .0)) m (station .0) ≡ true → used (now lines) < capacity (now lines)) ⌝ }
     ensures { λ r. ⌜ HandedOver (now (stations .entry)) (now (stations .exit)) (now (carts .entry)) (now (carts .exit)) (now (messages .entry)) (now (lines .entry)) (now (lines .exit)) m (initiator .0) (n .0) (station .0) (number .0) (r .passed) (r .sent) ⌝ }
 {

@@ -8,7 +8,7 @@ use lib.Dec.{eqb, eqb·suc-zero}
 use lib.ListN.{length}
 use borrow.Author.Tests.{le-leb, lt-leb}
 use Rattle.protocol.specs.Folds.{isEmpty}
-use Rattle.protocol.specs.Floor.{Floor, limits, Record}
+use Rattle.protocol.specs.Floor.{Product, limitsOf, Floor, Record}
 use Rattle.protocol.specs.Events.{wire}
 use Rattle.protocol.specs.Refusals.{refusalIf}
 use Rattle.lines.specs.declared.Record as word
@@ -24,16 +24,16 @@ empty-in : (next : ℕ → ℕ → ℕ) (l : List word.Record) → isEmpty (map 
 empty-in next [] = refl
 empty-in next (r ∷ l) = sym (eqb·suc-zero (length l))
 
-module _ (S W : List ℕ) (i j : ℕ) (C M T : List ℕ) where
+module _ (S W : List ℕ) (i j : ℕ) (P : Product) (C M T : List ℕ) where
   abbrev F : Floor
-  F = floorIn (lent S C M W T)
+  F = floorIn (lent P S C M W T)
 
-  pub wire-no-from : headIn S .stations ≤ i → 8 ≡ refusalIf limits F false (wire i j)
+  pub wire-no-from : headIn S .stations ≤ i → 8 ≡ refusalIf (limitsOf P) F false (wire i j)
   unfolding refusalIf
   wire-no-from l = rw (le-leb (headIn S .stations) i l) refl
 
   module _ (from : i < headIn S .stations) where
-    pub wire-no-to : headIn S .stations ≤ j → 8 ≡ refusalIf limits F false (wire i j)
+    pub wire-no-to : headIn S .stations ≤ j → 8 ≡ refusalIf (limitsOf P) F false (wire i j)
     unfolding refusalIf
     wire-no-to l = rw (lt-leb (headIn S .stations) i from, le-leb (headIn S .stations) j l) refl
 
@@ -45,10 +45,10 @@ module _ (S W : List ℕ) (i j : ℕ) (C M T : List ℕ) where
           ap isEmpty (line-in (cartsIn C .next) W i j li lj) ∙ empty-in (cartsIn C .next) (lineOf W (i * 16 + j))
 
       -- where the code saw that the line is empty, and where it is not
-      pub wire-empty : true ≡ eqb (length (lineOf W (i * 16 + j))) 0 → 15 ≡ refusalIf limits F false (wire i j)
+      pub wire-empty : true ≡ eqb (length (lineOf W (i * 16 + j))) 0 → 15 ≡ refusalIf (limitsOf P) F false (wire i j)
       unfolding refusalIf
       wire-empty e = rw (lt-leb (headIn S .stations) i from, lt-leb (headIn S .stations) j to, line ∙ sym e) refl
 
-      pub wire-passes : false ≡ eqb (length (lineOf W (i * 16 + j))) 0 → 0 ≡ refusalIf limits F false (wire i j)
+      pub wire-passes : false ≡ eqb (length (lineOf W (i * 16 + j))) 0 → 0 ≡ refusalIf (limitsOf P) F false (wire i j)
       unfolding refusalIf
       wire-passes e = rw (lt-leb (headIn S .stations) i from, lt-leb (headIn S .stations) j to, line ∙ sym e) refl

@@ -8,14 +8,14 @@ use lib.Dec.{eqb}
 use lib.ListN.{length, drop}
 use borrow.Author.Tests.{lt-leb, ne-eqb}
 use Rattle.protocol.specs.Folds.{listOf}
-use Rattle.protocol.specs.CartSets.{union}
-use Rattle.protocol.specs.Floor.{Floor, limits, Record, deregister, register, leaving}
+use Rattle.protocol.specs.CartSets.{has, union}
+use Rattle.protocol.specs.Floor.{Product, limitsOf, Floor, Record, deregister, register, leaving}
 use Rattle.protocol.specs.Events.{wire, Report, accepted}
 use Rattle.protocol.specs.Wired.{onWire}
 use Rattle.protocol.specs.Refusals.{refusal, refusalIf}
 use Rattle.protocol.specs.Step.{accept}
 use Rattle.protocol.proofs.Accepted.{MayWire}
-use Rattle.stations.specs.View.{HasHead, HasStation, headIn, stationsIn}
+use Rattle.stations.specs.View.{HasHead, HasStation, headIn, stationsIn, namingIn}
 use Rattle.carts.specs.Words.{HasRow}
 use Rattle.carts.specs.View.{cartsIn}
 use Rattle.messages.specs.View.{HasRoom, roomsIn}
@@ -26,7 +26,7 @@ use Rattle.lines.specs.Words.{capacity}
 use Rattle.view.specs.Records.{kindOf, indexOf, numberOf, recordIn}
 use Rattle.view.specs.View.{Lent, lent, floorIn}
 use Rattle.view.proofs.Standing.{Standing, standing}
-use Rattle.queue.specs.Rooms.{HasRooms}
+use Rattle.queue.specs.Rooms.{roomCount, HasRooms}
 use Rattle.wired.specs.Handled.{Buffered, Deleted, Acknowledged}
 use Rattle.wired.proofs.Head.{line-head, some-kind}
 use Rattle.wired.proofs.Asks as asks
@@ -36,15 +36,15 @@ use Rattle.wired.proofs.DeleteIs.{delete-is, delete-report}
 use Rattle.handoff.specs.Left.{Left}
 use Rattle.handoff.specs.Arrived.{Arrived}
 use Rattle.handoff.proofs.DeregisterIs.{deregister-ready, register-has-room, deregister-is, deregister-reports}
-use Rattle.handoff.proofs.RegisterIs.{register-ready, register-fits, register-is, register-reports}
+use Rattle.handoff.proofs.RegisterIs.{register-ready, register-fits, register-rooms, register-is, register-reports}
 use Rattle.answers.specs.Answers.{says}
 use Rattle.answers.specs.Met.{Met}
 use Rattle.answers.proofs.Meets.{meets-done}
 use Rattle.wiring.specs.Off.{TakenOff}
 
-module _ (S C M W W₁ T : List ℕ) (i j : ℕ) (said : word.Record) (off : TakenOff S C M W W₁ T i j said) where
+module _ (P : Product) (S C M W W₁ T : List ℕ) (i j : ℕ) (said : word.Record) (off : TakenOff P S C M W W₁ T i j said) where
   abbrev L : Lent
-  L = lent S C M W T
+  L = lent P S C M W T
 
   abbrev F : Floor
   F = floorIn L
@@ -69,12 +69,12 @@ module _ (S C M W W₁ T : List ℕ) (i j : ℕ) (said : word.Record) (off : Tak
   on-line : F .lines i j ≡ recordIn (F .next) said ∷ map (recordIn (F .next)) rest
   on-line = line-head L X i j (off .from) (off .to) said rest (off .top)
 
-  passes : refusal limits F (wire i j) ≡ 0
+  passes : refusal (limitsOf P) F (wire i j) ≡ 0
   unfolding refusal refusalIf
   passes = rw (off .passes, lt-leb (F .stations) i (off .from), lt-leb (F .stations) j (off .to), on-line) refl
 
   -- the step of its kind is the event
-  meets : (L′ : Lent) (l : Report) → floorIn L′ ≡ onWire limits F i j .floor → onWire limits F i j .report ≡ l → Met L L′ (wire i j) (accepted l)
+  meets : (L′ : Lent) (l : Report) → floorIn L′ ≡ onWire (limitsOf P) F i j .floor → onWire (limitsOf P) F i j .report ≡ l → Met L L′ (wire i j) (accepted l)
   unfolding accept
   meets L′ l f r = meets-done L (wire i j) L′ l passes f (sym r)
 
@@ -85,26 +85,26 @@ module _ (S C M W W₁ T : List ℕ) (i j : ℕ) (said : word.Record) (off : Tak
       omega arith
 
   pub multicast-asks : kindOf (said .0) ≡ 1
-      → (HasStation S j × (i < 16) × (stationsIn S .expected j i < 65536)) × ((length C ≡ 1216) × HasRoom M m × (m < 32) × (n < 65536))
+      → (HasStation S j × (i < 16) × (stationsIn S .expected j i < 4294967296)) × (((c : ℕ) → has (stationsIn S .local j) c ≡ true → HasRow C c) × HasRoom M m × (m < 32) × (n < 4294967296))
   multicast-asks k = asks.multicast-asks S C M W W₁ T X i j (off .from) (off .to) said rest (off .top) (off .popped) k
 
   pub meets-multicast : kindOf (said .0) ≡ 1 → (S′ C′ : List ℕ) (x p : ℕ) → x ≡ n → Buffered S S′ C C′ M m n i j p
-      → Met L (lent S′ C′ M W₁ T) (wire i j) (says 3 1 x p 0 [])
+      → Met L (lent P S′ C′ M W₁ T) (wire i j) (says 3 1 x p 0 [])
   meets-multicast k S′ C′ x p e b =
-      meets (lent S′ C′ M W₁ T) _ (multicast-is S S′ C C′ M W W₁ T X i j (off .from) (off .to) said rest (off .top) k (off .popped) p b)
+      meets (lent P S′ C′ M W₁ T) _ (multicast-is S S′ C C′ M W W₁ T X i j (off .from) (off .to) said rest (off .top) k (off .popped) p b)
       (rw e (multicast-report S S′ C C′ M W W₁ T X i j (off .from) (off .to) said rest (off .top) k (off .popped) p b))
 
   -- AN ACK LIST; y is how many stations the code read
   pub ack-list-asks : kindOf (said .0) ≡ 2 → (y : ℕ) → y ≡ headIn S .stations
-      → (HasRoom M m × (m < 32) × (n < 65536)) × (((j < 16) × (y ≤ 16) × (form W₁ ≡ true))
+      → (HasRoom M m × (m < 32) × (n < 4294967296)) × (((j < 16) × (y ≤ 16) × (form W₁ ≡ true))
       × (union (roomsIn M .acked m) (said .1) ≡ roomsIn M .named m → used W₁ + y ≤ capacity W₁))
   ack-list-asks k y e = rw e (asks.ack-list-asks S C M W W₁ T X i j (off .from) (off .to) said rest (off .top) (off .popped) k)
 
   pub meets-ack-list : kindOf (said .0) ≡ 2 → (M′ W′ : List ℕ) (x y w : ℕ) → x ≡ n → y ≡ headIn S .stations → Acknowledged M M′ W₁ W′ m n (said .1) j y w
-      → Met L (lent S C M′ W′ T) (wire i j) (says 3 2 x 0 w [])
+      → Met L (lent P S C M′ W′ T) (wire i j) (says 3 2 x 0 w [])
   meets-ack-list k M′ W′ x y w e f b =
       let b′ : Acknowledged M M′ W₁ W′ m n (said .1) j (headIn S .stations) w = subst (λ (z : ℕ). Acknowledged M M′ W₁ W′ m n (said .1) j z w) f b in
-      meets (lent S C M′ W′ T) _ (ack-list-is S C M W W₁ T X i j (off .from) (off .to) said rest (off .top) k (off .popped) M′ W′ w b′)
+      meets (lent P S C M′ W′ T) _ (ack-list-is S C M W W₁ T X i j (off .from) (off .to) said rest (off .top) k (off .popped) M′ W′ w b′)
       (rw e (ack-list-report S C M W W₁ T X i j (off .from) (off .to) said rest (off .top) k (off .popped) M′ W′ w b′))
 
   -- A DELETE
@@ -112,9 +112,9 @@ module _ (S C M W W₁ T : List ℕ) (i j : ℕ) (said : word.Record) (off : Tak
   delete-asks k = asks.delete-asks S C M W W₁ T X i j (off .from) (off .to) said rest (off .top) (off .popped) k
 
   pub meets-delete : kindOf (said .0) ≡ 3 → (M′ : List ℕ) (x : ℕ) → x ≡ n → Deleted M M′ m j
-      → Met L (lent S C M′ W₁ T) (wire i j) (says 3 3 x 0 0 [])
+      → Met L (lent P S C M′ W₁ T) (wire i j) (says 3 3 x 0 0 [])
   meets-delete k M′ x e b =
-      meets (lent S C M′ W₁ T) _ (delete-is S C M M′ W W₁ T X i j (off .from) (off .to) said rest (off .top) k (off .popped) b)
+      meets (lent P S C M′ W₁ T) _ (delete-is S C M M′ W W₁ T X i j (off .from) (off .to) said rest (off .top) k (off .popped) b)
       (rw e (delete-report S C M M′ W W₁ T X i j (off .from) (off .to) said rest (off .top) k (off .popped) b))
 
   -- a record of a cart that the code read as x
@@ -135,9 +135,9 @@ module _ (S C M W W₁ T : List ℕ) (i j : ℕ) (said : word.Record) (off : Tak
     deregister-asks k = (deregister-ready L X x i j left (may-deregister k), register-has-room L X x i j left (may-deregister k) W₁ (i * 16 + j) (off .popped))
 
     pub meets-deregister : kindOf (said .0) ≡ 4 → (S′ C′ W′ : List ℕ) → Left S S′ C C′ W₁ W′ x j i
-        → Met L (lent S′ C′ M W′ T) (wire i j) (says 3 4 x 0 1 [])
+        → Met L (lent P S′ C′ M W′ T) (wire i j) (says 3 4 x 0 1 [])
     meets-deregister k S′ C′ W′ b =
-        meets (lent S′ C′ M W′ T) _ (deregister-is S S′ C C′ M W W₁ W′ T x i j left X (may-deregister k) (off .popped) b)
+        meets (lent P S′ C′ M W′ T) _ (deregister-is S S′ C C′ M W W₁ W′ T x i j left X (may-deregister k) (off .popped) b)
         (deregister-reports S S′ C C′ M W W₁ W′ T x i j left X (may-deregister k) (off .popped) b)
 
     -- A REGISTER: what is none of the other four
@@ -155,10 +155,10 @@ module _ (S C M W W₁ T : List ℕ) (i j : ℕ) (said : word.Record) (off : Tak
       may-register : MayWire F i j (register x row) left
       may-register = record { from = off .from; to = off .to; line = on-line ∙ ap (λ (r : Record). r ∷ left) says-register }
 
-      pub register-asks : (HasStation S j × HasRow C x × HasRooms M × (j < 16) × (x < 64)) × ((s : ℕ) → s < 16 → stationsIn S .expected j s ≤ 65535)
-      register-asks = (register-ready L X x i j row left may-register, register-fits L X x i j row left may-register)
+      pub register-asks : (HasStation S j × HasRow C x × HasRooms M × (j < 16) × (x < 64)) × (((s : ℕ) → s < 16 → stationsIn S .expected j s ≤ 4294967295) × ((m : ℕ) → has (namingIn (stationsIn S) j x) m ≡ true → m < roomCount M))
+      register-asks = (register-ready L X x i j row left may-register, (register-fits L X x i j row left may-register, register-rooms L X x i j row left may-register))
 
-      pub meets-register : (S′ C′ : List ℕ) (p : ℕ) → Arrived S S′ C C′ M j x row p → Met L (lent S′ C′ M W₁ T) (wire i j) (says 3 5 x p 0 [])
+      pub meets-register : (S′ C′ : List ℕ) (p : ℕ) → Arrived S S′ C C′ M j x row p → Met L (lent P S′ C′ M W₁ T) (wire i j) (says 3 5 x p 0 [])
       meets-register S′ C′ p b =
-          meets (lent S′ C′ M W₁ T) _ (register-is S S′ C C′ M W W₁ T x i j p row left X may-register (off .popped) b)
+          meets (lent P S′ C′ M W₁ T) _ (register-is S S′ C C′ M W W₁ T x i j p row left X may-register (off .popped) b)
           (register-reports S S′ C C′ M W W₁ T x i j p row left X may-register (off .popped) b)

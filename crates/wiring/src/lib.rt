@@ -9,22 +9,20 @@ ghost use mathlib.Core.Path.{_≡_};
 ghost use mathlib.Core.Bool.{true, false};
 ghost use mathlib.Core.List.{List, []};
 ghost use Prim.Native.Nat.{ℕ, _≤_};
-ghost use lib.ListN.{length};
-ghost use Rattle.protocol.specs.Floor.{limits};
+ghost use Rattle.protocol.specs.Floor.{Product, limitsOf};
 ghost use Rattle.protocol.specs.Events.{wire};
-ghost use Rattle.protocol.specs.Form.{passesForm};
 ghost use Rattle.protocol.specs.Refusals.{refusalIf};
-ghost use Rattle.stations.specs.View.{headIn};
+ghost use Rattle.stations.specs.View.{HasHead, headIn};
 ghost use Rattle.lines.specs.Form.{form};
 ghost use Rattle.view.specs.View.{lent, floorIn};
 ghost use Rattle.answers.specs.Answers.{answerIn};
-ghost use Rattle.answers.specs.Met.{Met};
+ghost use Rattle.answers.specs.Met.{Met, Passing, MetByEach};
 ghost use Rattle.wiring.specs.Off.{TakenOff, IsOff};
 
 // The refusal of a wire event, 8 or 15, or 0.
 fn wire_refusal(stations: &[u64], lines: &[u64], from: Station, to: Station) -> u64
-    requires { ⌜ (length (now stations) ≡ 1972) × (headIn (now stations) .stations ≤ 16) × (form (now lines) ≡ true) ⌝ }
-    ensures { λ r. ⌜ ((C M T : List ℕ) → r ≡ refusalIf limits (floorIn (lent (now (stations .entry)) C M (now (lines .entry)) T)) false (wire (from .0) (to .0))) ⌝ }
+    requires { ⌜ HasHead (now stations) × (headIn (now stations) .stations ≤ 16) × (form (now lines) ≡ true) ⌝ }
+    ensures { λ r. ⌜ ((P : Product) (C M T : List ℕ) → r ≡ refusalIf (limitsOf P) (floorIn (lent P (now (stations .entry)) C M (now (lines .entry)) T)) false (wire (from .0) (to .0))) ⌝ }
 {
     let n = stations::station_count(stations);
     if n <= from.0 {
@@ -52,7 +50,7 @@ fn handle(
     to: Station,
 ) -> Answer
     requires { ⌜ IsOff (now stations) (now carts) (now messages) (now lines) (from .0) (to .0) said ⌝ }
-    ensures { λ a. ⌜ ((W T : List ℕ) → TakenOff (now (stations .entry)) (now (carts .entry)) (now (messages .entry)) W (now (lines .entry)) T (from .0) (to .0) said → Met (lent (now (stations .entry)) (now (carts .entry)) (now (messages .entry)) W T) (lent (now (stations .exit)) (now (carts .exit)) (now (messages .exit)) (now (lines .exit)) T) (wire (from .0) (to .0)) (answerIn a [])) ⌝ }
+    ensures { λ a. ⌜ ((P : Product) (W T : List ℕ) → TakenOff P (now (stations .entry)) (now (carts .entry)) (now (messages .entry)) W (now (lines .entry)) T (from .0) (to .0) said → Met (lent P (now (stations .entry)) (now (carts .entry)) (now (messages .entry)) W T) (lent P (now (stations .exit)) (now (carts .exit)) (now (messages .exit)) (now (lines .exit)) T) (wire (from .0) (to .0)) (answerIn a [])) ⌝ }
 {
     let kind = view::kind_of(said);
     let number = MessageNumber(view::number_of(said));
@@ -88,8 +86,8 @@ pub fn wire(
     from: Station,
     to: Station,
 ) -> Answer
-    requires { ⌜ passesForm limits (floorIn (lent (now stations) (now carts) (now messages) (now lines) (now texts))) ≡ true ⌝ }
-    ensures { λ a. ⌜ Met (lent (now (stations .entry)) (now (carts .entry)) (now (messages .entry)) (now (lines .entry)) (now (texts .entry))) (lent (now (stations .exit)) (now (carts .exit)) (now (messages .exit)) (now (lines .exit)) (now (texts .entry))) (wire (from .0) (to .0)) (answerIn a []) ⌝ }
+    requires { ⌜ Passing (λ P. lent P (now stations) (now carts) (now messages) (now lines) (now texts)) ⌝ }
+    ensures { λ a. ⌜ MetByEach (λ P. lent P (now (stations .entry)) (now (carts .entry)) (now (messages .entry)) (now (lines .entry)) (now (texts .entry))) (λ P. lent P (now (stations .exit)) (now (carts .exit)) (now (messages .exit)) (now (lines .exit)) (now (texts .entry))) (wire (from .0) (to .0)) (answerIn a []) ⌝ }
 {
     let refusal = wire_refusal(stations, lines, from, to);
     if refusal != 0 {

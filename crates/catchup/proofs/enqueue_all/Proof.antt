@@ -4,6 +4,7 @@ use Prim.Native.Nat.{ℕ, _+_}
 use native.Mathlib.Omega.{arith}
 use lib.ListN.{length}
 use borrow.Author.Needs.{needs}
+use Rattle.queue.specs.Rooms.{roomCount}
 use Rattle.cartset.proofs.Walk.{Ahead, Turn, ahead-start, ahead-turn, ahead-end}
 use Rattle.stations.specs.View.{stationsIn, headIn}
 use Rattle.messages.specs.View.{roomsIn}
@@ -15,7 +16,7 @@ use Rattle.catchup.proofs.enqueue_all.Tie as tie
 abbrev Inv-loop : tie.InvT-loop
 Inv-loop stations₀ messages station cart naming nearest left₀ stations left =
     (k : ℕ)
-    × Ahead 32 naming left k
+    × Ahead (roomCount messages) naming left k
     × (length stations ≡ length stations₀)
     × (headIn stations ≡ headIn stations₀)
     × (stationsIn stations ≡ queuedFor (stationsIn stations₀) (station .0) (cart .0) (saidTo nearest k))
@@ -25,12 +26,12 @@ abbrev μ-loop : tie.MeasureT-loop
 
 -- a turn of the walk comes to a room
 turn : (c : tie.After-without-first Inv-loop μ-loop)
-    → Turn 32 (c .before .before .before .before .before .before .args .naming) (c .before .before .before .loop .left) (c .before .before .before .loop .inv .0) (c .before .first .result) (c .without-first .result)
+    → Turn (roomCount (c .before .before .before .before .before .before .args .messages .now)) (c .before .before .before .before .before .before .args .naming) (c .before .before .before .loop .left) (c .before .before .before .loop .inv .0) (c .before .first .result) (c .without-first .result)
 turn c =
     let l = c .before .before .before .loop in
     let f = c .before .first in
     let w = c .without-first in
-    ahead-turn 32 (c .before .before .before .before .before .before .args .naming) (l .left) (l .inv .0) (f .result) (l .inv .1) (omega arith) (f .ensures) (w .result) (w .ensures (f .result) (f .ensures))
+    ahead-turn (roomCount (c .before .before .before .before .before .before .args .messages .now)) (c .before .before .before .before .before .before .args .naming) (l .left) (l .inv .0) (f .result) (l .inv .1) (omega arith) (f .ensures) (w .result) (w .ensures (f .result) (f .ensures))
 
 -- and the cart is queued for what is said of the rooms before it
 come : (c : tie.After-without-first Inv-loop μ-loop)
@@ -45,7 +46,7 @@ come c =
 loop-holds : tie.Need-loop-holds Inv-loop μ-loop
 loop-holds c =
     let a = c .before .before .args in
-    (0, ahead-start 32 (a .naming) (omega arith) (c .before .before .pre .0 .inside), refl, refl, queued-start (stationsIn (a .stations .now)) (a .station .0) (a .cart .0) (a .t6))
+    (0, ahead-start (roomCount (a .messages .now)) (a .naming) (omega arith) (c .before .before .pre .0 .inside), refl, refl, queued-start (stationsIn (a .stations .now)) (a .station .0) (a .cart .0) (a .t6))
 
 first-requires : tie.Need-first-requires Inv-loop μ-loop
 first-requires c κs = search needs
@@ -79,7 +80,7 @@ loop-again c =
     let m = c .before .before .before .before .before .before .before .before .first .result in
     let i = c .before .before .before .before .before .before .initiator-of in
     let e = c .before .before .enqueue-for .ensures in
-    let said = said-of (a .t6) 16 (i .result .0) m (c .before .before .before .before .before .if1 .taken) (turn (c .before .before .before .before .before .before .before) .inside) (c .before .before .before .before .if2 .taken) in (
+    let said = said-of (a .t6) 16 (i .result .0) m (c .before .before .before .before .before .if1 .taken) (let w = turn (c .before .before .before .before .before .before .before) .inside in let r = c .before .before .before .before .before .before .before .before .before .before .before .before .before .pre .1 .1 in omega arith) (c .before .before .before .before .if2 .taken) in (
       m + 1,
       turn (c .before .before .before .before .before .before .before) .ahead,
       e .1 .1 ∙ l .inv .2,
@@ -120,8 +121,8 @@ returns c =
     let l = c .before .loop in
     let k = l .inv .0 in
     let none : l .left ≡ 0 = omega arith in
-    let A : Ahead 32 (a .naming) 0 k = rw none at (l .inv .1) in (
-      queued-all (stationsIn (a .stations .now)) (a .station .0) (a .cart .0) (a .t6) k (λ r h. said-within (roomsIn (a .messages .now)) (a .naming) (a .t6) (c .before .before .before .before .pre .0) r (ahead-end 32 (a .naming) k A r h)) (l .inv .4),
+    let A : Ahead (roomCount (a .messages .now)) (a .naming) 0 k = rw none at (l .inv .1) in (
+      queued-all (stationsIn (a .stations .now)) (a .station .0) (a .cart .0) (a .t6) k (λ r h. said-within (roomsIn (a .messages .now)) (a .naming) (a .t6) (c .before .before .before .before .pre .0) r (ahead-end (roomCount (a .messages .now)) (a .naming) k A r h)) (l .inv .4),
       (l .inv .3, l .inv .2),
     )
 

@@ -28,7 +28,10 @@ number-of-requires : tie.Need-number-of-requires
 number-of-requires c κs = search needs
 
 number-of-requires-2 : tie.Need-number-of-requires-2
-number-of-requires-2 c κs = search needs
+number-of-requires-2 c κs =
+    let s = c .before .before .before .before .before .before in
+    let here = s .pre .7 (c .before .if2 .left) in
+    omega arith
 
 returns-3 : tie.Need-returns-3
 returns-3 c =

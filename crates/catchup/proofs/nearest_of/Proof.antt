@@ -5,17 +5,17 @@ use native.Mathlib.Omega.{arith}
 use borrow.Author.Needs.{needs}
 use Rattle.cartset.proofs.Walk.{Ahead, ahead-start, ahead-turn, ahead-end}
 use Rattle.stations.specs.View.{stationsIn, namingIn}
-use Rattle.queue.specs.Rooms.{tablesFloor, roomCode}
+use Rattle.queue.specs.Rooms.{tablesFloor, roomCode, roomCount}
 use Rattle.catchup.specs.Nearest.{nearestAmong}
-use Rattle.catchup.proofs.NamingLaws.{naming-word, naming-covers}
-use Rattle.catchup.proofs.RoomLaws.{nearest-none, nearest-fits, nearest-again, nearest-skips}
+use Rattle.catchup.proofs.NamingLaws.{naming-word, naming-inside, naming-covers}
+use Rattle.catchup.proofs.RoomLaws.{nearest-none, nearest-fits, nearest-low, nearest-again, nearest-skips}
 use Rattle.catchup.proofs.nearest_of.Statement.{statement}
 use Rattle.catchup.proofs.nearest_of.Tie as tie
 
 -- the walk has come to room k, and the nearest among the rooms before it is known
 abbrev Inv-loop : tie.InvT-loop
 Inv-loop stations messages station cart initiator next nearest₀ left₀ nearest left =
-    (k : ℕ) × Ahead 32 (namingIn (stationsIn stations) (station .0) (cart .0)) left k
+    (k : ℕ) × Ahead (roomCount messages) (namingIn (stationsIn stations) (station .0) (cart .0)) left k
     × (nearest ≡ roomCode (nearestAmong (tablesFloor stations messages) (station .0) (cart .0) (initiator .0) next k))
 
 abbrev μ-loop : tie.MeasureT-loop
@@ -30,7 +30,7 @@ loop-holds c =
     let S = a .stations .now in
     let t = a .station .0 in (
       0,
-      rw (c .rooms-naming .ensures) (ahead-start 32 (namingIn (stationsIn S) t (a .cart .0)) (naming-word (stationsIn S) t (a .cart .0)) (naming-covers S t (a .cart .0) _ refl .inside)),
+      rw (c .rooms-naming .ensures) (ahead-start (roomCount (a .messages .now)) (namingIn (stationsIn S) t (a .cart .0)) (naming-word (stationsIn S) t (a .cart .0)) (c .before .before .before .pre .1)),
       nearest-none (tablesFloor S (a .messages .now)) t (a .cart .0) (a .initiator .0) (a .next),
     )
 
@@ -46,10 +46,13 @@ nearer-requires c κs =
     let l = c .before .before .before .loop in
     let f = c .before .first in
     let w = c .without-first in
-    let turn = ahead-turn 32 (namingIn (stationsIn (a .stations .now)) (a .station .0) (a .cart .0)) (l .left) (l .inv .0) (f .result) (l .inv .1) (omega arith) (f .ensures) (w .result) (w .ensures (f .result) (f .ensures)) in
+    let turn = ahead-turn (roomCount (a .messages .now)) (namingIn (stationsIn (a .stations .now)) (a .station .0) (a .cart .0)) (l .left) (l .inv .0) (f .result) (l .inv .1) (omega arith) (f .ensures) (w .result) (w .ensures (f .result) (f .ensures)) in
     let inside = turn .inside in
-    let low = nearest-fits (tablesFloor (a .stations .now) (a .messages .now)) (a .station .0) (a .cart .0) (a .initiator .0) (a .next) (l .inv .0) (l .nearest) (l .inv .1 .within) (l .inv .2) in
-    search needs
+    let within = l .inv .1 .within in
+    let low = nearest-fits (tablesFloor (a .stations .now) (a .messages .now)) (a .station .0) (a .cart .0) (a .initiator .0) (a .next) (l .inv .0) (l .nearest) (omega arith) (l .inv .2) in
+    let near = nearest-low (tablesFloor (a .stations .now) (a .messages .now)) (a .station .0) (a .cart .0) (a .initiator .0) (a .next) (l .inv .0) (l .nearest) (l .inv .2) in
+    let p = c .before .before .before .before .before .before .before .pre .0 in
+    (p .0, p .1, p .2, p .3, p .4, inside, low, λ n. let z = near n in omega arith)
 
 loop-less : tie.Need-loop-less Inv-loop μ-loop
 loop-less c =
@@ -57,7 +60,7 @@ loop-less c =
     let l = c .before .before .before .before .loop in
     let f = c .before .before .first in
     let w = c .before .without-first in
-    ahead-turn 32 (namingIn (stationsIn (a .stations .now)) (a .station .0) (a .cart .0)) (l .left) (l .inv .0) (f .result) (l .inv .1) (omega arith) (f .ensures) (w .result) (w .ensures (f .result) (f .ensures)) .less
+    ahead-turn (roomCount (a .messages .now)) (namingIn (stationsIn (a .stations .now)) (a .station .0) (a .cart .0)) (l .left) (l .inv .0) (f .result) (l .inv .1) (omega arith) (f .ensures) (w .result) (w .ensures (f .result) (f .ensures)) .less
 
 loop-again : tie.Need-loop-again Inv-loop μ-loop
 loop-again c =
@@ -69,9 +72,9 @@ loop-again c =
     let f = c .before .before .first in
     let w = c .before .without-first in
     let m = f .result in
-    let turn = ahead-turn 32 (namingIn (stationsIn S) t (a .cart .0)) (l .left) (l .inv .0) m (l .inv .1) (omega arith) (f .ensures) (w .result) (w .ensures m (f .ensures)) in
+    let turn = ahead-turn (roomCount (a .messages .now)) (namingIn (stationsIn S) t (a .cart .0)) (l .left) (l .inv .0) m (l .inv .1) (omega arith) (f .ensures) (w .result) (w .ensures m (f .ensures)) in
     let inside = turn .inside in
-    let skipped = nearest-skips F t (a .cart .0) (a .initiator .0) (a .next) (l .inv .0) m (turn .next) (λ r h n. naming-covers S t (a .cart .0) _ refl .others r (turn .skips r h n)) in (
+    let skipped = nearest-skips F t (a .cart .0) (a .initiator .0) (a .next) (l .inv .0) m (turn .next) (λ r h n. naming-covers S t (a .cart .0) 32 (naming-inside S t (a .cart .0)) _ refl .others r (turn .skips r h n)) in (
       m + 1,
       turn .ahead,
       nearest-again F t (a .cart .0) (a .initiator .0) (a .next) m (l .nearest) (c .nearer .result) (omega arith) (l .inv .2 ∙ ap roomCode (sym skipped)) (c .nearer .ensures),
@@ -86,8 +89,8 @@ returns c =
     let l = c .before .loop in
     let k = l .inv .0 in
     let none : l .left ≡ 0 = omega arith in
-    let A : Ahead 32 (namingIn (stationsIn S) t (a .cart .0)) 0 k = rw none at (l .inv .1) in
-    let skipped = nearest-skips F t (a .cart .0) (a .initiator .0) (a .next) k 32 (A .within) (λ r h n. naming-covers S t (a .cart .0) _ refl .others r (ahead-end 32 (namingIn (stationsIn S) t (a .cart .0)) k A r h)) in
+    let A : Ahead (roomCount (a .messages .now)) (namingIn (stationsIn S) t (a .cart .0)) 0 k = rw none at (l .inv .1) in
+    let skipped = nearest-skips F t (a .cart .0) (a .initiator .0) (a .next) k 32 (let w = A .within in omega arith) (λ r h n. naming-covers S t (a .cart .0) 32 (naming-inside S t (a .cart .0)) _ refl .others r (ahead-end (roomCount (a .messages .now)) (namingIn (stationsIn S) t (a .cart .0)) k A r h)) in
     l .inv .2 ∙ ap roomCode (sym skipped)
 
 pub nearest-of-spec : {M : Type 1} → statement M

@@ -1,4 +1,5 @@
 -- `catchup::stop_of` meets its contract.
+use native.Mathlib.Omega.{arith}
 use borrow.Author.Needs.{needs}
 use Rattle.queue.specs.Rooms.{tablesFloor}
 use Rattle.catchup.proofs.RowLaws.{at-message, at-level}
@@ -6,7 +7,10 @@ use Rattle.catchup.proofs.stop_of.Statement.{statement}
 use Rattle.catchup.proofs.stop_of.Tie as tie
 
 number-of-requires : tie.Need-number-of-requires
-number-of-requires c κs = search needs
+number-of-requires c κs =
+    let s = c .before .before .before in
+    let here = s .pre .3 (c .if1 .taken) in
+    omega arith
 
 returns : tie.Need-returns
 returns c =

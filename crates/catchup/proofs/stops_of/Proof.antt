@@ -7,7 +7,7 @@ use Rattle.cartset.proofs.Walk.{Ahead, Turn, ahead-start, ahead-turn, ahead-end
 use Rattle.protocol.specs.Floor.{Floor}
 use Rattle.stations.specs.View.{stationsIn}
 use Rattle.messages.specs.View.{roomsIn}
-use Rattle.queue.specs.Rooms.{tablesFloor}
+use Rattle.queue.specs.Rooms.{tablesFloor, roomCount}
 use Rattle.catchup.proofs.NamingLaws.{by-initiator}
 use Rattle.catchup.proofs.StopLaws.{stops-nowhere}
 use Rattle.catchup.proofs.OnePass.{Known, known-start, known-skips, known-nowhere, known-later, known-sooner, known-all}
@@ -16,7 +16,7 @@ use Rattle.catchup.proofs.stops_of.Tie as tie
 
 abbrev Inv-loop : tie.InvT-loop
 Inv-loop stations messages station cart naming row upto₀ nearest₀ left₀ upto nearest left =
-    (k : ℕ) × Ahead 32 naming left k × Known (tablesFloor stations messages) (station .0) (cart .0) row k upto nearest
+    (k : ℕ) × Ahead (roomCount messages) naming left k × Known (tablesFloor stations messages) (station .0) (cart .0) row k upto nearest
 
 abbrev μ-loop : tie.MeasureT-loop
 μ-loop stations messages station cart naming row upto₀ nearest₀ left₀ upto nearest left = left
@@ -26,12 +26,12 @@ floor c = tablesFloor (c .args .stations .now) (c .args .messages .now)
 
 -- a turn of the walk comes to a room
 turn : (c : tie.After-without-first Inv-loop μ-loop)
-    → Turn 32 (c .before .before .before .before .before .before .before .args .naming) (c .before .before .before .loop .left) (c .before .before .before .loop .inv .0) (c .before .first .result) (c .without-first .result)
+    → Turn (roomCount (c .before .before .before .before .before .before .before .args .messages .now)) (c .before .before .before .before .before .before .before .args .naming) (c .before .before .before .loop .left) (c .before .before .before .loop .inv .0) (c .before .first .result) (c .without-first .result)
 turn c =
     let l = c .before .before .before .loop in
     let f = c .before .first in
     let w = c .without-first in
-    ahead-turn 32 (c .before .before .before .before .before .before .before .args .naming) (l .left) (l .inv .0) (f .result) (l .inv .1) (omega arith) (f .ensures) (w .result) (w .ensures (f .result) (f .ensures))
+    ahead-turn (roomCount (c .before .before .before .before .before .before .before .args .messages .now)) (c .before .before .before .before .before .before .before .args .naming) (l .left) (l .inv .0) (f .result) (l .inv .1) (omega arith) (f .ensures) (w .result) (w .ensures (f .result) (f .ensures))
 
 -- and all rooms before it are looked at
 known : (c : tie.After-without-first Inv-loop μ-loop)
@@ -48,7 +48,7 @@ levels-requires c κs = search needs
 loop-holds : tie.Need-loop-holds Inv-loop μ-loop
 loop-holds c =
     let a = c .before .before .before .args in
-    (0, ahead-start 32 (a .naming) (omega arith) (c .before .before .before .pre .0 .inside), known-start (tablesFloor (a .stations .now) (a .messages .now)) (a .station .0) (a .cart .0) (a .t6) (c .levels .result) (c .levels .ensures))
+    (0, ahead-start (roomCount (a .messages .now)) (a .naming) (omega arith) (c .before .before .before .pre .0 .inside), known-start (tablesFloor (a .stations .now) (a .messages .now)) (a .station .0) (a .cart .0) (a .t6) (c .levels .result) (c .levels .ensures))
 
 first-requires : tie.Need-first-requires Inv-loop μ-loop
 first-requires c κs = search needs
@@ -146,8 +146,8 @@ returns c =
     let l = c .before .loop in
     let k = l .inv .0 in
     let none : l .left ≡ 0 = omega arith in
-    let A : Ahead 32 (a .naming) 0 k = rw none at (l .inv .1) in
-    let all = known-skips (floor (c .before .before .before .before .before)) (a .station .0) (a .cart .0) (a .t6) (l .upto) (l .nearest) k 32 (A .within) (λ r h n. c .before .before .before .before .before .pre .0 .others r (ahead-end 32 (a .naming) k A r h)) (l .inv .2) in
+    let A : Ahead (roomCount (a .messages .now)) (a .naming) 0 k = rw none at (l .inv .1) in
+    let all = known-skips (floor (c .before .before .before .before .before)) (a .station .0) (a .cart .0) (a .t6) (l .upto) (l .nearest) k 32 (let w = A .within in omega arith) (λ r h n. c .before .before .before .before .before .pre .0 .others r (ahead-end (roomCount (a .messages .now)) (a .naming) k A r h)) (l .inv .2) in
     (all .rooms, known-all (floor (c .before .before .before .before .before)) (a .station .0) (a .cart .0) (a .t6) (l .upto) (l .nearest) all)
 
 pub stops-of-spec : {M : Type 1} → statement M

@@ -1,8 +1,9 @@
 -- `controller::send` meets its contract.
-use mathlib.Core.Path.{sym, _∙_}
+use mathlib.Core.Path.{refl, sym, _∙_}
 use native.Mathlib.Omega.{arith}
 use borrow.Author.Tests.{not-true, not-false}
 use denote.Ref.{now}
+use Rattle.protocol.specs.Floor.{wholeFloor}
 use Rattle.view.specs.View.{lent}
 use Rattle.controller.proofs.Broken.{long-send, broken-send}
 use borrow.Author.Needs.{needs}
@@ -10,7 +11,7 @@ use Rattle.controller.proofs.send.Statement.{statement}
 use Rattle.controller.proofs.send.Tie as tie
 
 returns : tie.Need-returns
-returns c = let a = c .before .before .before .before .before .before .before .args in long-send (lent (now (a .stations)) (now (a .carts)) (now (a .messages)) (now (a .lines)) (now (a .texts))) (a .station .0) (a .set) (now (a .text)) (omega (arith, c .if1 .taken))
+returns c = let a = c .before .before .before .before .before .before .before .args in long-send (lent wholeFloor (now (a .stations)) (now (a .carts)) (now (a .messages)) (now (a .lines)) (now (a .texts))) (a .station .0) (a .set) (now (a .text)) (omega (arith, c .if1 .taken))
 
 passes-requires : tie.Need-passes-requires
 passes-requires c κs = search needs
@@ -28,10 +29,10 @@ same-length-4 : tie.Need-same-length-4
 same-length-4 c = search needs
 
 returns-2 : tie.Need-returns-2
-returns-2 c = let a = c .before .before .before .before .before .before .before .before .before .before .before .before .before .args in broken-send (lent (now (a .stations)) (now (a .carts)) (now (a .messages)) (now (a .lines)) (now (a .texts))) _ (c .before .passes .ensures) (not-true _ (c .if2 .taken)) (a .station .0) (a .set) (now (a .text)) (omega (arith, c .before .before .before .before .before .before .if1 .left))
+returns-2 c = let a = c .before .before .before .before .before .before .before .before .before .before .before .before .before .args in broken-send (lent wholeFloor (now (a .stations)) (now (a .carts)) (now (a .messages)) (now (a .lines)) (now (a .texts))) _ (c .before .passes .ensures) (not-true _ (c .if2 .taken)) (a .station .0) (a .set) (now (a .text)) (omega (arith, c .before .before .before .before .before .before .if1 .left))
 
 send-requires : tie.Need-send-requires
-send-requires c κs = (sym (c .before .before .before .before .before .passes .ensures) ∙ not-false _ (c .before .before .before .before .if2 .left), (omega (arith, c .before .before .before .before .before .before .before .before .before .before .if1 .left)))
+send-requires c κs = ((wholeFloor, refl, sym (c .before .before .before .before .before .passes .ensures) ∙ not-false _ (c .before .before .before .before .if2 .left)), (omega (arith, c .before .before .before .before .before .before .before .before .before .before .if1 .left)))
 
 same-length-5 : tie.Need-same-length-5
 same-length-5 c = search needs
@@ -46,7 +47,7 @@ same-length-8 : tie.Need-same-length-8
 same-length-8 c = search needs
 
 returns-3 : tie.Need-returns-3
-returns-3 c = search needs
+returns-3 c = c .before .before .before .before .before .before .before .before .send .ensures wholeFloor refl (sym (c .before .before .before .before .before .before .before .before .before .before .before .before .before .before .passes .ensures) ∙ not-false _ (c .before .before .before .before .before .before .before .before .before .before .before .before .before .if2 .left))
 
 pub send-spec : {M : Type 1} → statement M
 send-spec =

@@ -1,14 +1,12 @@
 -- `controller::start` meets its contract.
-use mathlib.Core.Path.{sym, _∙_}
-use borrow.Author.Tests.{not-true, not-false}
-use denote.Ref.{now}
-use Rattle.controller.proofs.Starts.{start-lengths, has-head, start-begun, start-size, start-fits, meets-start}
+use Rattle.protocol.specs.Floor.{wholeFloor}
+use Rattle.controller.proofs.Floors.{floor-fits, is-floor}
 use borrow.Author.Needs.{needs}
 use Rattle.controller.proofs.start.Statement.{statement}
 use Rattle.controller.proofs.start.Tie as tie
 
-lengths-ok-requires : tie.Need-lengths-ok-requires
-lengths-ok-requires c κs = search needs
+start-requires : tie.Need-start-requires
+start-requires c κs = floor-fits
 
 same-length : tie.Need-same-length
 same-length c = search needs
@@ -23,87 +21,15 @@ same-length-4 : tie.Need-same-length-4
 same-length-4 c = search needs
 
 returns : tie.Need-returns
-returns c = let a = c .before .before .before .before .before .before .before .before .before .before .before .args in start-lengths (now (a .stations)) (now (a .carts)) (now (a .messages)) (now (a .lines)) (now (a .texts)) (a .n) (a .k) _ (c .before .lengths-ok .ensures) (not-true _ (c .if1 .taken))
-
-mark-of-requires : tie.Need-mark-of-requires
-mark-of-requires c κs = let a = c .before .before .before .before .before .before .before .before .before .before .before .before .args in has-head (now (a .stations)) (now (a .carts)) (now (a .messages)) (now (a .lines)) (now (a .texts)) (a .n) (a .k) _ (c .before .before .lengths-ok .ensures) (not-false _ (c .before .if1 .left))
-
-same-length-5 : tie.Need-same-length-5
-same-length-5 c = search needs
-
-same-length-6 : tie.Need-same-length-6
-same-length-6 c = search needs
-
-same-length-7 : tie.Need-same-length-7
-same-length-7 c = search needs
-
-same-length-8 : tie.Need-same-length-8
-same-length-8 c = search needs
-
-returns-2 : tie.Need-returns-2
-returns-2 c = let a = c .before .before .before .before .before .before .before .before .before .before .before .before .before .before .args in start-begun (now (a .stations)) (now (a .carts)) (now (a .messages)) (now (a .lines)) (now (a .texts)) (a .n) (a .k) _ (c .before .before .before .before .lengths-ok .ensures) (not-false _ (c .before .before .before .if1 .left)) (sym (c .before .mark-of .ensures) ∙ c .if2 .taken)
-
-wrong-size-requires : tie.Need-wrong-size-requires
-wrong-size-requires c κs = search needs
-
-same-length-9 : tie.Need-same-length-9
-same-length-9 c = search needs
-
-same-length-10 : tie.Need-same-length-10
-same-length-10 c = search needs
-
-same-length-11 : tie.Need-same-length-11
-same-length-11 c = search needs
-
-same-length-12 : tie.Need-same-length-12
-same-length-12 c = search needs
-
-returns-3 : tie.Need-returns-3
-returns-3 c = let a = c .before .before .before .before .before .before .before .before .before .before .before .before .before .before .before .before .args in start-size (now (a .stations)) (now (a .carts)) (now (a .messages)) (now (a .lines)) (now (a .texts)) (a .n) (a .k) _ (c .before .before .before .before .before .before .lengths-ok .ensures) (not-false _ (c .before .before .before .before .before .if1 .left)) (λ z. c .before .before .if2 .left (c .before .before .before .mark-of .ensures ∙ z)) _ (c .before .wrong-size .ensures) (c .if3 .taken)
-
-start-floor-requires : tie.Need-start-floor-requires
-start-floor-requires c κs = let a = c .before .before .before .before .before .before .before .before .before .before .before .before .before .before .before .before .before .before .before .before .args in start-fits (now (a .stations)) (now (a .carts)) (now (a .messages)) (now (a .lines)) (now (a .texts)) (a .n) (a .k) _ (c .before .before .before .before .before .before .before .before .before .before .lengths-ok .ensures) (not-false _ (c .before .before .before .before .before .before .before .before .before .if1 .left)) (λ z. c .before .before .before .before .before .before .if2 .left (c .before .before .before .before .before .before .before .mark-of .ensures ∙ z)) _ (c .before .before .before .before .before .wrong-size .ensures)
-
-same-length-13 : tie.Need-same-length-13
-same-length-13 c = search needs
-
-same-length-14 : tie.Need-same-length-14
-same-length-14 c = search needs
-
-same-length-15 : tie.Need-same-length-15
-same-length-15 c = search needs
-
-same-length-16 : tie.Need-same-length-16
-same-length-16 c = search needs
-
-returns-4 : tie.Need-returns-4
-returns-4 c = let a = c .before .before .before .before .before .before .before .before .before .before .before .before .before .before .before .before .before .before .before .before .before .before .before .before .before .before .before .before .before .args in meets-start (now (a .stations)) (now (a .carts)) (now (a .messages)) (now (a .lines)) (now (a .texts)) (a .n) (a .k) _ (c .before .before .before .before .before .before .before .before .before .before .before .before .before .before .before .before .before .before .before .lengths-ok .ensures) (not-false _ (c .before .before .before .before .before .before .before .before .before .before .before .before .before .before .before .before .before .before .if1 .left)) (λ z. c .before .before .before .before .before .before .before .before .before .before .before .before .before .before .before .if2 .left (c .before .before .before .before .before .before .before .before .before .before .before .before .before .before .before .before .mark-of .ensures ∙ z)) _ (c .before .before .before .before .before .before .before .before .before .before .before .before .before .before .wrong-size .ensures) (c .before .before .before .before .before .before .before .before .before .before .before .before .before .if3 .left) _ _ _ _ (c .before .before .before .before .before .before .before .before .start-floor .ensures)
+returns c = c .before .before .before .before .before .before .before .before .start .ensures wholeFloor is-floor
 
 pub start-spec : {M : Type 1} → statement M
 start-spec =
     tie.close
     (tie.spec
-    lengths-ok-requires
+    start-requires
     same-length
     same-length-2
     same-length-3
     same-length-4
-    returns
-    mark-of-requires
-    same-length-5
-    same-length-6
-    same-length-7
-    same-length-8
-    returns-2
-    wrong-size-requires
-    same-length-9
-    same-length-10
-    same-length-11
-    same-length-12
-    returns-3
-    start-floor-requires
-    same-length-13
-    same-length-14
-    same-length-15
-    same-length-16
-    returns-4)
+    returns)

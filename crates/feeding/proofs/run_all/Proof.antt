@@ -4,6 +4,7 @@ use native.Mathlib.Omega.{arith}
 use lib.ListN.{length}
 use borrow.Author.Needs.{needs}
 use denote.Ref.{now}
+use Rattle.protocol.specs.Floor.{wholeFloor}
 use Rattle.view.specs.View.{lent}
 use Rattle.running.specs.Ready.{Ready}
 use Rattle.running.proofs.Loop.{same-stations, same-carts, same-messages, same-lines, same-texts}
@@ -13,7 +14,7 @@ use Rattle.feeding.proofs.run_all.Tie as tie
 
 abbrev Inv-loop : tie.InvT-loop
 Inv-loop from to input₀ output₀ stations₀ carts₀ messages₀ lines₀ texts₀ numbers f₀ turns₀ input output stations carts messages lines texts f turns =
-    Ready (lent stations carts messages lines texts) × Inside (length input) f × (length input ≡ 65536) × (length output ≡ length output₀)
+    Ready (lent wholeFloor stations carts messages lines texts) × Inside (length input) f × (length input ≡ 65536) × (length output ≡ length output₀)
 
 abbrev μ-loop : tie.MeasureT-loop
 μ-loop from to input₀ output₀ stations₀ carts₀ messages₀ lines₀ texts₀ numbers f₀ turns₀ input output stations carts messages lines texts f turns =
@@ -55,35 +56,35 @@ same-length-3 c =
     let l = c .before .before in
     let s = l .before .before .before .before .before .before .before .before .before in
     let a = s .args in
-    same-stations (lent (now (a .stations)) (now (a .carts)) (now (a .messages)) (now (a .lines)) (now (a .texts))) _ (s .pre .0) (l .loop .inv .0)
+    same-stations (lent wholeFloor (now (a .stations)) (now (a .carts)) (now (a .messages)) (now (a .lines)) (now (a .texts))) _ (s .pre .0) (l .loop .inv .0)
 
 same-length-4 : tie.Need-same-length-4 Inv-loop μ-loop
 same-length-4 c =
     let l = c .before .before in
     let s = l .before .before .before .before .before .before .before .before .before in
     let a = s .args in
-    same-carts (lent (now (a .stations)) (now (a .carts)) (now (a .messages)) (now (a .lines)) (now (a .texts))) _ (s .pre .0) (l .loop .inv .0)
+    same-carts (lent wholeFloor (now (a .stations)) (now (a .carts)) (now (a .messages)) (now (a .lines)) (now (a .texts))) _ (s .pre .0) (l .loop .inv .0)
 
 same-length-5 : tie.Need-same-length-5 Inv-loop μ-loop
 same-length-5 c =
     let l = c .before .before in
     let s = l .before .before .before .before .before .before .before .before .before in
     let a = s .args in
-    same-messages (lent (now (a .stations)) (now (a .carts)) (now (a .messages)) (now (a .lines)) (now (a .texts))) _ (s .pre .0) (l .loop .inv .0)
+    same-messages (lent wholeFloor (now (a .stations)) (now (a .carts)) (now (a .messages)) (now (a .lines)) (now (a .texts))) _ (s .pre .0) (l .loop .inv .0)
 
 same-length-6 : tie.Need-same-length-6 Inv-loop μ-loop
 same-length-6 c =
     let l = c .before .before in
     let s = l .before .before .before .before .before .before .before .before .before in
     let a = s .args in
-    same-lines (lent (now (a .stations)) (now (a .carts)) (now (a .messages)) (now (a .lines)) (now (a .texts))) _ (s .pre .0) (l .loop .inv .0)
+    same-lines (lent wholeFloor (now (a .stations)) (now (a .carts)) (now (a .messages)) (now (a .lines)) (now (a .texts))) _ (s .pre .0) (l .loop .inv .0)
 
 same-length-7 : tie.Need-same-length-7 Inv-loop μ-loop
 same-length-7 c =
     let l = c .before .before in
     let s = l .before .before .before .before .before .before .before .before .before in
     let a = s .args in
-    same-texts (lent (now (a .stations)) (now (a .carts)) (now (a .messages)) (now (a .lines)) (now (a .texts))) _ (s .pre .0) (l .loop .inv .0)
+    same-texts (lent wholeFloor (now (a .stations)) (now (a .carts)) (now (a .messages)) (now (a .lines)) (now (a .texts))) _ (s .pre .0) (l .loop .inv .0)
 
 returns : tie.Need-returns Inv-loop μ-loop
 returns c = search needs

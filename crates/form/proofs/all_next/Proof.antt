@@ -3,7 +3,7 @@ use mathlib.Core.Path.{sym, _∙_}
 use Prim.Native.Nat.{_<_}
 use native.Mathlib.Omega.{arith}
 use Rattle.carts.specs.View.{cartsIn}
-use Rattle.form.proofs.Walks.{nextIs, Walked, walk-start, walk-end, walk-below, walk-no, walk-on, walk-less}
+use Rattle.form.proofs.Walks.{nextIs, Walked, walk-start, walk-end, walk-below, walk-member, walk-no, walk-on, walk-less}
 use Rattle.form.proofs.all_next.Statement.{statement}
 use Rattle.form.proofs.all_next.Tie as tie
 
@@ -26,7 +26,7 @@ next-by-requires c κs =
     let a = c .before .before .before .before .args in
     let l = c .before .before .loop in
     let least = c .first in
-    omega (arith, walk-below 64 (a .set) (nextIs (cartsIn (a .carts .now) .next) (a .s) (a .n)) (l .rest) (least .result) (l .inv .1) (omega arith) (omega arith) (least .ensures))
+    c .before .before .before .before .pre _ (walk-member 64 (a .set) (nextIs (cartsIn (a .carts .now) .next) (a .s) (a .n)) (l .rest) (least .result) (l .inv .1) (omega arith) (omega arith) (least .ensures))
 
 returns : tie.Need-returns Inv-loop μ-loop
 returns c =

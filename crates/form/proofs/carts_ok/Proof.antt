@@ -12,23 +12,23 @@ use Rattle.form.proofs.carts_ok.Statement.{statement}
 use Rattle.form.proofs.carts_ok.Tie as tie
 
 abbrev Inv-loop : tie.InvT-loop
-Inv-loop stations carts number₀ number = (number ≤ 64) × True (all number (cartRule limits (tables stations carts [])))
+Inv-loop stations carts n k number₀ number = (number ≤ k) × True (all number (cartRule limits (tables stations carts [])))
 
 abbrev μ-loop : tie.MeasureT-loop
-μ-loop stations carts number₀ number = 64 - number
+μ-loop stations carts n k number₀ number = k - number
 
 loop-holds : tie.Need-loop-holds Inv-loop μ-loop
 loop-holds c = (omega arith, λ k l. absurd (omega arith))
 
 cart-ok-requires : tie.Need-cart-ok-requires Inv-loop μ-loop
-cart-ok-requires c κs = omega arith
+cart-ok-requires c κs = (omega arith, omega arith, omega arith)
 
 returns : tie.Need-returns Inv-loop μ-loop
 returns c =
     let f = cartRule limits (tables (c .before .before .before .before .before .before .args .stations .now) (c .before .before .before .before .before .before .args .carts .now) []) in
     let a = c .before .before .before .loop in
     let t = c .before .cart-ok in
-    all-no 64 f (a .number) (omega arith) (refused (f (a .number)) (t .result) (t .ensures) (not-true _ (c .if1 .taken)))
+    all-no (c .before .before .before .before .before .before .args .k) f (a .number) (omega arith) (refused (f (a .number)) (t .result) (t .ensures) (not-true _ (c .if1 .taken)))
 
 add-number : tie.Need-add-number Inv-loop μ-loop
 add-number c = omega arith
@@ -46,7 +46,7 @@ loop-again c =
 returns-2 : tie.Need-returns-2 Inv-loop μ-loop
 returns-2 c =
     let a = c .before .loop in
-    all-yes 64 (cartRule limits (tables (c .before .before .before .before .args .stations .now) (c .before .before .before .before .args .carts .now) [])) (a .number) (omega arith) (a .inv .1)
+    all-yes (c .before .before .before .before .args .k) (cartRule limits (tables (c .before .before .before .before .args .stations .now) (c .before .before .before .before .args .carts .now) [])) (a .number) (omega arith) (a .inv .1)
 
 pub carts-ok-spec : {M : Type 1} → statement M
 carts-ok-spec =

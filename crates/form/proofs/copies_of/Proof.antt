@@ -35,7 +35,7 @@ loop-holds c =
     (omega arith, missing-start (tables (a .stations .now) (a .carts .now) (a .messages .now)) (a .m))
 
 copy-named-requires : tie.Need-copy-named-requires Inv-loop μ-loop
-copy-named-requires c κs = omega arith
+copy-named-requires c κs = let p = c .before .before .before .before .before .before .before .before .pre in (omega (arith, p .0 .whole, p .0 .stations, c .before .before .stations-of .ensures .floor), p .1, p .2)
 
 returns-2 : tie.Need-returns-2 Inv-loop μ-loop
 returns-2 c =
@@ -48,7 +48,7 @@ returns-2 c =
     (refused (copyNamed F (a .m) (l .t)) (r .result) (r .ensures) (not-true _ (c .if2 .taken)))
 
 missing-at-requires : tie.Need-missing-at-requires Inv-loop μ-loop
-missing-at-requires c κs = omega arith
+missing-at-requires c κs = let p = c .before .before .before .before .before .before .before .before .before .before .pre in (omega (arith, p .0 .whole, p .0 .stations, c .before .before .before .before .stations-of .ensures .floor), p .1, p .2)
 
 union-requires : tie.Need-union-requires Inv-loop μ-loop
 union-requires c κs = search needs
@@ -87,7 +87,7 @@ returns-3 : tie.Need-returns-3 Inv-loop μ-loop
 returns-3 c =
     let a = c .before .before .before .before .before .before .before .before .before .before .before .before .args in
     let F = tables (a .stations .now) (a .carts .now) (a .messages .now) in
-    let whole = c .before .before .before .before .before .before .before .before .before .before .before .before .pre .0 .stations in
+    let p = c .before .before .before .before .before .before .before .before .before .before .before .before .pre .0 in
     let l = c .before .before .before .before .before .loop in
     let few = c .before .before .before .before .before .before .stations-of in
     let last : l .t ≡ few .result = omega arith in
@@ -95,7 +95,7 @@ returns-3 c =
     let n = c .before .before .number-of in
     let k = c .before .cart-count in
     copies-end F (a .m) (held-of F (a .m) (λ z. c .before .before .before .before .before .before .before .if1 .left (c .before .before .before .before .before .before .before .before .waiting-of .ensures ∙ z)))
-    (copy-past (a .stations .now) whole (a .m)) (expected-past (a .stations .now) whole)
+    (copy-past (a .stations .now) (p .rows) (p .whole) (p .few) (a .m)) (expected-past (a .stations .now) (p .rows) (p .whole) (p .few))
     (l .t) (l .missing) (k .result) (s .result .0) (n .result .0) (l .inv .1) (omega (arith, few .ensures .floor))
     (⊎-elim (λ w. inl (omega arith)) (λ w. inr (omega arith)) (few .ensures .end))
     (k .ensures) (s .ensures) (n .ensures) (c .all-past .result) (c .all-past .ensures)

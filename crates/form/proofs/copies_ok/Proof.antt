@@ -9,16 +9,16 @@ use Rattle.form.proofs.copies_ok.Statement.{statement}
 use Rattle.form.proofs.copies_ok.Tie as tie
 
 abbrev Inv-loop : tie.InvT-loop
-Inv-loop stations carts messages m₀ m = (m ≤ 32) × True (all m (copiesRule (tables stations carts messages)))
+Inv-loop stations carts messages held m₀ m = (m ≤ held) × True (all m (copiesRule (tables stations carts messages)))
 
 abbrev μ-loop : tie.MeasureT-loop
-μ-loop stations carts messages m₀ m = 32 - m
+μ-loop stations carts messages held m₀ m = held - m
 
 loop-holds : tie.Need-loop-holds Inv-loop μ-loop
 loop-holds c = (omega arith, λ k l. absurd (omega arith))
 
 copies-of-requires : tie.Need-copies-of-requires Inv-loop μ-loop
-copies-of-requires c κs = (c .before .before .before .before .before .pre, omega arith)
+copies-of-requires c κs = (c .before .before .before .before .before .pre .0, omega arith, omega arith)
 
 returns : tie.Need-returns Inv-loop μ-loop
 returns c =
@@ -26,7 +26,7 @@ returns c =
     let f = copiesRule (tables (s .stations .now) (s .carts .now) (s .messages .now)) in
     let a = c .before .before .before .loop in
     let t = c .before .copies-of in
-    all-no 32 f (a .m) (omega arith) (refused (f (a .m)) (t .result) (t .ensures) (not-true _ (c .if1 .taken)))
+    all-no (s .held) f (a .m) (omega arith) (refused (f (a .m)) (t .result) (t .ensures) (not-true _ (c .if1 .taken)))
 
 add-m : tie.Need-add-m Inv-loop μ-loop
 add-m c = omega arith
@@ -46,7 +46,7 @@ returns-2 : tie.Need-returns-2 Inv-loop μ-loop
 returns-2 c =
     let s = c .before .before .before .before .before .args in
     let a = c .before .loop in
-    all-yes 32 (copiesRule (tables (s .stations .now) (s .carts .now) (s .messages .now))) (a .m) (omega arith) (a .inv .1)
+    all-yes (s .held) (copiesRule (tables (s .stations .now) (s .carts .now) (s .messages .now))) (a .m) (omega arith) (a .inv .1)
 
 pub copies-ok-spec : {M : Type 1} → statement M
 copies-ok-spec =

@@ -14,29 +14,29 @@ mark-of-requires c κs = search needs
 
 returns : tie.Need-returns
 returns c =
-    no (countsRule (tables (c .before .before .before .args .stations .now) [] [])) (λ h. c .if1 .taken (c .before .mark-of .ensures ∙ eqb-true _ 1 (h .0)))
+    no (countsRule (c .before .before .before .args .rows) (c .before .before .before .args .wagons) (tables (c .before .before .before .args .stations .now) [] [])) (λ h. c .if1 .taken (c .before .mark-of .ensures ∙ eqb-true _ 1 (h .0)))
 
 station-count-requires : tie.Need-station-count-requires
 station-count-requires c κs = search needs
 
 returns-2 : tie.Need-returns-2
-returns-2 c = no (countsRule (tables (c .before .before .before .before .before .args .stations .now) [] [])) (λ h. omega (arith, h .1 .0 .0))
+returns-2 c = no (countsRule (c .before .before .before .before .before .args .rows) (c .before .before .before .before .before .args .wagons) (tables (c .before .before .before .before .before .args .stations .now) [] [])) (λ h. omega (arith, h .1 .0 .0))
 
 returns-3 : tie.Need-returns-3
-returns-3 c = no (countsRule (tables (c .before .before .before .before .before .before .args .stations .now) [] [])) (λ h. omega (arith, h .1 .0 .1))
+returns-3 c = no (countsRule (c .before .before .before .before .before .before .args .rows) (c .before .before .before .before .before .before .args .wagons) (tables (c .before .before .before .before .before .before .args .stations .now) [] [])) (λ h. omega (arith, h .1 .0 .1))
 
 cart-count-requires : tie.Need-cart-count-requires
 cart-count-requires c κs = search needs
 
 returns-4 : tie.Need-returns-4
-returns-4 c = no (countsRule (tables (c .before .before .before .before .before .before .before .before .args .stations .now) [] [])) (λ h. omega (arith, h .1 .1 .0))
+returns-4 c = no (countsRule (c .before .before .before .before .before .before .before .before .args .rows) (c .before .before .before .before .before .before .before .before .args .wagons) (tables (c .before .before .before .before .before .before .before .before .args .stations .now) [] [])) (λ h. omega (arith, h .1 .1 .0))
 
 returns-5 : tie.Need-returns-5
-returns-5 c = no (countsRule (tables (c .before .before .before .before .before .before .before .before .before .args .stations .now) [] [])) (λ h. omega (arith, h .1 .1 .1))
+returns-5 c = no (countsRule (c .before .before .before .before .before .before .before .before .before .args .rows) (c .before .before .before .before .before .before .before .before .before .args .wagons) (tables (c .before .before .before .before .before .before .before .before .before .args .stations .now) [] [])) (λ h. omega (arith, h .1 .1 .1))
 
 returns-6 : tie.Need-returns-6
 returns-6 c =
-    yes (countsRule (tables (c .before .before .before .before .before .before .before .before .before .args .stations .now) [] []))
+    yes (countsRule (c .before .before .before .before .before .before .before .before .before .args .rows) (c .before .before .before .before .before .before .before .before .before .args .wagons) (tables (c .before .before .before .before .before .before .before .before .before .args .stations .now) [] []))
     (eq-eqb _ 1 (sym (c .before .before .before .before .before .before .before .mark-of .ensures) ∙ c .before .before .before .before .before .before .if1 .left), ((omega arith, omega arith), (omega arith, omega arith)))
 
 pub counts-ok-spec : {M : Type 1} → statement M

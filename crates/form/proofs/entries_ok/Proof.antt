@@ -14,10 +14,10 @@ use Rattle.form.proofs.entries_ok.Statement.{statement}
 use Rattle.form.proofs.entries_ok.Tie as tie
 
 abbrev Inv-loop : tie.InvT-loop
-Inv-loop stations carts messages most m₀ m = (m ≤ 32) × True (all m (λ k. all 16 (entryRule limits (tables stations carts messages) k)))
+Inv-loop stations carts messages rows held most m₀ m = (m ≤ held) × True (all m (λ k. all rows (entryRule limits (tables stations carts messages) k)))
 
 abbrev μ-loop : tie.MeasureT-loop
-μ-loop stations carts messages most m₀ m = 32 - m
+μ-loop stations carts messages rows held most m₀ m = held - m
 
 cart-count-requires : tie.Need-cart-count-requires Inv-loop μ-loop
 cart-count-requires c κs = omega arith
@@ -31,15 +31,15 @@ loop-holds c = (omega arith, λ k l. absurd (omega arith))
 entries-of-requires : tie.Need-entries-of-requires Inv-loop μ-loop
 entries-of-requires c κs =
     let s = c .before .before .before .before .before .before .before in
-    (s .pre .0, omega arith, s .pre .1, c .before .before .most-of .ensures ∙ ap mostOf (c .before .before .before .cart-count .ensures))
+    (s .pre .0, omega arith, s .pre .1, c .before .before .most-of .ensures ∙ ap mostOf (c .before .before .before .cart-count .ensures), omega arith, s .pre .2, s .pre .3)
 
 returns : tie.Need-returns Inv-loop μ-loop
 returns c =
     let s = c .before .before .before .before .before .before .before .before .before .args in
-    let f : ℕ → Claim = λ k. all 16 (entryRule limits (tables (s .stations .now) (s .carts .now) (s .messages .now)) k) in
+    let f : ℕ → Claim = λ k. all (s .rows) (entryRule limits (tables (s .stations .now) (s .carts .now) (s .messages .now)) k) in
     let a = c .before .before .before .loop in
     let t = c .before .entries-of in
-    all-no 32 f (a .m) (omega arith) (refused (f (a .m)) (t .result) (t .ensures) (not-true _ (c .if1 .taken)))
+    all-no (s .held) f (a .m) (omega arith) (refused (f (a .m)) (t .result) (t .ensures) (not-true _ (c .if1 .taken)))
 
 add-m : tie.Need-add-m Inv-loop μ-loop
 add-m c = omega arith
@@ -50,7 +50,7 @@ loop-less c = omega arith
 loop-again : tie.Need-loop-again Inv-loop μ-loop
 loop-again c =
     let s = c .before .before .before .before .before .before .before .before .before .args in
-    let f : ℕ → Claim = λ k. all 16 (entryRule limits (tables (s .stations .now) (s .carts .now) (s .messages .now)) k) in
+    let f : ℕ → Claim = λ k. all (s .rows) (entryRule limits (tables (s .stations .now) (s .carts .now) (s .messages .now)) k) in
     let a = c .before .before .before .loop in
     let t = c .before .entries-of in
     (omega arith, one-more f (a .m) (a .inv .1) (passed (f (a .m)) (t .result) (t .ensures) (not-false _ (c .if1 .left))))
@@ -58,9 +58,9 @@ loop-again c =
 returns-2 : tie.Need-returns-2 Inv-loop μ-loop
 returns-2 c =
     let s = c .before .before .before .before .before .before .before .args in
-    let f : ℕ → Claim = λ k. all 16 (entryRule limits (tables (s .stations .now) (s .carts .now) (s .messages .now)) k) in
+    let f : ℕ → Claim = λ k. all (s .rows) (entryRule limits (tables (s .stations .now) (s .carts .now) (s .messages .now)) k) in
     let a = c .before .loop in
-    all-yes 32 f (a .m) (omega arith) (a .inv .1)
+    all-yes (s .held) f (a .m) (omega arith) (a .inv .1)
 
 pub entries-ok-spec : {M : Type 1} → statement M
 entries-ok-spec =

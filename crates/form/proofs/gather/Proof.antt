@@ -10,10 +10,10 @@ use Rattle.form.proofs.gather.Statement.{statement}
 use Rattle.form.proofs.gather.Tie as tie
 
 abbrev Inv-loop : tie.InvT-loop
-Inv-loop stations m sets₀ queued₀ strays₀ t₀ sets queued strays t = (t ≤ 16) × Entries (stationsIn stations) m t sets queued strays
+Inv-loop stations m n sets₀ queued₀ strays₀ t₀ sets queued strays t = (t ≤ n) × Entries (stationsIn stations) m t sets queued strays
 
 abbrev μ-loop : tie.MeasureT-loop
-μ-loop stations m sets₀ queued₀ strays₀ t₀ sets queued strays t = 16 - t
+μ-loop stations m n sets₀ queued₀ strays₀ t₀ sets queued strays t = n - t
 
 loop-holds : tie.Need-loop-holds Inv-loop μ-loop
 loop-holds c =
@@ -79,7 +79,7 @@ returns : tie.Need-returns Inv-loop μ-loop
 returns c =
     let s = c .before .before .before in
     let a = c .before .loop in
-    let e : a .t ≡ 16 = omega arith in
+    let e : a .t ≡ s .args .n = omega arith in
     subst (λ (t : ℕ). Entries (stationsIn (s .args .stations .now)) (s .args .m) t (a .sets) (a .queued) (a .strays)) e (a .inv .1)
 
 pub gather-spec : {M : Type 1} → statement M

@@ -1,19 +1,19 @@
 -- `form::locals_of` meets its contract. The invariant: the masks are those of the carts passed.
-use mathlib.Core.Path.{_≡_, refl}
+use mathlib.Core.Path.{_≡_, refl, _∙_}
 use mathlib.Core.Logic.{⊎-elim}
 use Prim.Native.Nat.{_-_, _≤_}
 use native.Mathlib.Omega.{arith}
 use lib.ListN.{length}
 use Rattle.carts.specs.View.{cartsIn}
-use Rattle.form.proofs.Locals.{LocalsTo, locals-none, locals-stay, locals-join}
+use Rattle.form.proofs.Locals.{LocalsTo, locals-none, locals-stay, locals-join, locals-all}
 use Rattle.form.proofs.locals_of.Statement.{statement}
 use Rattle.form.proofs.locals_of.Tie as tie
 
 abbrev Inv-loop : tie.InvT-loop
-Inv-loop carts locals₀ number₀ locals number = (number ≤ 64) × (length locals ≡ 16) × LocalsTo (cartsIn carts .place) locals number
+Inv-loop carts k locals₀ number₀ locals number = (number ≤ k) × (length locals ≡ 16) × LocalsTo (cartsIn carts .place) locals number
 
 abbrev μ-loop : tie.MeasureT-loop
-μ-loop carts locals₀ number₀ locals number = 64 - number
+μ-loop carts k locals₀ number₀ locals number = k - number
 
 loop-holds : tie.Need-loop-holds Inv-loop μ-loop
 loop-holds c = (omega arith, refl, locals-none (cartsIn (c .before .args .carts .now) .place))
@@ -57,8 +57,10 @@ loop-again c =
 returns : tie.Need-returns Inv-loop μ-loop
 returns c =
     let a = c .before .loop in
-    let e : a .number ≡ 64 = omega arith in
-    rw e at (a .inv .2)
+    let s = c .before .before .before in
+    let e : a .number ≡ s .args .k = omega arith in
+    let all : LocalsTo (cartsIn (s .args .carts .now) .place) (a .locals) (s .args .k) = rw e at (a .inv .2) in
+    λ t l. all t l ∙ locals-all (s .args .carts .now) (s .args .k) (s .pre .0) (s .pre .1) t
 
 pub locals-of-spec : {M : Type 1} → statement M
 locals-of-spec =

@@ -13,23 +13,23 @@ use Rattle.form.proofs.messages_ok.Statement.{statement}
 use Rattle.form.proofs.messages_ok.Tie as tie
 
 abbrev Inv-loop : tie.InvT-loop
-Inv-loop stations messages m₀ m = (m ≤ 32) × True (all m (heldBefore (tables stations [] messages)))
+Inv-loop stations messages rows held m₀ m = (m ≤ held) × True (all m (heldBefore (tables stations [] messages)))
 
 abbrev μ-loop : tie.MeasureT-loop
-μ-loop stations messages m₀ m = 32 - m
+μ-loop stations messages rows held m₀ m = held - m
 
 loop-holds : tie.Need-loop-holds Inv-loop μ-loop
 loop-holds c = (omega arith, λ k l. absurd (omega arith))
 
 held-ok-requires : tie.Need-held-ok-requires Inv-loop μ-loop
-held-ok-requires c κs = omega arith
+held-ok-requires c κs = (omega arith, omega arith)
 
 returns : tie.Need-returns Inv-loop μ-loop
 returns c =
     let F = tables (c .before .before .before .before .before .before .args .stations .now) [] (c .before .before .before .before .before .before .args .messages .now) in
     let a = c .before .before .before .loop in
     let t = c .before .held-ok in
-    all-no 32 (heldBefore F) (a .m) (omega arith) (refused (heldBefore F (a .m)) (t .result) (t .ensures) (not-true _ (c .if1 .taken))) ∙ names-alone F
+    all-no (c .before .before .before .before .before .before .args .held) (heldBefore F) (a .m) (omega arith) (refused (heldBefore F (a .m)) (t .result) (t .ensures) (not-true _ (c .if1 .taken))) ∙ names-alone (c .before .before .before .before .before .before .args .held) F
 
 add-m : tie.Need-add-m Inv-loop μ-loop
 add-m c = omega arith
@@ -48,7 +48,7 @@ returns-2 : tie.Need-returns-2 Inv-loop μ-loop
 returns-2 c =
     let F = tables (c .before .before .before .before .args .stations .now) [] (c .before .before .before .before .args .messages .now) in
     let a = c .before .loop in
-    all-yes 32 (heldBefore F) (a .m) (omega arith) (a .inv .1) ∙ names-alone F
+    all-yes (c .before .before .before .before .args .held) (heldBefore F) (a .m) (omega arith) (a .inv .1) ∙ names-alone (c .before .before .before .before .args .held) F
 
 pub messages-ok-spec : {M : Type 1} → statement M
 messages-ok-spec =

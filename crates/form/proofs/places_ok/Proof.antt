@@ -11,10 +11,10 @@ use Rattle.form.proofs.places_ok.Statement.{statement}
 use Rattle.form.proofs.places_ok.Tie as tie
 
 abbrev Inv-loop : tie.InvT-loop
-Inv-loop carts number₀ number = (number ≤ 64) × True (all number (λ k. is (canonicalIn carts k)))
+Inv-loop carts k number₀ number = (number ≤ k) × True (all number (λ j. is (canonicalIn carts j)))
 
 abbrev μ-loop : tie.MeasureT-loop
-μ-loop carts number₀ number = 64 - number
+μ-loop carts k number₀ number = k - number
 
 loop-holds : tie.Need-loop-holds Inv-loop μ-loop
 loop-holds c = (omega arith, λ k l. absurd (omega arith))
@@ -26,7 +26,7 @@ returns : tie.Need-returns Inv-loop μ-loop
 returns c =
     let a = c .before .before .before .loop in
     let t = c .before .is-canonical in
-    all-no 64 (λ k. is (canonicalIn (c .before .before .before .before .before .args .carts .now) k)) (a .number) (omega arith) (λ h. clash (t .result) (t .ensures ∙ h) (not-true _ (c .if1 .taken)))
+    all-no (c .before .before .before .before .before .args .k) (λ k. is (canonicalIn (c .before .before .before .before .before .args .carts .now) k)) (a .number) (omega arith) (λ h. clash (t .result) (t .ensures ∙ h) (not-true _ (c .if1 .taken)))
 
 add-number : tie.Need-add-number Inv-loop μ-loop
 add-number c = omega arith
@@ -43,7 +43,7 @@ loop-again c =
 returns-2 : tie.Need-returns-2 Inv-loop μ-loop
 returns-2 c =
     let a = c .before .loop in
-    all-yes 64 (λ k. is (canonicalIn (c .before .before .before .args .carts .now) k)) (a .number) (omega arith) (a .inv .1)
+    all-yes (c .before .before .before .args .k) (λ k. is (canonicalIn (c .before .before .before .args .carts .now) k)) (a .number) (omega arith) (a .inv .1)
 
 pub places-ok-spec : {M : Type 1} → statement M
 places-ok-spec =

@@ -10,23 +10,23 @@ use Rattle.form.proofs.rooms_ok.Statement.{statement}
 use Rattle.form.proofs.rooms_ok.Tie as tie
 
 abbrev Inv-loop : tie.InvT-loop
-Inv-loop stations messages m₀ m = (m ≤ 32) × True (all m (roomSets (tables stations [] messages)))
+Inv-loop stations messages held m₀ m = (m ≤ held) × True (all m (roomSets (tables stations [] messages)))
 
 abbrev μ-loop : tie.MeasureT-loop
-μ-loop stations messages m₀ m = 32 - m
+μ-loop stations messages held m₀ m = held - m
 
 loop-holds : tie.Need-loop-holds Inv-loop μ-loop
 loop-holds c = (omega arith, λ k l. absurd (omega arith))
 
 room-ok-requires : tie.Need-room-ok-requires Inv-loop μ-loop
-room-ok-requires c κs = omega arith
+room-ok-requires c κs = (omega arith, omega arith)
 
 returns : tie.Need-returns Inv-loop μ-loop
 returns c =
     let f = roomSets (tables (c .before .before .before .before .before .before .args .stations .now) [] (c .before .before .before .before .before .before .args .messages .now)) in
     let a = c .before .before .before .loop in
     let t = c .before .room-ok in
-    all-no 32 f (a .m) (omega arith) (refused (f (a .m)) (t .result) (t .ensures) (not-true _ (c .if1 .taken)))
+    all-no (c .before .before .before .before .before .before .args .held) f (a .m) (omega arith) (refused (f (a .m)) (t .result) (t .ensures) (not-true _ (c .if1 .taken)))
 
 add-m : tie.Need-add-m Inv-loop μ-loop
 add-m c = omega arith
@@ -44,7 +44,7 @@ loop-again c =
 returns-2 : tie.Need-returns-2 Inv-loop μ-loop
 returns-2 c =
     let a = c .before .loop in
-    all-yes 32 (roomSets (tables (c .before .before .before .before .args .stations .now) [] (c .before .before .before .before .args .messages .now))) (a .m) (omega arith) (a .inv .1)
+    all-yes (c .before .before .before .before .args .held) (roomSets (tables (c .before .before .before .before .args .stations .now) [] (c .before .before .before .before .args .messages .now))) (a .m) (omega arith) (a .inv .1)
 
 pub rooms-ok-spec : {M : Type 1} → statement M
 rooms-ok-spec =

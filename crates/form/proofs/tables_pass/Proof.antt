@@ -1,163 +1,224 @@
 -- `form::tables_pass` meets its contract. Each part refuses what the rule refuses, and together they ask all of it.
+use mathlib.Core.Path.{_∙_}
 use mathlib.Core.List.{[]}
+use native.Mathlib.Omega.{arith}
 use borrow.Author.Needs.{needs}
 use borrow.Author.Tests.{not-true, not-false}
-use Rattle.protocol.specs.Floor.{limits}
+use Rattle.protocol.specs.Floor.{wholeFloor, limits}
 use Rattle.protocol.specs.Claims.{all, is}
 use Rattle.protocol.specs.Form.{stationRule, cartRule, entryRule}
 use Rattle.carts.specs.View.{canonicalIn}
 use Rattle.view.specs.View.{lent, localRight, shortText}
-use Rattle.form.proofs.Answers.{yes, no, passed, refused}
-use Rattle.form.specs.Tables.{tables, countsRule, roomSets, heldNames, copiesRule, tablesRule}
+use Rattle.form.proofs.Answers.{no, passed, refused, same-answer}
+use Rattle.form.specs.Tables.{tables, OnTables, countsRule, roomSets, heldNames, copiesRule, roomsEnd, tablesRule}
 use Rattle.form.proofs.tables_pass.Statement.{statement}
 use Rattle.form.proofs.tables_pass.Tie as tie
 
 counts-ok-requires : tie.Need-counts-ok-requires
-counts-ok-requires c κs = search needs
+counts-ok-requires c κs =
+    let p = c .before .before .before .pre .0 in
+    omega (arith, p .stations)
 
 returns : tie.Need-returns
 returns c =
-    let S = c .before .before .before .before .before .args .stations .now in
-    let C = c .before .before .before .before .before .args .carts .now in
-    let M = c .before .before .before .before .before .args .messages .now in
+    let a = c .before .before .before .before .before .args in
+    let S = a .stations .now in
+    let C = a .carts .now in
+    let M = a .messages .now in
+    let n = a .n in
+    let k = a .k in
+    let h = a .held in
     let t = c .before .counts-ok in
-    no (tablesRule S C M) (λ h. refused (countsRule (tables S [] [])) (t .result) (t .ensures) (not-true _ (c .if1 .taken)) (h .0))
+    λ N e. no (tablesRule N n k h S C M) (λ z. refused (countsRule n k (tables S [] [])) (t .result) (t .ensures) (not-true _ (c .if1 .taken)) (z .0))
 
 stations-ok-requires : tie.Need-stations-ok-requires
-stations-ok-requires c κs = search needs
+stations-ok-requires c κs =
+    let p = c .before .before .before .before .before .pre .0 in
+    (p .stations, p .few-stations, c .before .before .before .before .before .pre .1)
 
 returns-2 : tie.Need-returns-2
 returns-2 c =
-    let S = c .before .before .before .before .before .before .before .args .stations .now in
-    let C = c .before .before .before .before .before .before .before .args .carts .now in
-    let M = c .before .before .before .before .before .before .before .args .messages .now in
+    let a = c .before .before .before .before .before .before .before .args in
+    let S = a .stations .now in
+    let C = a .carts .now in
+    let M = a .messages .now in
+    let n = a .n in
+    let k = a .k in
+    let h = a .held in
     let t = c .before .stations-ok in
-    no (tablesRule S C M) (λ h. refused (all 16 (stationRule limits (tables S [] []))) (t .result) (t .ensures) (not-true _ (c .if2 .taken)) (h .1 .0))
+    λ N e. no (tablesRule N n k h S C M) (λ z. refused (all n (stationRule N (tables S [] []))) (t .result) (t .ensures N e) (not-true _ (c .if2 .taken)) (z .1 .0))
 
 places-ok-requires : tie.Need-places-ok-requires
-places-ok-requires c κs = search needs
+places-ok-requires c κs =
+    let p = c .before .before .before .before .before .before .before .pre .0 in
+    (p .carts, p .few-carts)
 
 returns-3 : tie.Need-returns-3
 returns-3 c =
-    let S = c .before .before .before .before .before .before .before .before .before .args .stations .now in
-    let C = c .before .before .before .before .before .before .before .before .before .args .carts .now in
-    let M = c .before .before .before .before .before .before .before .before .before .args .messages .now in
+    let a = c .before .before .before .before .before .before .before .before .before .args in
+    let S = a .stations .now in
+    let C = a .carts .now in
+    let M = a .messages .now in
+    let n = a .n in
+    let k = a .k in
+    let h = a .held in
     let t = c .before .places-ok in
-    no (tablesRule S C M) (λ h. refused (all 64 (λ k. is (canonicalIn C k))) (t .result) (t .ensures) (not-true _ (c .if3 .taken)) (h .1 .1 .0))
+    λ N e. no (tablesRule N n k h S C M) (λ z. refused (all k (λ j. is (canonicalIn C j))) (t .result) (t .ensures) (not-true _ (c .if3 .taken)) (z .1 .1 .0))
 
 texts-ok-requires : tie.Need-texts-ok-requires
-texts-ok-requires c κs = search needs
+texts-ok-requires c κs =
+    let p = c .before .before .before .before .before .before .before .before .before .pre .0 in
+    (p .messages, p .few-rooms)
 
 returns-4 : tie.Need-returns-4
 returns-4 c =
-    let S = c .before .before .before .before .before .before .before .before .before .before .before .args .stations .now in
-    let C = c .before .before .before .before .before .before .before .before .before .before .before .args .carts .now in
-    let M = c .before .before .before .before .before .before .before .before .before .before .before .args .messages .now in
+    let a = c .before .before .before .before .before .before .before .before .before .before .before .args in
+    let S = a .stations .now in
+    let C = a .carts .now in
+    let M = a .messages .now in
+    let n = a .n in
+    let k = a .k in
+    let h = a .held in
     let t = c .before .texts-ok in
-    no (tablesRule S C M) (λ h. refused (all 32 (λ m. is (shortText (lent [] [] M [] []) m))) (t .result) (t .ensures) (not-true _ (c .if4 .taken)) (h .1 .1 .1 .0))
+    λ N e. no (tablesRule N n k h S C M) (λ z. refused (all h (λ m. is (shortText (lent wholeFloor [] [] M [] []) m))) (t .result) (t .ensures) (not-true _ (c .if4 .taken)) (z .1 .1 .1 .0))
 
 locals-ok-requires : tie.Need-locals-ok-requires
-locals-ok-requires c κs = search needs
+locals-ok-requires c κs =
+    let p = c .before .before .before .before .before .before .before .before .before .before .before .pre .0 in
+    (p .stations, p .few-stations, p .carts, p .few-carts)
 
 returns-5 : tie.Need-returns-5
 returns-5 c =
-    let S = c .before .before .before .before .before .before .before .before .before .before .before .before .before .args .stations .now in
-    let C = c .before .before .before .before .before .before .before .before .before .before .before .before .before .args .carts .now in
-    let M = c .before .before .before .before .before .before .before .before .before .before .before .before .before .args .messages .now in
+    let a = c .before .before .before .before .before .before .before .before .before .before .before .before .before .args in
+    let S = a .stations .now in
+    let C = a .carts .now in
+    let M = a .messages .now in
+    let n = a .n in
+    let k = a .k in
+    let h = a .held in
     let t = c .before .locals-ok in
-    no (tablesRule S C M) (λ h. refused (all 16 (λ t. is (localRight (lent S C [] [] []) t))) (t .result) (t .ensures) (not-true _ (c .if5 .taken)) (h .1 .1 .1 .1 .0))
+    λ N e. no (tablesRule N n k h S C M) (λ z. refused (all n (λ t. is (localRight (lent wholeFloor S C [] [] []) t))) (t .result) (t .ensures) (not-true _ (c .if5 .taken)) (z .1 .1 .1 .1 .0))
 
 carts-ok-requires : tie.Need-carts-ok-requires
-carts-ok-requires c κs = search needs
+carts-ok-requires c κs =
+    let p = c .before .before .before .before .before .before .before .before .before .before .before .before .before .pre .0 in
+    (p .stations, p .few-stations, p .carts, p .few-carts)
 
 returns-6 : tie.Need-returns-6
 returns-6 c =
-    let S = c .before .before .before .before .before .before .before .before .before .before .before .before .before .before .before .args .stations .now in
-    let C = c .before .before .before .before .before .before .before .before .before .before .before .before .before .before .before .args .carts .now in
-    let M = c .before .before .before .before .before .before .before .before .before .before .before .before .before .before .before .args .messages .now in
+    let a = c .before .before .before .before .before .before .before .before .before .before .before .before .before .before .before .args in
+    let S = a .stations .now in
+    let C = a .carts .now in
+    let M = a .messages .now in
+    let n = a .n in
+    let k = a .k in
+    let h = a .held in
     let t = c .before .carts-ok in
-    no (tablesRule S C M) (λ h. refused (all 64 (cartRule limits (tables S C []))) (t .result) (t .ensures) (not-true _ (c .if6 .taken)) (h .1 .1 .1 .1 .1 .0))
+    λ N e. no (tablesRule N n k h S C M) (λ z. refused (all k (cartRule limits (tables S C []))) (t .result) (t .ensures) (not-true _ (c .if6 .taken)) (z .1 .1 .1 .1 .1 .0))
 
 rooms-ok-requires : tie.Need-rooms-ok-requires
-rooms-ok-requires c κs = search needs
+rooms-ok-requires c κs =
+    let p = c .before .before .before .before .before .before .before .before .before .before .before .before .before .before .before .pre .0 in
+    (omega (arith, p .stations), p .messages, p .few-rooms)
 
 returns-7 : tie.Need-returns-7
 returns-7 c =
-    let S = c .before .before .before .before .before .before .before .before .before .before .before .before .before .before .before .before .before .args .stations .now in
-    let C = c .before .before .before .before .before .before .before .before .before .before .before .before .before .before .before .before .before .args .carts .now in
-    let M = c .before .before .before .before .before .before .before .before .before .before .before .before .before .before .before .before .before .args .messages .now in
+    let a = c .before .before .before .before .before .before .before .before .before .before .before .before .before .before .before .before .before .args in
+    let S = a .stations .now in
+    let C = a .carts .now in
+    let M = a .messages .now in
+    let n = a .n in
+    let k = a .k in
+    let h = a .held in
     let t = c .before .rooms-ok in
-    no (tablesRule S C M) (λ h. refused (all 32 (roomSets (tables S [] M))) (t .result) (t .ensures) (not-true _ (c .if7 .taken)) (h .1 .1 .1 .1 .1 .1 .0))
+    λ N e. no (tablesRule N n k h S C M) (λ z. refused (all h (roomSets (tables S [] M))) (t .result) (t .ensures) (not-true _ (c .if7 .taken)) (z .1 .1 .1 .1 .1 .1 .0))
 
 messages-ok-requires : tie.Need-messages-ok-requires
-messages-ok-requires c κs = search needs
+messages-ok-requires c κs =
+    let p = c .before .before .before .before .before .before .before .before .before .before .before .before .before .before .before .before .before .pre .0 in
+    (p .stations, p .messages, p .few-rooms)
 
 returns-8 : tie.Need-returns-8
 returns-8 c =
-    let S = c .before .before .before .before .before .before .before .before .before .before .before .before .before .before .before .before .before .before .before .args .stations .now in
-    let C = c .before .before .before .before .before .before .before .before .before .before .before .before .before .before .before .before .before .before .before .args .carts .now in
-    let M = c .before .before .before .before .before .before .before .before .before .before .before .before .before .before .before .before .before .before .before .args .messages .now in
+    let a = c .before .before .before .before .before .before .before .before .before .before .before .before .before .before .before .before .before .before .before .args in
+    let S = a .stations .now in
+    let C = a .carts .now in
+    let M = a .messages .now in
+    let n = a .n in
+    let k = a .k in
+    let h = a .held in
     let t = c .before .messages-ok in
-    no (tablesRule S C M) (λ h. refused (all 32 (heldNames (tables S [] M))) (t .result) (t .ensures) (not-true _ (c .if8 .taken)) (h .1 .1 .1 .1 .1 .1 .1 .0))
+    λ N e. no (tablesRule N n k h S C M) (λ z. refused (all h (heldNames h (tables S [] M))) (t .result) (t .ensures) (not-true _ (c .if8 .taken)) (z .1 .1 .1 .1 .1 .1 .1 .0))
 
 entries-ok-requires : tie.Need-entries-ok-requires
 entries-ok-requires c κs =
-    let S = c .before .before .before .before .before .before .before .before .before .before .before .before .before .before .before .before .before .before .before .args .stations .now in
-    let C = c .before .before .before .before .before .before .before .before .before .before .before .before .before .before .before .before .before .before .before .args .carts .now in
-    (c .before .before .before .before .before .before .before .before .before .before .before .before .before .before .before .before .before .before .before .pre, passed (all 16 (λ t. is (localRight (lent S C [] [] []) t))) (c .before .before .before .before .before .before .before .locals-ok .result) (c .before .before .before .before .before .before .before .locals-ok .ensures) (not-false _ (c .before .before .before .before .before .before .if5 .left)))
+    let p = c .before .before .before .before .before .before .before .before .before .before .before .before .before .before .before .before .before .before .before .pre .0 in
+    let s = c .before .before .before .before .before .before .before .before .before .before .before .before .before .before .before .before .before .before .before .args in
+    let counts = passed (countsRule (s .n) (s .k) (tables (s .stations .now) [] [])) (c .before .before .before .before .before .before .before .before .before .before .before .before .before .before .before .counts-ok .result) (c .before .before .before .before .before .before .before .before .before .before .before .before .before .before .before .counts-ok .ensures) (not-false _ (c .before .before .before .before .before .before .before .before .before .before .before .before .before .before .if1 .left)) in
+    let on : OnTables (s .stations .now) (s .carts .now) = record { rows = s .n; whole = p .stations; few = p .few-stations; stations = counts .1 .0 .1; carts = (let z = counts .1 .1 .1 in omega (arith, p .carts, z)) } in
+    let right = passed (all (s .n) (λ t. is (localRight (lent wholeFloor (s .stations .now) (s .carts .now) [] [] []) t))) (c .before .before .before .before .before .before .before .locals-ok .result) (c .before .before .before .before .before .before .before .locals-ok .ensures) (not-false _ (c .before .before .before .before .before .before .if5 .left)) in
+    (on, right, p .stations, p .few-stations, p .messages, p .few-rooms)
 
 returns-9 : tie.Need-returns-9
 returns-9 c =
-    let S = c .before .before .before .before .before .before .before .before .before .before .before .before .before .before .before .before .before .before .before .before .before .args .stations .now in
-    let C = c .before .before .before .before .before .before .before .before .before .before .before .before .before .before .before .before .before .before .before .before .before .args .carts .now in
-    let M = c .before .before .before .before .before .before .before .before .before .before .before .before .before .before .before .before .before .before .before .before .before .args .messages .now in
+    let a = c .before .before .before .before .before .before .before .before .before .before .before .before .before .before .before .before .before .before .before .before .before .args in
+    let S = a .stations .now in
+    let C = a .carts .now in
+    let M = a .messages .now in
+    let n = a .n in
+    let k = a .k in
+    let h = a .held in
     let t = c .before .entries-ok in
-    no (tablesRule S C M) (λ h. refused (all 32 (λ m. all 16 (entryRule limits (tables S C M) m))) (t .result) (t .ensures) (not-true _ (c .if9 .taken)) (h .1 .1 .1 .1 .1 .1 .1 .1 .0))
+    λ N e. no (tablesRule N n k h S C M) (λ z. refused (all h (λ m. all n (entryRule limits (tables S C M) m))) (t .result) (t .ensures) (not-true _ (c .if9 .taken)) (z .1 .1 .1 .1 .1 .1 .1 .1 .0))
 
 copies-ok-requires : tie.Need-copies-ok-requires
-copies-ok-requires c κs = search needs
+copies-ok-requires c κs =
+    let p = c .before .before .before .before .before .before .before .before .before .before .before .before .before .before .before .before .before .before .before .before .before .pre .0 in
+    let s = c .before .before .before .before .before .before .before .before .before .before .before .before .before .before .before .before .before .before .before .before .before .args in
+    let counts = passed (countsRule (s .n) (s .k) (tables (s .stations .now) [] [])) (c .before .before .before .before .before .before .before .before .before .before .before .before .before .before .before .before .before .counts-ok .result) (c .before .before .before .before .before .before .before .before .before .before .before .before .before .before .before .before .before .counts-ok .ensures) (not-false _ (c .before .before .before .before .before .before .before .before .before .before .before .before .before .before .before .before .if1 .left)) in
+    let on : OnTables (s .stations .now) (s .carts .now) = record { rows = s .n; whole = p .stations; few = p .few-stations; stations = counts .1 .0 .1; carts = (let z = counts .1 .1 .1 in omega (arith, p .carts, z)) } in
+    (on, p .messages, p .few-rooms)
 
 returns-10 : tie.Need-returns-10
 returns-10 c =
-    let S = c .before .before .before .before .before .before .before .before .before .before .before .before .before .before .before .before .before .before .before .before .before .before .before .args .stations .now in
-    let C = c .before .before .before .before .before .before .before .before .before .before .before .before .before .before .before .before .before .before .before .before .before .before .before .args .carts .now in
-    let M = c .before .before .before .before .before .before .before .before .before .before .before .before .before .before .before .before .before .before .before .before .before .before .before .args .messages .now in
+    let a = c .before .before .before .before .before .before .before .before .before .before .before .before .before .before .before .before .before .before .before .before .before .before .before .args in
+    let S = a .stations .now in
+    let C = a .carts .now in
+    let M = a .messages .now in
+    let n = a .n in
+    let k = a .k in
+    let h = a .held in
     let t = c .before .copies-ok in
-    no (tablesRule S C M) (λ h. refused (all 32 (copiesRule (tables S C M))) (t .result) (t .ensures) (not-true _ (c .if10 .taken)) (h .1 .1 .1 .1 .1 .1 .1 .1 .1))
+    λ N e. no (tablesRule N n k h S C M) (λ z. refused (all h (copiesRule (tables S C M))) (t .result) (t .ensures) (not-true _ (c .if10 .taken)) (z .1 .1 .1 .1 .1 .1 .1 .1 .1 .0))
+
+ends-ok-requires : tie.Need-ends-ok-requires
+ends-ok-requires c κs =
+    let p = c .before .before .before .before .before .before .before .before .before .before .before .before .before .before .before .before .before .before .before .before .before .before .before .pre .0 in
+    (p .stations, p .few-stations, p .few-rooms)
 
 returns-11 : tie.Need-returns-11
 returns-11 c =
-    let S = c .before .before .before .before .before .before .before .before .before .before .before .before .before .before .before .before .before .before .before .before .before .before .before .args .stations .now in
-    let C = c .before .before .before .before .before .before .before .before .before .before .before .before .before .before .before .before .before .before .before .before .before .before .before .args .carts .now in
-    let M = c .before .before .before .before .before .before .before .before .before .before .before .before .before .before .before .before .before .before .before .before .before .before .before .args .messages .now in
-    yes (tablesRule S C M) (
-      passed (countsRule (tables S [] [])) (c .before .before .before .before .before .before .before .before .before .before .before .before .before .before .before .before .before .before .before .counts-ok .result) (c .before .before .before .before .before .before .before .before .before .before .before .before .before .before .before .before .before .before .before .counts-ok .ensures) (not-false _ (c .before .before .before .before .before .before .before .before .before .before .before .before .before .before .before .before .before .before .if1 .left)),
-      (
-        passed (all 16 (stationRule limits (tables S [] []))) (c .before .before .before .before .before .before .before .before .before .before .before .before .before .before .before .before .before .stations-ok .result) (c .before .before .before .before .before .before .before .before .before .before .before .before .before .before .before .before .before .stations-ok .ensures) (not-false _ (c .before .before .before .before .before .before .before .before .before .before .before .before .before .before .before .before .if2 .left)),
-        (
-          passed (all 64 (λ k. is (canonicalIn C k))) (c .before .before .before .before .before .before .before .before .before .before .before .before .before .before .before .places-ok .result) (c .before .before .before .before .before .before .before .before .before .before .before .before .before .before .before .places-ok .ensures) (not-false _ (c .before .before .before .before .before .before .before .before .before .before .before .before .before .before .if3 .left)),
-          (
-            passed (all 32 (λ m. is (shortText (lent [] [] M [] []) m))) (c .before .before .before .before .before .before .before .before .before .before .before .before .before .texts-ok .result) (c .before .before .before .before .before .before .before .before .before .before .before .before .before .texts-ok .ensures) (not-false _ (c .before .before .before .before .before .before .before .before .before .before .before .before .if4 .left)),
-            (
-              passed (all 16 (λ t. is (localRight (lent S C [] [] []) t))) (c .before .before .before .before .before .before .before .before .before .before .before .locals-ok .result) (c .before .before .before .before .before .before .before .before .before .before .before .locals-ok .ensures) (not-false _ (c .before .before .before .before .before .before .before .before .before .before .if5 .left)),
-              (
-                passed (all 64 (cartRule limits (tables S C []))) (c .before .before .before .before .before .before .before .before .before .carts-ok .result) (c .before .before .before .before .before .before .before .before .before .carts-ok .ensures) (not-false _ (c .before .before .before .before .before .before .before .before .if6 .left)),
-                (
-                  passed (all 32 (roomSets (tables S [] M))) (c .before .before .before .before .before .before .before .rooms-ok .result) (c .before .before .before .before .before .before .before .rooms-ok .ensures) (not-false _ (c .before .before .before .before .before .before .if7 .left)),
-                  (
-                    passed (all 32 (heldNames (tables S [] M))) (c .before .before .before .before .before .messages-ok .result) (c .before .before .before .before .before .messages-ok .ensures) (not-false _ (c .before .before .before .before .if8 .left)),
-                    (
-                      passed (all 32 (λ m. all 16 (entryRule limits (tables S C M) m))) (c .before .before .before .entries-ok .result) (c .before .before .before .entries-ok .ensures) (not-false _ (c .before .before .if9 .left)),
-                      passed (all 32 (copiesRule (tables S C M))) (c .before .copies-ok .result) (c .before .copies-ok .ensures) (not-false _ (c .if10 .left)),
-                    ),
-                  ),
-                ),
-              ),
-            ),
-          ),
-        ),
-      ),
-    )
+    let a = c .before .before .before .before .before .before .before .before .before .before .before .before .before .before .before .before .before .before .before .before .before .before .before .before .args in
+    let S = a .stations .now in
+    let C = a .carts .now in
+    let M = a .messages .now in
+    let n = a .n in
+    let k = a .k in
+    let h = a .held in
+    λ N e. c .ends-ok .ensures
+    ∙ same-answer (all n (roomsEnd h S)) (tablesRule N n k h S C M)
+    (λ q. (passed (countsRule n k (tables S [] [])) (c .before .before .before .before .before .before .before .before .before .before .before .before .before .before .before .before .before .before .before .before .counts-ok .result) (c .before .before .before .before .before .before .before .before .before .before .before .before .before .before .before .before .before .before .before .before .counts-ok .ensures) (not-false _ (c .before .before .before .before .before .before .before .before .before .before .before .before .before .before .before .before .before .before .before .if1 .left)),
+    (passed (all n (stationRule N (tables S [] []))) (c .before .before .before .before .before .before .before .before .before .before .before .before .before .before .before .before .before .before .stations-ok .result) (c .before .before .before .before .before .before .before .before .before .before .before .before .before .before .before .before .before .before .stations-ok .ensures N e) (not-false _ (c .before .before .before .before .before .before .before .before .before .before .before .before .before .before .before .before .before .if2 .left)),
+    (passed (all k (λ j. is (canonicalIn C j))) (c .before .before .before .before .before .before .before .before .before .before .before .before .before .before .before .before .places-ok .result) (c .before .before .before .before .before .before .before .before .before .before .before .before .before .before .before .before .places-ok .ensures) (not-false _ (c .before .before .before .before .before .before .before .before .before .before .before .before .before .before .before .if3 .left)),
+    (passed (all h (λ m. is (shortText (lent wholeFloor [] [] M [] []) m))) (c .before .before .before .before .before .before .before .before .before .before .before .before .before .before .texts-ok .result) (c .before .before .before .before .before .before .before .before .before .before .before .before .before .before .texts-ok .ensures) (not-false _ (c .before .before .before .before .before .before .before .before .before .before .before .before .before .if4 .left)),
+    (passed (all n (λ t. is (localRight (lent wholeFloor S C [] [] []) t))) (c .before .before .before .before .before .before .before .before .before .before .before .before .locals-ok .result) (c .before .before .before .before .before .before .before .before .before .before .before .before .locals-ok .ensures) (not-false _ (c .before .before .before .before .before .before .before .before .before .before .before .if5 .left)),
+    (passed (all k (cartRule limits (tables S C []))) (c .before .before .before .before .before .before .before .before .before .before .carts-ok .result) (c .before .before .before .before .before .before .before .before .before .before .carts-ok .ensures) (not-false _ (c .before .before .before .before .before .before .before .before .before .if6 .left)),
+    (passed (all h (roomSets (tables S [] M))) (c .before .before .before .before .before .before .before .before .rooms-ok .result) (c .before .before .before .before .before .before .before .before .rooms-ok .ensures) (not-false _ (c .before .before .before .before .before .before .before .if7 .left)),
+    (passed (all h (heldNames h (tables S [] M))) (c .before .before .before .before .before .before .messages-ok .result) (c .before .before .before .before .before .before .messages-ok .ensures) (not-false _ (c .before .before .before .before .before .if8 .left)),
+    (passed (all h (λ m. all n (entryRule limits (tables S C M) m))) (c .before .before .before .before .entries-ok .result) (c .before .before .before .before .entries-ok .ensures) (not-false _ (c .before .before .before .if9 .left)),
+    (passed (all h (copiesRule (tables S C M))) (c .before .before .copies-ok .result) (c .before .before .copies-ok .ensures) (not-false _ (c .before .if10 .left)),
+    q)))))))))))
+    (λ z. z .1 .1 .1 .1 .1 .1 .1 .1 .1 .1)
 
 pub tables-pass-spec : {M : Type 1} → statement M
 tables-pass-spec =
@@ -183,4 +244,5 @@ tables-pass-spec =
     returns-9
     copies-ok-requires
     returns-10
+    ends-ok-requires
     returns-11)

@@ -9,7 +9,7 @@ use denote.Ref.{now}
 use Rattle.protocol.specs.CartSets.{has}
 use Rattle.messages.specs.View.{roomsIn}
 use Rattle.view.specs.Records.{isIn}
-use Rattle.formlines.proofs.CodeLaws.{slot-below, first-fails, first-holds}
+use Rattle.formlines.proofs.CodeLaws.{slot-room, first-fails, first-holds}
 use Rattle.formlines.proofs.delete_right.Statement.{statement}
 use Rattle.formlines.proofs.delete_right.Tie as tie
 
@@ -20,16 +20,16 @@ returns : tie.Need-returns
 returns c = first-fails (ltb (c .before .before .before .args .m) 32 && isIn (roomsIn (now (c .before .before .before .args .messages))) (c .before .before .before .args .i) (c .before .before .before .args .number) (c .before .before .before .args .m)) (has ((roomsIn (now (c .before .before .before .args .messages))) .waiting (c .before .before .before .args .m)) (c .before .before .before .args .j) && eqb ((roomsIn (now (c .before .before .before .args .messages))) .acked (c .before .before .before .args .m)) ((roomsIn (now (c .before .before .before .args .messages))) .named (c .before .before .before .args .m))) (c .before .in-room .result) (c .before .in-room .ensures) (c .if1 .taken)
 
 waiting-of-requires : tie.Need-waiting-of-requires
-waiting-of-requires c κs = omega (arith, slot-below (roomsIn (now (c .before .before .before .args .messages))) (c .before .before .before .args .i) (c .before .before .before .args .number) (c .before .before .before .args .m) (c .before .in-room .result) (c .before .in-room .ensures) (c .if1 .left))
+waiting-of-requires c κs = slot-room (now (c .before .before .before .args .messages)) (c .before .before .before .pre .0) (c .before .before .before .args .m) (c .before .before .before .args .i) (c .before .before .before .args .number) (c .before .in-room .result) (c .before .in-room .ensures) (c .if1 .left)
 
 has-requires : tie.Need-has-requires
 has-requires c κs = search needs
 
 acked-of-requires : tie.Need-acked-of-requires
-acked-of-requires c κs = omega (arith, slot-below (roomsIn (now (c .before .before .before .before .before .args .messages))) (c .before .before .before .before .before .args .i) (c .before .before .before .before .before .args .number) (c .before .before .before .before .before .args .m) (c .before .before .before .in-room .result) (c .before .before .before .in-room .ensures) (c .before .before .if1 .left))
+acked-of-requires c κs = slot-room (now (c .before .before .before .before .before .args .messages)) (c .before .before .before .before .before .pre .0) (c .before .before .before .before .before .args .m) (c .before .before .before .before .before .args .i) (c .before .before .before .before .before .args .number) (c .before .before .before .in-room .result) (c .before .before .before .in-room .ensures) (c .before .before .if1 .left)
 
 named-of-requires : tie.Need-named-of-requires
-named-of-requires c κs = omega (arith, slot-below (roomsIn (now (c .before .before .before .before .before .before .args .messages))) (c .before .before .before .before .before .before .args .i) (c .before .before .before .before .before .before .args .number) (c .before .before .before .before .before .before .args .m) (c .before .before .before .before .in-room .result) (c .before .before .before .before .in-room .ensures) (c .before .before .before .if1 .left))
+named-of-requires c κs = slot-room (now (c .before .before .before .before .before .before .args .messages)) (c .before .before .before .before .before .before .pre .0) (c .before .before .before .before .before .before .args .m) (c .before .before .before .before .before .before .args .i) (c .before .before .before .before .before .before .args .number) (c .before .before .before .before .in-room .result) (c .before .before .before .before .in-room .ensures) (c .before .before .before .if1 .left)
 
 both-requires : tie.Need-both-requires
 both-requires c κs = search needs

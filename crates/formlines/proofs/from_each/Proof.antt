@@ -15,7 +15,7 @@ use Rattle.formlines.proofs.from_each.Statement.{statement}
 use Rattle.formlines.proofs.from_each.Tie as tie
 
 abbrev Inv-loop : tie.InvT-loop
-Inv-loop masks₀ seen₀ stations messages carts lines n k met₀ i₀ masks seen met i =
+Inv-loop masks₀ seen₀ stations messages carts lines rows n k met₀ i₀ masks seen met i =
     (i ≤ 16)
     × (length masks ≡ 32)
     × (length seen ≡ 49)
@@ -23,7 +23,7 @@ Inv-loop masks₀ seen₀ stations messages carts lines n k met₀ i₀ masks se
     × (metOf met masks ≡ fromEach n k (cartsIn carts) (roomsIn messages) (stationsIn stations) lines (metOf met₀ masks₀) i)
 
 abbrev μ-loop : tie.MeasureT-loop
-μ-loop masks₀ seen₀ stations messages carts lines n k met₀ i₀ masks seen met i = 16 - i
+μ-loop masks₀ seen₀ stations messages carts lines rows n k met₀ i₀ masks seen met i = 16 - i
 
 loop-holds : tie.Need-loop-holds Inv-loop μ-loop
 loop-holds c =

@@ -15,7 +15,7 @@ use Rattle.formlines.proofs.from_station.Statement.{statement}
 use Rattle.formlines.proofs.from_station.Tie as tie
 
 abbrev Inv-loop : tie.InvT-loop
-Inv-loop masks₀ seen₀ stations messages carts lines n k i met₀ j₀ masks seen met j =
+Inv-loop masks₀ seen₀ stations messages carts lines rows n k i met₀ j₀ masks seen met j =
     (j ≤ 16)
     × (length masks ≡ 32)
     × (length seen ≡ 49)
@@ -23,7 +23,7 @@ Inv-loop masks₀ seen₀ stations messages carts lines n k i met₀ j₀ masks 
     × (metOf met masks ≡ fromStation n k (cartsIn carts) (roomsIn messages) (stationsIn stations) lines (metOf met₀ masks₀) i j)
 
 abbrev μ-loop : tie.MeasureT-loop
-μ-loop masks₀ seen₀ stations messages carts lines n k i met₀ j₀ masks seen met j = 16 - j
+μ-loop masks₀ seen₀ stations messages carts lines rows n k i met₀ j₀ masks seen met j = 16 - j
 
 loop-holds : tie.Need-loop-holds Inv-loop μ-loop
 loop-holds c =

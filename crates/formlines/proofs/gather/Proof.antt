@@ -20,12 +20,12 @@ Inv-loop stations messages n m carts₀ apart₀ t₀ carts apart t =
 abbrev μ-loop : tie.MeasureT-loop
 μ-loop stations messages n m carts₀ apart₀ t₀ carts apart t = n - t
 
-acked-of-requires : tie.Need-acked-of-requires Inv-loop μ-loop
-acked-of-requires c κs = omega arith
+acked-by-requires : tie.Need-acked-by-requires Inv-loop μ-loop
+acked-by-requires c κs = let p = c .before .before .pre in (p .1, p .3)
 
 loop-holds : tie.Need-loop-holds Inv-loop μ-loop
 unfolding every gathered
-loop-holds c = (omega arith, c .acked-of .ensures, refl)
+loop-holds c = (omega arith, c .acked-by .ensures, refl)
 
 acks-of-requires : tie.Need-acks-of-requires Inv-loop μ-loop
 acks-of-requires c κs = (omega arith, c .before .before .before .before .before .pre .3)
@@ -58,7 +58,7 @@ gather-spec =
     (tie.spec
     Inv-loop
     μ-loop
-    acked-of-requires
+    acked-by-requires
     loop-holds
     acks-of-requires
     is-disjoint-requires

@@ -9,7 +9,7 @@ use denote.Ref.{now}
 use Rattle.protocol.specs.CartSets.{has}
 use Rattle.messages.specs.View.{roomsIn}
 use Rattle.view.specs.Records.{isIn}
-use Rattle.formlines.proofs.CodeLaws.{slot-below, first-fails, first-holds}
+use Rattle.formlines.proofs.CodeLaws.{slot-room, first-fails, first-holds}
 use Rattle.formlines.proofs.multicast_right.Statement.{statement}
 use Rattle.formlines.proofs.multicast_right.Tie as tie
 
@@ -20,7 +20,7 @@ returns : tie.Need-returns
 returns c = first-fails (ltb (c .before .before .before .args .m) 32 && isIn (roomsIn (now (c .before .before .before .args .messages))) (c .before .before .before .args .i) (c .before .before .before .args .number) (c .before .before .before .args .m)) (has ((roomsIn (now (c .before .before .before .args .messages))) .waiting (c .before .before .before .args .m)) (c .before .before .before .args .j)) (c .before .in-room .result) (c .before .in-room .ensures) (c .if1 .taken)
 
 waiting-of-requires : tie.Need-waiting-of-requires
-waiting-of-requires c κs = omega (arith, slot-below (roomsIn (now (c .before .before .before .args .messages))) (c .before .before .before .args .i) (c .before .before .before .args .number) (c .before .before .before .args .m) (c .before .in-room .result) (c .before .in-room .ensures) (c .if1 .left))
+waiting-of-requires c κs = slot-room (now (c .before .before .before .args .messages)) (c .before .before .before .pre .0) (c .before .before .before .args .m) (c .before .before .before .args .i) (c .before .before .before .args .number) (c .before .in-room .result) (c .before .in-room .ensures) (c .if1 .left)
 
 has-requires : tie.Need-has-requires
 has-requires c κs = search needs

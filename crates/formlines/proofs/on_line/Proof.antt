@@ -8,11 +8,11 @@ use Rattle.formlines.proofs.PassLaws.{lined}
 use Rattle.formlines.proofs.on_line.Statement.{statement}
 use Rattle.formlines.proofs.on_line.Tie as tie
 
-expected-of-requires : tie.Need-expected-of-requires
-expected-of-requires c κs = search needs
+expected-by-requires : tie.Need-expected-by-requires
+expected-by-requires c κs = search needs
 
-sent-of-requires : tie.Need-sent-of-requires
-sent-of-requires c κs = search needs
+sent-by-requires : tie.Need-sent-by-requires
+sent-by-requires c κs = search needs
 
 along-requires : tie.Need-along-requires
 along-requires c κs = search needs
@@ -32,8 +32,8 @@ same-length-2 c = search needs
 returns : tie.Need-returns
 returns c =
     let s = c .before .before .before .before .before .before .before .before .before .before .before .before .before .before .before .before .before .before .before in
-    let e = c .before .before .before .before .before .before .before .before .before .before .before .before .expected-of in
-    let t = c .before .before .before .before .before .before .before .before .before .before .before .sent-of in
+    let e = c .before .before .before .before .before .before .before .before .before .before .before .before .expected-by in
+    let t = c .before .before .before .before .before .before .before .before .before .before .before .sent-by in
     let a = c .before .before .before .before .before .before .before .before .along in
     let d = c .before .either in
     let b = c .both in (
@@ -48,8 +48,8 @@ pub on-line-spec : {M : Type 1} → statement M
 on-line-spec =
     tie.close
     (tie.spec
-    expected-of-requires
-    sent-of-requires
+    expected-by-requires
+    sent-by-requires
     along-requires
     either-requires
     both-requires

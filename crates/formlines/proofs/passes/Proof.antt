@@ -1,5 +1,6 @@
 -- `formlines::passes` meets its contract.
 use mathlib.Core.Path.{refl, sym, _∙_}
+use native.Mathlib.Omega.{arith}
 use lib.ListN.{replicate}
 use borrow.Author.Needs.{needs}
 use borrow.Author.Tests.{not-true, not-false}
@@ -18,7 +19,7 @@ slice-aggregate-begin : tie.Need-slice-aggregate-begin
 slice-aggregate-begin c = search needs
 
 begin-requires : tie.Need-begin-requires
-begin-requires c κs = search needs
+begin-requires c κs = let s = c .before .before .before .before .before in (refl, omega (arith, s .pre .0, s .pre .6), s .pre .2, s .pre .4)
 
 slice-aggregate-from-each : tie.Need-slice-aggregate-from-each
 slice-aggregate-from-each c = search needs

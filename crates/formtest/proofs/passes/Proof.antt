@@ -1,50 +1,87 @@
 -- `formtest::passes` meets its contract. Each part refuses what the rule refuses, and the last one decides.
-use borrow.Author.Needs.{needs}
+use mathlib.Core.Path.{_≡_, refl, sym, _∙_}
+use mathlib.Core.List.{List}
+use Prim.Native.Nat.{ℕ}
+use native.Mathlib.Omega.{arith}
 use borrow.Author.Tests.{not-true, not-false}
+use Rattle.protocol.specs.Floor.{Product, limitsOf, mostRecords}
+use Rattle.protocol.specs.Claims.{test}
 use Rattle.view.specs.View.{Lent, lent}
-use Rattle.formtest.proofs.Lengths.{right-lengths}
+use Rattle.view.proofs.Lengths.{Lengths}
+use Rattle.form.specs.Tables.{tablesRule}
+use Rattle.form.proofs.Answers.{passed}
+use Rattle.formtest.specs.Numbers.{Fit, IsOf}
+use Rattle.formtest.proofs.Lengths.{productOf, its-numbers, few-ways, most-is, right-lengths}
 use Rattle.formtest.proofs.Split.{pool-sized, fails-lengths, fails-tables, rests-on-lines}
 use Rattle.formtest.proofs.passes.Statement.{statement}
 use Rattle.formtest.proofs.passes.Tie as tie
 
+-- the tables' part, in the product's own numbers
+as-of : (P : Product) (n k h last : ℕ) (S C M : List ℕ) → IsOf P n k h last
+    → test (tablesRule (limitsOf P) n k h S C M) ≡ test (tablesRule (limitsOf P) (P .stations) (P .carts) (P .held) S C M)
+as-of P n k h last S C M e = λ i. test (tablesRule (limitsOf P) (sym (e .stations-are) i) (sym (e .carts-are) i) (sym (e .held-is) i) S C M)
+
 lengths-ok-requires : tie.Need-lengths-ok-requires
-lengths-ok-requires c κs = search needs
+lengths-ok-requires c κs = c .before .before .before .before .before .pre
 
 returns : tie.Need-returns
 returns c =
     let a = c .before .before .before .before .before .before .before .args in
     let t = c .before .lengths-ok in
-    fails-lengths (a .stations .now) (a .carts .now) (a .messages .now) (a .lines .now) (a .texts .now) (t .result) (t .ensures) (not-true _ (c .if1 .taken))
+    λ P e. fails-lengths P (a .stations .now) (a .carts .now) (a .messages .now) (a .lines .now) (a .texts .now) (t .result) (t .ensures P e) (not-true _ (c .if1 .taken))
 
 tables-pass-requires : tie.Need-tables-pass-requires
 tables-pass-requires c κs =
     let a = c .before .before .before .before .before .before .before .args in
+    let f = c .before .before .before .before .before .before .before .pre in
     let t = c .before .lengths-ok in
-    let L : Lent = lent (a .stations .now) (a .carts .now) (a .messages .now) (a .lines .now) (a .texts .now) in
-    let h = right-lengths L (t .result) (t .ensures) (not-false _ (c .if1 .left)) in
-    record { stations = h .stations; carts = h .carts; messages = h .messages }
+    let P = productOf (a .n) (a .k) (a .held) (a .last) f in
+    let L : Lent = lent P (a .stations .now) (a .carts .now) (a .messages .now) (a .lines .now) (a .texts .now) in
+    let h : Lengths L = right-lengths L (t .result) (t .ensures P (its-numbers (a .n) (a .k) (a .held) (a .last) f)) (not-false _ (c .if1 .left)) in
+    (
+      record { stations = h .stations; carts = h .carts; messages = h .messages; few-stations = f .few-stations; few-carts = f .few-carts; few-rooms = f .few-held },
+      f .low-last,
+    )
 
 returns-2 : tie.Need-returns-2
 returns-2 c =
     let a = c .before .before .before .before .before .before .before .before .before .args in
     let t = c .before .tables-pass in
-    fails-tables (a .stations .now) (a .carts .now) (a .messages .now) (a .lines .now) (a .texts .now) (t .result) (t .ensures) (not-true _ (c .if2 .taken))
+    λ P e. fails-tables P (a .stations .now) (a .carts .now) (a .messages .now) (a .lines .now) (a .texts .now) (t .result)
+    (t .ensures (limitsOf P) (e .last-is) ∙ as-of P (a .n) (a .k) (a .held) (a .last) (a .stations .now) (a .carts .now) (a .messages .now) e) (not-true _ (c .if2 .taken))
 
 lines-pass-requires : tie.Need-lines-pass-requires
 lines-pass-requires c κs =
     let a = c .before .before .before .before .before .before .before .before .before .args in
+    let f = c .before .before .before .before .before .before .before .before .before .pre in
     let t = c .before .before .before .lengths-ok in
-    let L : Lent = lent (a .stations .now) (a .carts .now) (a .messages .now) (a .lines .now) (a .texts .now) in
-    let h = right-lengths L (t .result) (t .ensures) (not-false _ (c .before .before .if1 .left)) in
-    (h .stations, h .carts, h .messages, pool-sized (a .lines .now) (h .lines))
+    let s = c .before .tables-pass in
+    let P = productOf (a .n) (a .k) (a .held) (a .last) f in
+    let L : Lent = lent P (a .stations .now) (a .carts .now) (a .messages .now) (a .lines .now) (a .texts .now) in
+    let h : Lengths L = right-lengths L (t .result) (t .ensures P (its-numbers (a .n) (a .k) (a .held) (a .last) f)) (not-false _ (c .before .before .if1 .left)) in
+    let counts = passed (tablesRule (limitsOf P) (a .n) (a .k) (a .held) (a .stations .now) (a .carts .now) (a .messages .now)) (s .result) (s .ensures (limitsOf P) refl) (not-false _ (c .if2 .left)) .0 in
+    let few = few-ways (a .n) (a .k) (a .held) (a .last) f in
+    let b = f .few-carts in
+    let on = counts .1 .1 .1 in
+    let rows = h .carts in
+    (
+      h .stations,
+      f .few-stations,
+      counts .1 .0 .1,
+      omega arith,
+      omega arith,
+      record { rows = a .held; few = f .few-held; words = h .messages },
+      pool-sized (a .lines .now) (mostRecords (limitsOf P)) (h .lines) (omega arith),
+    )
 
 returns-3 : tie.Need-returns-3
 returns-3 c =
     let a = c .before .before .before .before .before .before .before .before .before .before .args in
     let t = c .before .before .before .before .lengths-ok in
     let s = c .before .before .tables-pass in
-    rests-on-lines (a .stations .now) (a .carts .now) (a .messages .now) (a .lines .now) (a .texts .now) (t .result) (s .result) (c .lines-pass .result)
-    (t .ensures) (not-false _ (c .before .before .before .if1 .left)) (s .ensures) (not-false _ (c .before .if2 .left)) (c .lines-pass .ensures (a .texts .now))
+    λ P e. rests-on-lines P (a .stations .now) (a .carts .now) (a .messages .now) (a .lines .now) (a .texts .now) (t .result) (s .result) (c .lines-pass .result)
+    (t .ensures P e) (not-false _ (c .before .before .before .if1 .left))
+    (s .ensures (limitsOf P) (e .last-is) ∙ as-of P (a .n) (a .k) (a .held) (a .last) (a .stations .now) (a .carts .now) (a .messages .now) e) (not-false _ (c .before .if2 .left)) (c .lines-pass .ensures P (a .texts .now))
 
 pub passes-spec : {M : Type 1} → statement M
 passes-spec =

@@ -22,7 +22,7 @@ dock-unnamed-requires c κs =
     let n = t .before .rooms-naming in
     let s = t .before .before .before .before .before in
     let a = s .args in
-    (s .pre .0, (s .pre .1, naming-covers (a .stations .now) (a .station .0) (a .cart .0) 0 (sym (t .if1 .taken) ∙ n .ensures)))
+    (s .pre .0, (s .pre .1 .0, naming-covers (a .stations .now) (a .station .0) (a .cart .0) _ (s .pre .1 .1) 0 (sym (t .if1 .taken) ∙ n .ensures)))
 
 same-length : tie.Need-same-length
 same-length c = search needs
@@ -35,7 +35,7 @@ strike-requires : tie.Need-strike-requires
 strike-requires c κs =
     let n = c .before .before in
     let a = n .before .before .before .before .args in
-    (naming-covers (a .stations .now) (a .station .0) (a .cart .0) (n .rooms-naming .result) (n .rooms-naming .ensures), search needs)
+    (naming-covers (a .stations .now) (a .station .0) (a .cart .0) _ (n .before .before .before .before .pre .1 .1) (n .rooms-naming .result) (n .rooms-naming .ensures), search needs)
 
 stops-of-requires : tie.Need-stops-of-requires
 stops-of-requires c κs = search needs
@@ -48,7 +48,7 @@ join-requires c κs =
     let a = b .args in
     let S = k .strike .last .0 in
     let s = o .stops-of in (
-      own-rooms (tablesFloor S (a .messages .now)) (a .station .0) (a .cart .0) (a .row) (s .result .nearest) (s .ensures .0) (roomsIn (a .messages .now)) (stationsIn S) (k .strike .result) refl refl (k .strike .ensures .1 .1 .1),
+      own-rooms (tablesFloor S (a .messages .now)) (a .station .0) (a .cart .0) (a .row) (s .result .nearest) (s .ensures .0) _ (roomsIn (a .messages .now)) (stationsIn S) (k .strike .result) refl refl (k .strike .ensures .1 .1 .1),
       (omega (arith, b .pre .0 .0, k .strike .ensures .1 .1 .0), b .pre .0 .1, b .pre .0 .3),
     )
 
@@ -59,7 +59,7 @@ passed-over-requires c κs =
     let b = k .before .before .before .before .before .before .before in
     let a = b .args in
     let s = o .stops-of in
-    let few = few-still (stationsIn (a .stations .now)) (roomsIn (a .messages .now)) (a .station .0) (a .cart .0) (a .row) (k .strike .ensures .0) (b .pre .1) in
+    let few = few-still (stationsIn (a .stations .now)) (roomsIn (a .messages .now)) (a .station .0) (a .cart .0) (a .row) (k .strike .ensures .0) (b .pre .1 .0) in
     rises-little (tablesFloor (k .strike .last .0) (a .messages .now)) (a .station .0) (a .cart .0) (a .row) (s .result .nearest) (s .ensures .0) (s .result .upto) (s .ensures .1) few
 
 same-length-2 : tie.Need-same-length-2

@@ -37,7 +37,7 @@ join-requires c κs =
     let s = l .before .before .before .before in
     let a = s .args in
     let S = a .stations .now in (
-      own-rooms (tablesFloor S (a .messages .now)) (a .station .0) (a .cart .0) (a .row) none (known l .rooms) (roomsIn (a .messages .now)) (stationsIn S) 0 refl refl (s .pre .1 .1),
+      own-rooms (tablesFloor S (a .messages .now)) (a .station .0) (a .cart .0) (a .row) none (known l .rooms) _ (roomsIn (a .messages .now)) (stationsIn S) 0 refl refl (s .pre .1 .1),
       search needs,
     )
 

@@ -4,6 +4,7 @@ use Prim.Native.Nat.{ℕ, _+_}
 use native.Mathlib.Omega.{arith}
 use lib.ListN.{length}
 use borrow.Author.Needs.{needs}
+use Rattle.queue.specs.Rooms.{roomCount}
 use Rattle.cartset.proofs.Walk.{Ahead, ahead-start, ahead-turn}
 use Rattle.stations.specs.View.{stationsIn, headIn}
 use Rattle.messages.specs.View.{roomsIn}
@@ -18,11 +19,11 @@ use Rattle.handoff.proofs.strike.Tie as tie
 abbrev Inv-loop : tie.InvT-loop
 Inv-loop stations₀ messages station cart naming row ahead₀ left₀ stations ahead left =
     (k : ℕ)
-    × Ahead 32 naming left k
+    × Ahead (roomCount messages) naming left k
     × (length stations ≡ length stations₀)
     × (headIn stations ≡ headIn stations₀)
     × (stationsIn stations ≡ struckTo (stationsIn stations₀) (roomsIn messages) (station .0) (cart .0) row k)
-    × Covers (stationsIn stations) (station .0) (cart .0) ahead
+    × Covers (roomCount messages) (stationsIn stations) (station .0) (cart .0) ahead
 
 abbrev μ-loop : tie.MeasureT-loop
 μ-loop stations₀ messages station cart naming row ahead₀ left₀ stations ahead left = left
@@ -31,7 +32,7 @@ loop-holds : tie.Need-loop-holds Inv-loop μ-loop
 loop-holds c =
     let a = c .before .before .args in (
       0,
-      ahead-start 32 (a .naming) (omega arith) (c .before .before .pre .0 .inside),
+      ahead-start (roomCount (a .messages .now)) (a .naming) (omega arith) (c .before .before .pre .0 .inside),
       refl,
       refl,
       strike-none (stationsIn (a .stations .now)) (roomsIn (a .messages .now)) (a .station .0) (a .cart .0) (a .t6),
@@ -51,7 +52,7 @@ initiator-for-requires c κs =
     let f = c .before .before .first in
     let w = c .before .without-first in
     let m = f .result in
-    let turn = ahead-turn 32 (a .naming) (l .left) (l .inv .0) m (l .inv .1) (omega arith) (f .ensures) (w .result) (w .ensures m (f .ensures)) in
+    let turn = ahead-turn (roomCount (a .messages .now)) (a .naming) (l .left) (l .inv .0) m (l .inv .1) (omega arith) (f .ensures) (w .result) (w .ensures m (f .ensures)) in
     let i = turn .inside in
     search needs
 
@@ -68,7 +69,7 @@ strike-from-requires c κs =
     let f = c .before .before .before .before .before .first in
     let w = c .before .before .before .before .without-first in
     let m = f .result in
-    let turn = ahead-turn 32 (a .naming) (l .left) (l .inv .0) m (l .inv .1) (omega arith) (f .ensures) (w .result) (w .ensures m (f .ensures)) in
+    let turn = ahead-turn (roomCount (a .messages .now)) (a .naming) (l .left) (l .inv .0) m (l .inv .1) (omega arith) (f .ensures) (w .result) (w .ensures m (f .ensures)) in
     let i = turn .inside in
     let is = by-initiator (stationsIn (l .stations)) (roomsIn (a .messages .now)) (a .station .0) (a .cart .0) m _ (c .before .before .initiator-for .ensures) (c .before .if1 .taken) .0 in
     (search needs, (is, l .inv .5))
@@ -80,7 +81,7 @@ loop-less c =
     let f = c .before .before .before .before .before .before .before .before .first in
     let w = c .before .before .before .before .before .before .before .without-first in
     let m = f .result in
-    let turn = ahead-turn 32 (a .naming) (l .left) (l .inv .0) m (l .inv .1) (omega arith) (f .ensures) (w .result) (w .ensures m (f .ensures)) in
+    let turn = ahead-turn (roomCount (a .messages .now)) (a .naming) (l .left) (l .inv .0) m (l .inv .1) (omega arith) (f .ensures) (w .result) (w .ensures m (f .ensures)) in
     turn .less
 
 loop-again : tie.Need-loop-again Inv-loop μ-loop
@@ -90,7 +91,7 @@ loop-again c =
     let f = c .before .before .before .before .before .before .before .before .first in
     let w = c .before .before .before .before .before .before .before .without-first in
     let m = f .result in
-    let turn = ahead-turn 32 (a .naming) (l .left) (l .inv .0) m (l .inv .1) (omega arith) (f .ensures) (w .result) (w .ensures m (f .ensures)) in
+    let turn = ahead-turn (roomCount (a .messages .now)) (a .naming) (l .left) (l .inv .0) m (l .inv .1) (omega arith) (f .ensures) (w .result) (w .ensures m (f .ensures)) in
     let S = stationsIn (a .stations .now) in
     let R = roomsIn (a .messages .now) in
     let t = a .station .0 in
@@ -112,7 +113,7 @@ loop-less-2 c =
     let f = c .before .before .before .before .first in
     let w = c .before .before .before .without-first in
     let m = f .result in
-    let turn = ahead-turn 32 (a .naming) (l .left) (l .inv .0) m (l .inv .1) (omega arith) (f .ensures) (w .result) (w .ensures m (f .ensures)) in
+    let turn = ahead-turn (roomCount (a .messages .now)) (a .naming) (l .left) (l .inv .0) m (l .inv .1) (omega arith) (f .ensures) (w .result) (w .ensures m (f .ensures)) in
     turn .less
 
 loop-again-2 : tie.Need-loop-again-2 Inv-loop μ-loop
@@ -122,7 +123,7 @@ loop-again-2 c =
     let f = c .before .before .before .before .first in
     let w = c .before .before .before .without-first in
     let m = f .result in
-    let turn = ahead-turn 32 (a .naming) (l .left) (l .inv .0) m (l .inv .1) (omega arith) (f .ensures) (w .result) (w .ensures m (f .ensures)) in
+    let turn = ahead-turn (roomCount (a .messages .now)) (a .naming) (l .left) (l .inv .0) m (l .inv .1) (omega arith) (f .ensures) (w .result) (w .ensures m (f .ensures)) in
     let S = stationsIn (a .stations .now) in
     let R = roomsIn (a .messages .now) in
     let t = a .station .0 in
@@ -138,7 +139,7 @@ returns c =
     let a = c .before .before .before .before .args in
     let l = c .before .loop in
     let none : l .left ≡ 0 = omega arith in
-    let A : Ahead 32 (a .naming) 0 (l .inv .0) = rw none at (l .inv .1) in (
+    let A : Ahead (roomCount (a .messages .now)) (a .naming) 0 (l .inv .0) = rw none at (l .inv .1) in (
       strike-all (stationsIn (a .stations .now)) (roomsIn (a .messages .now)) (a .station .0) (a .cart .0) (a .t6) (a .naming) (c .before .before .before .before .pre .0 .others) (l .inv .0) (l .inv .4) A,
       (l .inv .3, (l .inv .2, l .inv .5)),
     )

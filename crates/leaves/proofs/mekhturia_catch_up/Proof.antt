@@ -4,7 +4,7 @@ use mathlib.Core.List.{List}
 use Prim.Native.Nat.{ℕ}
 use denote.Ref.{now}
 use borrow.Author.Needs.{needs}
-use Rattle.queue.specs.Rooms.{tablesFloor}
+use Rattle.queue.specs.Rooms.{tablesFloor, roomCount}
 use Rattle.catchup.specs.Arrival.{risen}
 use Rattle.catchup.proofs.NamingLaws.{naming-covers}
 use Rattle.catchup.proofs.RowLaws.{rises-little, rise-is}
@@ -22,14 +22,14 @@ stops-of-requires : tie.Need-stops-of-requires
 stops-of-requires c κs =
     let a = c .before .before .before .before .before .args in
     let n = c .rooms-naming in
-    (naming-covers (now (a .stations)) (a .t) (a .c) (n .result) (n .ensures), search needs)
+    (naming-covers (now (a .stations)) (a .t) (a .c) (roomCount (now (a .messages))) (c .before .before .before .before .before .pre .1 .1) (n .result) (n .ensures), search needs)
 
 passed-over-requires : tie.Need-passed-over-requires
 passed-over-requires c κs =
     let a = c .before .before .before .before .before .before .before .args in
     let r = c .before .before .before .row-of in
     let s = c .before .stops-of in
-    rises-little (tablesFloor (now (a .stations)) (now (a .messages))) (a .t) (a .c) (r .result) (s .result .nearest) (s .ensures .0) (s .result .upto) (s .ensures .1) (c .before .before .before .before .before .before .before .pre .1)
+    rises-little (tablesFloor (now (a .stations)) (now (a .messages))) (a .t) (a .c) (r .result) (s .result .nearest) (s .ensures .0) (s .result .upto) (s .ensures .1) (c .before .before .before .before .before .before .before .pre .1 .0)
 
 returns : tie.Need-returns
 returns c =

@@ -2,7 +2,7 @@
 use Prim.Native.Nat.{_<_}
 use native.Mathlib.Omega.{arith}
 use Rattle.carts.specs.View.{cartsIn}
-use Rattle.form.proofs.Walks.{Walked, walk-start, walk-end, walk-below, walk-no, walk-on, walk-less}
+use Rattle.form.proofs.Walks.{Walked, walk-start, walk-end, walk-member, walk-below, walk-no, walk-on, walk-less}
 use Rattle.posting.proofs.SetChecks.{hasEntered, stays-out, came-in}
 use Rattle.posting.proofs.all_entered.Statement.{statement}
 use Rattle.posting.proofs.all_entered.Tie as tie
@@ -26,7 +26,7 @@ is-outside-requires c κs =
     let a = c .before .before .before .before .args in
     let l = c .before .before .loop in
     let P = hasEntered (cartsIn (a .carts .now) .place) in
-    omega (arith, walk-below 64 (a .set) P (l .rest) (c .first .result) (l .inv .1) (omega arith) (omega arith) (c .first .ensures))
+    c .before .before .before .before .pre _ (walk-member 64 (a .set) P (l .rest) (c .first .result) (l .inv .1) (omega arith) (omega arith) (c .first .ensures))
 
 returns : tie.Need-returns Inv-loop μ-loop
 returns c =

@@ -10,16 +10,13 @@ use Rattle.posting.proofs.send.Statement.{statement}
 use Rattle.posting.proofs.send.Tie as tie
 
 free-room-requires : tie.Need-free-room-requires
-free-room-requires c κs =
-    let start = c .before .before .before .before .before .before .before in
-    let a = start .args in
-    rooms-asked (now (a .stations)) (now (a .carts)) (now (a .messages)) (now (a .lines)) (now (a .texts)) (start .pre .0)
+free-room-requires c κs = search needs
 
 send-refusal-requires : tie.Need-send-refusal-requires
 send-refusal-requires c κs =
     let start = c .before .before .before .before .before .before .before .before .before in
     let a = start .args in
-    checks-asked (now (a .stations)) (now (a .carts)) (now (a .messages)) (now (a .lines)) (now (a .texts)) (start .pre .0)
+    checks-asked (start .pre .0 .0) (now (a .stations)) (now (a .carts)) (now (a .messages)) (now (a .lines)) (now (a .texts)) (start .pre .0 .2)
 
 same-length : tie.Need-same-length
 same-length c = search needs
@@ -28,34 +25,34 @@ same-length-2 : tie.Need-same-length-2
 same-length-2 c = search needs
 
 returns : tie.Need-returns
-returns c =
+returns c = λ P e p.
     let start = c .before .before .before .before .before .before .before .before .before .before .before in
     let a = start .args in
     let room = c .before .before .before .free-room in
-    let told = c .before .send-refusal .ensures (now (a .messages)) (now (a .lines)) (now (a .texts)) (now (a .text)) (room .ensures) (start .pre .1) in
-    meets-no (lent (now (a .stations)) (now (a .carts)) (now (a .messages)) (now (a .lines)) (now (a .texts))) (send (a .station .0) (a .set) (now (a .text))) _ (start .pre .0) told (c .if1 .taken)
+    let told = c .before .send-refusal .ensures P (now (a .messages)) (now (a .lines)) (now (a .texts)) (now (a .text)) e (rooms-asked P (now (a .stations)) (now (a .carts)) (now (a .messages)) (now (a .lines)) (now (a .texts)) p) (room .ensures) (start .pre .1) in
+    meets-no (lent P (now (a .stations)) (now (a .carts)) (now (a .messages)) (now (a .lines)) (now (a .texts))) (send (a .station .0) (a .set) (now (a .text))) _ p told (c .if1 .taken)
 
 station-count-requires : tie.Need-station-count-requires
 station-count-requires c κs =
     let start = c .before .before .before .before .before .before .before .before .before .before .before .before in
     let a = start .args in
-    omega (arith, checks-asked (now (a .stations)) (now (a .carts)) (now (a .messages)) (now (a .lines)) (now (a .texts)) (start .pre .0) .0)
+    omega (arith, checks-asked (start .pre .0 .0) (now (a .stations)) (now (a .carts)) (now (a .messages)) (now (a .lines)) (now (a .texts)) (start .pre .0 .2) .0)
 
 sent-of-requires : tie.Need-sent-of-requires
 sent-of-requires c κs =
     let start = c .before .before .before .before .before .before .before .before .before .before .before .before .before .before in
     let a = start .args in
     let room = c .before .before .before .before .before .before .free-room in
-    let told = c .before .before .before .before .send-refusal .ensures (now (a .messages)) (now (a .lines)) (now (a .texts)) (now (a .text)) (room .ensures) (start .pre .1) in
-    has-station (now (a .stations)) (now (a .carts)) (now (a .messages)) (now (a .lines)) (now (a .texts)) (start .pre .0) (a .station .0) (a .set) (room .result) (now (a .text)) (room .ensures) _ told (c .before .before .before .if1 .left)
+    let told = c .before .before .before .before .send-refusal .ensures (start .pre .0 .0) (now (a .messages)) (now (a .lines)) (now (a .texts)) (now (a .text)) (start .pre .0 .1) (rooms-asked (start .pre .0 .0) (now (a .stations)) (now (a .carts)) (now (a .messages)) (now (a .lines)) (now (a .texts)) (start .pre .0 .2)) (room .ensures) (start .pre .1) in
+    has-station (start .pre .0 .0) (now (a .stations)) (now (a .carts)) (now (a .messages)) (now (a .lines)) (now (a .texts)) (start .pre .0 .2) (a .station .0) (a .set) (room .result) (now (a .text)) (room .ensures) _ told (c .before .before .before .if1 .left)
 
 on-send-requires : tie.Need-on-send-requires
 on-send-requires c κs =
     let start = c .before .before .before .before .before .before .before .before .before .before .before .before .before .before .before .before .before .before .before in
     let a = start .args in
     let room = c .before .before .before .before .before .before .before .before .before .before .before .free-room in
-    let told = c .before .before .before .before .before .before .before .before .before .send-refusal .ensures (now (a .messages)) (now (a .lines)) (now (a .texts)) (now (a .text)) (room .ensures) (start .pre .1) in
-    send-asks (now (a .stations)) (now (a .carts)) (now (a .messages)) (now (a .lines)) (now (a .texts)) (start .pre .0) (a .station .0) (a .set) (room .result) (now (a .text)) (room .ensures) _ told (c .before .before .before .before .before .before .before .before .if1 .left) _ _ (c .before .before .before .before .before .before .station-count .ensures) (c .before .before .before .before .sent-of .ensures)
+    let told = c .before .before .before .before .before .before .before .before .before .send-refusal .ensures (start .pre .0 .0) (now (a .messages)) (now (a .lines)) (now (a .texts)) (now (a .text)) (start .pre .0 .1) (rooms-asked (start .pre .0 .0) (now (a .stations)) (now (a .carts)) (now (a .messages)) (now (a .lines)) (now (a .texts)) (start .pre .0 .2)) (room .ensures) (start .pre .1) in
+    send-asks (start .pre .0 .0) (now (a .stations)) (now (a .carts)) (now (a .messages)) (now (a .lines)) (now (a .texts)) (start .pre .0 .2) (a .station .0) (a .set) (room .result) (now (a .text)) (room .ensures) _ told (c .before .before .before .before .before .before .before .before .if1 .left) _ _ (c .before .before .before .before .before .before .station-count .ensures) (c .before .before .before .before .sent-of .ensures)
 
 same-length-3 : tie.Need-same-length-3
 same-length-3 c = search needs
@@ -70,12 +67,12 @@ same-length-6 : tie.Need-same-length-6
 same-length-6 c = search needs
 
 returns-2 : tie.Need-returns-2
-returns-2 c =
+returns-2 c = λ P e p.
     let start = c .before .before .before .before .before .before .before .before .before .before .before .before .before .before .before .before .before .before .before .before .before .before .before .before .before .before .before .before in
     let a = start .args in
     let room = c .before .before .before .before .before .before .before .before .before .before .before .before .before .before .before .before .before .before .before .before .free-room in
-    let told = c .before .before .before .before .before .before .before .before .before .before .before .before .before .before .before .before .before .before .send-refusal .ensures (now (a .messages)) (now (a .lines)) (now (a .texts)) (now (a .text)) (room .ensures) (start .pre .1) in
-    meets-send (now (a .stations)) (now (a .carts)) (now (a .messages)) (now (a .lines)) (now (a .texts)) (start .pre .0) (a .station .0) (a .set) (room .result) (now (a .text)) (room .ensures) _ told (c .before .before .before .before .before .before .before .before .before .before .before .before .before .before .before .before .before .if1 .left) _ _ (c .before .before .before .before .before .before .before .before .before .before .before .before .before .before .before .station-count .ensures) (c .before .before .before .before .before .before .before .before .before .before .before .before .before .sent-of .ensures) _ _ _ _ (c .before .before .before .before .before .before .before .before .on-send .ensures)
+    let told = c .before .before .before .before .before .before .before .before .before .before .before .before .before .before .before .before .before .before .send-refusal .ensures P (now (a .messages)) (now (a .lines)) (now (a .texts)) (now (a .text)) e (rooms-asked P (now (a .stations)) (now (a .carts)) (now (a .messages)) (now (a .lines)) (now (a .texts)) p) (room .ensures) (start .pre .1) in
+    meets-send P (now (a .stations)) (now (a .carts)) (now (a .messages)) (now (a .lines)) (now (a .texts)) p (a .station .0) (a .set) (room .result) (now (a .text)) (room .ensures) _ told (c .before .before .before .before .before .before .before .before .before .before .before .before .before .before .before .before .before .if1 .left) _ _ (c .before .before .before .before .before .before .before .before .before .before .before .before .before .before .before .station-count .ensures) (c .before .before .before .before .before .before .before .before .before .before .before .before .before .sent-of .ensures) _ _ _ _ (c .before .before .before .before .before .before .before .before .on-send .ensures)
 
 pub send-spec : {M : Type 1} → statement M
 send-spec =

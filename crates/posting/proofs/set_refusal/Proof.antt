@@ -1,7 +1,9 @@
 -- `posting::set_refusal` meets its contract.
 use native.Mathlib.Omega.{arith}
 use denote.Ref.{now}
-use Rattle.posting.proofs.SetChecks.{set-stranger, set-empty, set-outside, set-passes, all-of}
+use Rattle.protocol.proofs.SetLaws.{member-below}
+use Rattle.stations.specs.View.{headIn}
+use Rattle.posting.proofs.SetChecks.{set-stranger, set-empty, set-outside, set-passes, all-of, within-all}
 use borrow.Author.Needs.{needs}
 use Rattle.posting.proofs.set_refusal.Statement.{statement}
 use Rattle.posting.proofs.set_refusal.Tie as tie
@@ -15,25 +17,30 @@ all-below-requires c κs = search needs
 returns : tie.Need-returns
 returns c =
     let a = c .before .before .before .before .before .args in
-    λ M W T. set-stranger (now (a .stations)) (now (a .carts)) (a .set) (c .before .all-below .result) M W T (all-of _ _ _ (c .before .all-below .ensures) (c .before .before .cart-count .ensures)) (c .if1 .taken)
+    λ P M W T. set-stranger (now (a .stations)) (now (a .carts)) (a .set) (c .before .all-below .result) P M W T (all-of _ _ _ (c .before .all-below .ensures) (c .before .before .cart-count .ensures)) (c .if1 .taken)
 
 returns-2 : tie.Need-returns-2
 returns-2 c =
     let a = c .before .before .before .before .before .before .args in
-    λ M W T. set-empty (now (a .stations)) (now (a .carts)) (a .set) (c .before .before .all-below .result) M W T (all-of _ _ _ (c .before .before .all-below .ensures) (c .before .before .before .cart-count .ensures)) (omega (arith, c .before .if1 .left)) (c .if2 .taken)
+    λ P M W T. set-empty (now (a .stations)) (now (a .carts)) (a .set) (c .before .before .all-below .result) P M W T (all-of _ _ _ (c .before .before .all-below .ensures) (c .before .before .before .cart-count .ensures)) (omega (arith, c .before .if1 .left)) (c .if2 .taken)
 
 all-entered-requires : tie.Need-all-entered-requires
-all-entered-requires c κs = search needs
+all-entered-requires c κs =
+    let s = c .before .before .before .before .before .before in
+    let n = headIn (now (s .args .stations)) .carts in
+    let all = all-of _ _ _ (c .before .before .all-below .ensures) (c .before .before .before .cart-count .ensures) in
+    let low = within-all n (s .args .set) _ all (omega (arith, c .before .if1 .left)) in
+    λ d h. let b = member-below n (s .args .set) d low h in let r = s .pre .1 in omega arith
 
 returns-3 : tie.Need-returns-3
 returns-3 c =
     let a = c .before .before .before .before .before .before .before .before .args in
-    λ M W T. set-passes (now (a .stations)) (now (a .carts)) (a .set) (c .before .before .before .before .all-below .result) M W T (all-of _ _ _ (c .before .before .before .before .all-below .ensures) (c .before .before .before .before .before .cart-count .ensures)) (omega (arith, c .before .before .before .if1 .left)) (c .before .before .before .before .before .before .before .before .pre .2) (c .before .before .if2 .left) (c .before .all-entered .result) (c .before .all-entered .ensures) (c .if3 .taken)
+    λ P M W T. set-passes (now (a .stations)) (now (a .carts)) (a .set) (c .before .before .before .before .all-below .result) P M W T (all-of _ _ _ (c .before .before .before .before .all-below .ensures) (c .before .before .before .before .before .cart-count .ensures)) (omega (arith, c .before .before .before .if1 .left)) (c .before .before .before .before .before .before .before .before .pre .2) (c .before .before .if2 .left) (c .before .all-entered .result) (c .before .all-entered .ensures) (c .if3 .taken)
 
 returns-4 : tie.Need-returns-4
 returns-4 c =
     let a = c .before .before .before .before .before .before .before .before .args in
-    λ M W T. set-outside (now (a .stations)) (now (a .carts)) (a .set) (c .before .before .before .before .all-below .result) M W T (all-of _ _ _ (c .before .before .before .before .all-below .ensures) (c .before .before .before .before .before .cart-count .ensures)) (omega (arith, c .before .before .before .if1 .left)) (c .before .before .before .before .before .before .before .before .pre .2) (c .before .before .if2 .left) (c .before .all-entered .result) (c .before .all-entered .ensures) (c .if3 .left)
+    λ P M W T. set-outside (now (a .stations)) (now (a .carts)) (a .set) (c .before .before .before .before .all-below .result) P M W T (all-of _ _ _ (c .before .before .before .before .all-below .ensures) (c .before .before .before .before .before .cart-count .ensures)) (omega (arith, c .before .before .before .if1 .left)) (c .before .before .before .before .before .before .before .before .pre .2) (c .before .before .if2 .left) (c .before .all-entered .result) (c .before .all-entered .ensures) (c .if3 .left)
 
 pub set-refusal-spec : {M : Type 1} → statement M
 set-refusal-spec =

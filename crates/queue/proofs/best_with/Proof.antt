@@ -20,7 +20,7 @@ key-of-requires c κs =
     let a = c .before .before .before .before .args in
     let q = c .before .queue-of in
     let p = c .before .before .before .before .pre in
-    (omega arith, p .3 (a .m) (p .2) (λ z. c .if1 .left (q .ensures ∙ z)))
+    (p .1 (a .m) (p .2) (λ z. c .if1 .left (q .ensures ∙ z)), p .3 (a .m) (p .2) (λ z. c .if1 .left (q .ensures ∙ z)))
 
 first-of-requires : tie.Need-first-of-requires
 first-of-requires c κs = search needs

@@ -25,19 +25,19 @@ has-requires c κs = search needs
 
 -- src/lib.rt:75:9
 returns-2 : tie.Need-returns-2
-returns-2 c = let a = c .before .before .before .before .before .before .args in head-lacks (now (a .stations)) (now (a .messages)) (a .station .0) (a .cart .0) (a .buffer) (a .head) (omega (arith, c .before .before .before .before .before .before .pre, c .before .before .before .if1 .left)) _ (c .before .before .queue-of .ensures) _ (c .before .has .ensures) (c .if2 .taken)
+returns-2 c = let a = c .before .before .before .before .before .before .args in head-lacks (now (a .stations)) (now (a .messages)) (a .station .0) (a .cart .0) (a .buffer) (a .head) (omega (arith, c .before .before .before .before .before .before .pre .3, c .before .before .before .if1 .left)) _ (c .before .before .queue-of .ensures) _ (c .before .has .ensures) (c .if2 .taken)
 
 -- src/lib.rt:77:17
 length-of-requires : tie.Need-length-of-requires
-length-of-requires c κs = search needs
+length-of-requires c κs = let p = c .before .before .before .before .before .before .pre in p .1 (omega (arith, p .3, c .before .before .before .if1 .left))
 
 -- src/lib.rt:59:1
 returns-3 : tie.Need-returns-3
-returns-3 c = let a = c .before .before .before .before .before .before .before .before .args in too-short (now (a .stations)) (now (a .messages)) (a .station .0) (a .cart .0) (a .buffer) (a .head) (omega (arith, c .before .before .before .before .before .before .before .before .pre, c .before .before .before .before .before .if1 .left)) _ (c .before .before .before .before .queue-of .ensures) _ (c .before .before .before .has .ensures) (c .before .before .if2 .left) (omega (arith, c .before .length-of .ensures, c .if3 .taken))
+returns-3 c = let a = c .before .before .before .before .before .before .before .before .args in too-short (now (a .stations)) (now (a .messages)) (a .station .0) (a .cart .0) (a .buffer) (a .head) (omega (arith, c .before .before .before .before .before .before .before .before .pre .3, c .before .before .before .before .before .if1 .left)) _ (c .before .before .before .before .queue-of .ensures) _ (c .before .before .before .has .ensures) (c .before .before .if2 .left) (omega (arith, c .before .length-of .ensures, c .if3 .taken))
 
 -- src/lib.rt:59:1
 returns-4 : tie.Need-returns-4
-returns-4 c = let a = c .before .before .before .before .before .before .before .before .args in is-served (now (a .stations)) (now (a .messages)) (a .station .0) (a .cart .0) (a .buffer) (a .head) (omega (arith, c .before .before .before .before .before .before .before .before .pre, c .before .before .before .before .before .if1 .left)) _ (c .before .before .before .before .queue-of .ensures) _ (c .before .before .before .has .ensures) (c .before .before .if2 .left) (omega (arith, c .before .length-of .ensures, c .if3 .left))
+returns-4 c = let a = c .before .before .before .before .before .before .before .before .args in is-served (now (a .stations)) (now (a .messages)) (a .station .0) (a .cart .0) (a .buffer) (a .head) (omega (arith, c .before .before .before .before .before .before .before .before .pre .3, c .before .before .before .before .before .if1 .left)) _ (c .before .before .before .before .queue-of .ensures) _ (c .before .before .before .has .ensures) (c .before .before .if2 .left) (omega (arith, c .before .length-of .ensures, c .if3 .left))
 
 pub not-served-spec : {M : Type 1} → statement M
 not-served-spec =

@@ -22,7 +22,7 @@ not-here-requires : tie.Need-not-here-requires
 not-here-requires c κs =
     let begin = c .before .before .before .before .before .before .before in
     let a = begin .args in
-    checks-ready (lent (now (a .stations)) (now (a .carts)) (now (a .messages)) (now (a .lines)) (now (a .texts))) (begin .pre)
+    checks-ready (lent (begin .pre .0) (now (a .stations)) (now (a .carts)) (now (a .messages)) (now (a .lines)) (now (a .texts))) (begin .pre .1)
 
 -- src/lib.rt:101:9
 same-length : tie.Need-same-length
@@ -37,9 +37,9 @@ returns : tie.Need-returns
 returns c =
     let begin = c .before .before .before .before .before .before .before .before .before in
     let a = begin .args in (
-      meets-elsewhere (now (a .stations)) (now (a .carts)) (now (a .messages)) (now (a .lines)) (now (a .texts)) (a .station .0) (a .cart .0) (a .buffer) (begin .pre)
+      λ P p. meets-elsewhere P (now (a .stations)) (now (a .carts)) (now (a .messages)) (now (a .lines)) (now (a .texts)) (a .station .0) (a .cart .0) (a .buffer) p
           _ (c .before .not-here .ensures) (c .if1 .taken),
-      omega arith,
+      (omega arith, omega arith),
     )
 
 -- src/lib.rt:103:9
@@ -48,7 +48,7 @@ head-requires c κs =
     let begin = c .before .before .before .before .before .before .before .before .before .before in
     let here = c .before in
     let a = begin .args in
-    head-asks (now (a .stations)) (now (a .carts)) (now (a .messages)) (now (a .lines)) (now (a .texts)) (a .station .0) (a .cart .0) (a .buffer) (begin .pre)
+    head-asks (begin .pre .0) (now (a .stations)) (now (a .carts)) (now (a .messages)) (now (a .lines)) (now (a .texts)) (a .station .0) (a .cart .0) (a .buffer) (begin .pre .1)
     _ (here .before .not-here .ensures) (here .if1 .left)
 
 -- src/lib.rt:104:9
@@ -57,7 +57,7 @@ not-served-requires c κs =
     let begin = c .before .before .before .before .before .before .before .before .before .before .before .before in
     let here = c .before .before .before in
     let a = begin .args in
-    served-asks (now (a .stations)) (now (a .carts)) (now (a .messages)) (now (a .lines)) (now (a .texts)) (a .station .0) (a .cart .0) (a .buffer) (begin .pre)
+    served-asks (begin .pre .0) (now (a .stations)) (now (a .carts)) (now (a .messages)) (now (a .lines)) (now (a .texts)) (a .station .0) (a .cart .0) (a .buffer) (begin .pre .1)
     _ (here .before .not-here .ensures) (here .if1 .left) _ (c .before .head .ensures)
 
 -- src/lib.rt:106:9
@@ -74,9 +74,9 @@ returns-2 c =
     let begin = c .before .before .before .before .before .before .before .before .before .before .before .before .before .before in
     let here = c .before .before .before .before .before in
     let a = begin .args in (
-      meets-unserved (now (a .stations)) (now (a .carts)) (now (a .messages)) (now (a .lines)) (now (a .texts)) (a .station .0) (a .cart .0) (a .buffer) (begin .pre)
+      λ P p. meets-unserved P (now (a .stations)) (now (a .carts)) (now (a .messages)) (now (a .lines)) (now (a .texts)) (a .station .0) (a .cart .0) (a .buffer) p
           _ (here .before .not-here .ensures) (here .if1 .left) _ (c .before .before .before .head .ensures) _ (c .before .not-served .ensures) (c .if2 .taken),
-      omega arith,
+      (omega arith, omega arith),
     )
 
 -- src/lib.rt:108:16
@@ -86,7 +86,7 @@ length-of-requires c κs =
     let here = c .before .before .before .before .before in
     let served = c in
     let a = begin .args in
-    has-room (now (a .stations)) (now (a .carts)) (now (a .messages)) (now (a .lines)) (now (a .texts)) (a .station .0) (a .cart .0) (a .buffer) (begin .pre)
+    has-room (begin .pre .0) (now (a .stations)) (now (a .carts)) (now (a .messages)) (now (a .lines)) (now (a .texts)) (a .station .0) (a .cart .0) (a .buffer) (begin .pre .1)
     _ (here .before .not-here .ensures) (here .if1 .left) _ (served .before .before .before .head .ensures) _ (served .before .not-served .ensures) (served .if2 .left)
 
 -- src/lib.rt:109:9
@@ -96,7 +96,7 @@ initiator-of-requires c κs =
     let here = c .before .before .before .before .before .before in
     let served = c .before in
     let a = begin .args in
-    has-room (now (a .stations)) (now (a .carts)) (now (a .messages)) (now (a .lines)) (now (a .texts)) (a .station .0) (a .cart .0) (a .buffer) (begin .pre)
+    has-room (begin .pre .0) (now (a .stations)) (now (a .carts)) (now (a .messages)) (now (a .lines)) (now (a .texts)) (a .station .0) (a .cart .0) (a .buffer) (begin .pre .1)
     _ (here .before .not-here .ensures) (here .if1 .left) _ (served .before .before .before .head .ensures) _ (served .before .not-served .ensures) (served .if2 .left)
 
 -- src/lib.rt:110:9
@@ -106,7 +106,7 @@ number-of-requires c κs =
     let here = c .before .before .before .before .before .before .before in
     let served = c .before .before in
     let a = begin .args in
-    has-room (now (a .stations)) (now (a .carts)) (now (a .messages)) (now (a .lines)) (now (a .texts)) (a .station .0) (a .cart .0) (a .buffer) (begin .pre)
+    has-room (begin .pre .0) (now (a .stations)) (now (a .carts)) (now (a .messages)) (now (a .lines)) (now (a .texts)) (a .station .0) (a .cart .0) (a .buffer) (begin .pre .1)
     _ (here .before .not-here .ensures) (here .if1 .left) _ (served .before .before .before .head .ensures) _ (served .before .not-served .ensures) (served .if2 .left)
 
 -- src/lib.rt:111:9
@@ -116,7 +116,7 @@ hand-over-requires c κs =
     let here = c .before .before .before .before .before .before .before .before .before .before .before in
     let served = c .before .before .before .before .before .before in
     let a = begin .args in
-    over-asks (now (a .stations)) (now (a .carts)) (now (a .messages)) (now (a .lines)) (now (a .texts)) (a .station .0) (a .cart .0) (a .buffer) (begin .pre)
+    over-asks (begin .pre .0) (now (a .stations)) (now (a .carts)) (now (a .messages)) (now (a .lines)) (now (a .texts)) (a .station .0) (a .cart .0) (a .buffer) (begin .pre .1)
     _ (here .before .not-here .ensures) (here .if1 .left) _ (served .before .before .before .head .ensures) _ (served .before .not-served .ensures) (served .if2 .left)
     _ _ (c .before .before .before .before .initiator-of .ensures) (c .before .before .before .number-of .ensures)
 
@@ -139,10 +139,8 @@ returns-3 c =
     let here = c .before .before .before .before .before .before .before .before .before .before .before .before .before .before .before .before .before .before in
     let served = c .before .before .before .before .before .before .before .before .before .before .before .before .before in
     let a = begin .args in
-    meets-radio (now (a .stations)) (now (a .carts)) (now (a .messages)) (now (a .lines)) (now (a .texts)) (a .station .0) (a .cart .0) (a .buffer) (begin .pre)
-    _ (here .before .not-here .ensures) (here .if1 .left) _ (served .before .before .before .head .ensures) _ (served .before .not-served .ensures) (served .if2 .left)
-    _ _ (c .before .before .before .before .before .before .before .before .before .before .before .initiator-of .ensures) (c .before .before .before .before .before .before .before .before .before .before .number-of .ensures) _ (c .before .before .before .before .before .before .before .before .before .before .before .before .length-of .ensures)
-    _ _ _ _ _ (c .before .before .before .before .before .before .hand-over .ensures)
+    (λ P p. (meets-radio P (now (a .stations)) (now (a .carts)) (now (a .messages)) (now (a .lines)) (now (a .texts)) (a .station .0) (a .cart .0) (a .buffer) p _ (here .before .not-here .ensures) (here .if1 .left) _ (served .before .before .before .head .ensures) _ (served .before .not-served .ensures) (served .if2 .left) _ _ (c .before .before .before .before .before .before .before .before .before .before .before .initiator-of .ensures) (c .before .before .before .before .before .before .before .before .before .before .number-of .ensures) _ (c .before .before .before .before .before .before .before .before .before .before .before .before .length-of .ensures) _ _ _ _ _ (c .before .before .before .before .before .before .hand-over .ensures)) .0,
+    (meets-radio (begin .pre .0) (now (a .stations)) (now (a .carts)) (now (a .messages)) (now (a .lines)) (now (a .texts)) (a .station .0) (a .cart .0) (a .buffer) (begin .pre .1) _ (here .before .not-here .ensures) (here .if1 .left) _ (served .before .before .before .head .ensures) _ (served .before .not-served .ensures) (served .if2 .left) _ _ (c .before .before .before .before .before .before .before .before .before .before .before .initiator-of .ensures) (c .before .before .before .before .before .before .before .before .before .before .number-of .ensures) _ (c .before .before .before .before .before .before .before .before .before .before .before .before .length-of .ensures) _ _ _ _ _ (c .before .before .before .before .before .before .hand-over .ensures)) .1)
 
 pub radio-spec : {M : Type 1} → statement M
 radio-spec =

@@ -3,6 +3,7 @@ use mathlib.Core.Path.{ap}
 use native.Mathlib.Omega.{arith}
 use lib.ListN.{drop}
 use denote.Ref.{now}
+use Rattle.protocol.specs.Floor.{wholeFloor}
 use Rattle.view.specs.View.{lent}
 use Rattle.frames.specs.Decoded.{eventIn, sizeOf}
 use Rattle.running.proofs.Events.{told-plainly, for-event, send-is, short-part}
@@ -101,7 +102,7 @@ same-length-6 : tie.Need-same-length-6
 same-length-6 c = search needs
 
 returns : tie.Need-returns
-returns c = let a = c .before .before .before .before .before .before .before .before .before .before .before .before .before .before .before .before .before .before .before .before .before .before .before .before .before .before .before .before .before .before .args in (for-event (lent (now (a .stations)) (now (a .carts)) (now (a .messages)) (now (a .lines)) (now (a .texts))) _ _ _ (c .plainly .result) _ (ap (eventIn (drop (a .at) (now (a .input)))) (c .before .before .before .before .before .before .before .before .before .before .before .before .before .before .before .before .before .before .before .before .e .given .1)) (told-plainly (lent (now (a .stations)) (now (a .carts)) (now (a .messages)) (now (a .lines)) (now (a .texts))) _ _ _ (c .plainly .result) _ (c .plainly .ensures) (c .before .before .before .before .before .before .before .before .before .start .ensures)), c .before .before .before .before .before .before .before .before .before .before .before .before .before .before .before .before .before .put-index .ensures)
+returns c = let a = c .before .before .before .before .before .before .before .before .before .before .before .before .before .before .before .before .before .before .before .before .before .before .before .before .before .before .before .before .before .before .args in (for-event (lent wholeFloor (now (a .stations)) (now (a .carts)) (now (a .messages)) (now (a .lines)) (now (a .texts))) _ _ _ (c .plainly .result) _ (ap (eventIn (drop (a .at) (now (a .input)))) (c .before .before .before .before .before .before .before .before .before .before .before .before .before .before .before .before .before .before .before .before .e .given .1)) (told-plainly (lent wholeFloor (now (a .stations)) (now (a .carts)) (now (a .messages)) (now (a .lines)) (now (a .texts))) _ _ _ (c .plainly .result) _ (c .plainly .ensures) (c .before .before .before .before .before .before .before .before .before .start .ensures)), c .before .before .before .before .before .before .before .before .before .before .before .before .before .before .before .before .before .put-index .ensures)
 
 same-length-7 : tie.Need-same-length-7
 same-length-7 c = search needs
@@ -122,7 +123,7 @@ same-length-12 : tie.Need-same-length-12
 same-length-12 c = search needs
 
 returns-2 : tie.Need-returns-2
-returns-2 c = let a = c .before .before .before .before .before .before .before .before .before .before .before .before .before .before .before .before .before .before .before .before .before .before .before .before .before .before .before .before .before .args in (for-event (lent (now (a .stations)) (now (a .carts)) (now (a .messages)) (now (a .lines)) (now (a .texts))) _ _ _ (c .before .before .before .before .before .before .before .before .enter .result) _ (ap (eventIn (drop (a .at) (now (a .input)))) (c .before .before .before .before .before .before .before .before .before .before .before .before .before .before .before .before .before .before .before .e2 .given .1)) (c .before .before .before .before .before .before .before .before .enter .ensures), c .before .before .before .before .before .before .before .before .before .before .before .before .before .before .before .before .put-index2 .ensures)
+returns-2 c = let a = c .before .before .before .before .before .before .before .before .before .before .before .before .before .before .before .before .before .before .before .before .before .before .before .before .before .before .before .before .before .args in (for-event (lent wholeFloor (now (a .stations)) (now (a .carts)) (now (a .messages)) (now (a .lines)) (now (a .texts))) _ _ _ (c .before .before .before .before .before .before .before .before .enter .result) _ (ap (eventIn (drop (a .at) (now (a .input)))) (c .before .before .before .before .before .before .before .before .before .before .before .before .before .before .before .before .before .before .before .e2 .given .1)) (c .before .before .before .before .before .before .before .before .enter .ensures), c .before .before .before .before .before .before .before .before .before .before .before .before .before .before .before .before .put-index2 .ensures)
 
 same-length-13 : tie.Need-same-length-13
 same-length-13 c = search needs
@@ -143,7 +144,7 @@ same-length-18 : tie.Need-same-length-18
 same-length-18 c = search needs
 
 returns-3 : tie.Need-returns-3
-returns-3 c = let a = c .before .before .before .before .before .before .before .before .before .before .before .before .before .before .before .before .before .before .before .before .before .before .before .before .before .before .before .before .before .before .before .before .args in (for-event (lent (now (a .stations)) (now (a .carts)) (now (a .messages)) (now (a .lines)) (now (a .texts))) _ _ _ (c .before .before .before .before .before .before .before .before .before .before .send .result) _ (send-is (now (a .input)) (a .at) _ (a .e) _ _ (c .before .before .before .before .before .before .before .before .before .before .before .before .before .before .before .before .before .before .before .before .before .before .e3 .given .1)) (c .before .before .before .before .before .before .before .before .before .before .send .ensures), c .before .before .before .before .before .before .before .before .before .before .before .before .before .before .before .before .before .before .before .put-index3 .ensures)
+returns-3 c = let a = c .before .before .before .before .before .before .before .before .before .before .before .before .before .before .before .before .before .before .before .before .before .before .before .before .before .before .before .before .before .before .before .before .args in (for-event (lent wholeFloor (now (a .stations)) (now (a .carts)) (now (a .messages)) (now (a .lines)) (now (a .texts))) _ _ _ (c .before .before .before .before .before .before .before .before .before .before .send .result) _ (send-is (now (a .input)) (a .at) _ (a .e) _ _ (c .before .before .before .before .before .before .before .before .before .before .before .before .before .before .before .before .before .before .before .before .before .before .e3 .given .1)) (c .before .before .before .before .before .before .before .before .before .before .send .ensures), c .before .before .before .before .before .before .before .before .before .before .before .before .before .before .before .before .before .before .before .put-index3 .ensures)
 
 same-length-19 : tie.Need-same-length-19
 same-length-19 c = search needs
@@ -164,7 +165,7 @@ same-length-24 : tie.Need-same-length-24
 same-length-24 c = search needs
 
 returns-4 : tie.Need-returns-4
-returns-4 c = let a = c .before .before .before .before .before .before .before .before .before .before .before .before .before .before .before .before .before .before .before .before .before .before .before .before .before .before .before .before .before .args in (for-event (lent (now (a .stations)) (now (a .carts)) (now (a .messages)) (now (a .lines)) (now (a .texts))) _ _ _ (c .before .before .before .before .before .before .before .before .wire .result) _ (ap (eventIn (drop (a .at) (now (a .input)))) (c .before .before .before .before .before .before .before .before .before .before .before .before .before .before .before .before .before .before .before .e4 .given .1)) (c .before .before .before .before .before .before .before .before .wire .ensures), c .before .before .before .before .before .before .before .before .before .before .before .before .before .before .before .before .put-index4 .ensures)
+returns-4 c = let a = c .before .before .before .before .before .before .before .before .before .before .before .before .before .before .before .before .before .before .before .before .before .before .before .before .before .before .before .before .before .args in (for-event (lent wholeFloor (now (a .stations)) (now (a .carts)) (now (a .messages)) (now (a .lines)) (now (a .texts))) _ _ _ (c .before .before .before .before .before .before .before .before .wire .result) _ (ap (eventIn (drop (a .at) (now (a .input)))) (c .before .before .before .before .before .before .before .before .before .before .before .before .before .before .before .before .before .before .before .e4 .given .1)) (c .before .before .before .before .before .before .before .before .wire .ensures), c .before .before .before .before .before .before .before .before .before .before .before .before .before .before .before .before .put-index4 .ensures)
 
 same-length-25 : tie.Need-same-length-25
 same-length-25 c = search needs
@@ -185,7 +186,7 @@ same-length-30 : tie.Need-same-length-30
 same-length-30 c = search needs
 
 returns-5 : tie.Need-returns-5
-returns-5 c = let a = c .before .before .before .before .before .before .before .before .before .before .before .before .before .before .before .before .before .before .before .before .before .before .before .before .before .before .before .before .before .args in (for-event (lent (now (a .stations)) (now (a .carts)) (now (a .messages)) (now (a .lines)) (now (a .texts))) _ _ _ (c .before .before .before .before .before .before .before .before .radio .result) _ (ap (eventIn (drop (a .at) (now (a .input)))) (c .before .before .before .before .before .before .before .before .before .before .before .before .before .before .before .before .before .before .before .e5 .given .1)) (c .before .before .before .before .before .before .before .before .radio .ensures), c .before .before .before .before .before .before .before .before .before .before .before .before .before .before .before .before .put-index5 .ensures)
+returns-5 c = let a = c .before .before .before .before .before .before .before .before .before .before .before .before .before .before .before .before .before .before .before .before .before .before .before .before .before .before .before .before .before .args in (for-event (lent wholeFloor (now (a .stations)) (now (a .carts)) (now (a .messages)) (now (a .lines)) (now (a .texts))) _ _ _ (c .before .before .before .before .before .before .before .before .radio .result) _ (ap (eventIn (drop (a .at) (now (a .input)))) (c .before .before .before .before .before .before .before .before .before .before .before .before .before .before .before .before .before .before .before .e5 .given .1)) (c .before .before .before .before .before .before .before .before .radio .ensures), c .before .before .before .before .before .before .before .before .before .before .before .before .before .before .before .before .put-index5 .ensures)
 
 same-length-31 : tie.Need-same-length-31
 same-length-31 c = search needs
@@ -206,7 +207,7 @@ same-length-36 : tie.Need-same-length-36
 same-length-36 c = search needs
 
 returns-6 : tie.Need-returns-6
-returns-6 c = let a = c .before .before .before .before .before .before .before .before .before .before .before .before .before .before .before .before .before .before .before .before .before .before .before .before .before .before .before .before .before .args in (for-event (lent (now (a .stations)) (now (a .carts)) (now (a .messages)) (now (a .lines)) (now (a .texts))) _ _ _ (c .before .before .before .before .before .before .before .before .move-cart .result) _ (ap (eventIn (drop (a .at) (now (a .input)))) (c .before .before .before .before .before .before .before .before .before .before .before .before .before .before .before .before .before .before .before .e6 .given .1)) (c .before .before .before .before .before .before .before .before .move-cart .ensures), c .before .before .before .before .before .before .before .before .before .before .before .before .before .before .before .before .put-index6 .ensures)
+returns-6 c = let a = c .before .before .before .before .before .before .before .before .before .before .before .before .before .before .before .before .before .before .before .before .before .before .before .before .before .before .before .before .before .args in (for-event (lent wholeFloor (now (a .stations)) (now (a .carts)) (now (a .messages)) (now (a .lines)) (now (a .texts))) _ _ _ (c .before .before .before .before .before .before .before .before .move-cart .result) _ (ap (eventIn (drop (a .at) (now (a .input)))) (c .before .before .before .before .before .before .before .before .before .before .before .before .before .before .before .before .before .before .before .e6 .given .1)) (c .before .before .before .before .before .before .before .before .move-cart .ensures), c .before .before .before .before .before .before .before .before .before .before .before .before .before .before .before .before .put-index6 .ensures)
 
 pub happen-spec : {M : Type 1} → statement M
 happen-spec =

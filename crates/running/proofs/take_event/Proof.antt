@@ -3,6 +3,7 @@ use mathlib.Core.Path.{refl, ap}
 use Prim.Native.Nat.{ℕ, _+_}
 use native.Mathlib.Omega.{arith}
 use denote.Ref.{now}
+use Rattle.protocol.specs.Floor.{wholeFloor}
 use Rattle.view.specs.View.{lent}
 use Rattle.report.proofs.Fields.{line-written}
 use Rattle.running.proofs.Events.{goes-on}
@@ -19,7 +20,7 @@ print-requires c κs =
     let s = c .before .before .before .before .before .before .before .before .before .before .before .before .before .before .before .before .before .before .before .before .before .before .before .before .before .before .before .before .before .before in
     let a = s .args in
     let h = c .before .before .before .before .before .before .before .before .before .before .before .before .before .before .before .happen .ensures in
-    (omega (arith, s .pre .1 .0 .2, h .1 .few, h .1 .kept), texts-long _ (goes-on (lent (now (a .stations)) (now (a .carts)) (now (a .messages)) (now (a .lines)) (now (a .texts))) _ _ _ (s .pre .0) (h .0 .1)), s .pre .1 .1 .2, h .0 .0)
+    (omega (arith, s .pre .1 .0 .2, h .1 .few, h .1 .kept), texts-long _ (goes-on (lent wholeFloor (now (a .stations)) (now (a .carts)) (now (a .messages)) (now (a .lines)) (now (a .texts))) _ _ _ (s .pre .0) refl (h .0 .1)), s .pre .1 .1 .2, h .0 .0)
 
 size-of-requires : tie.Need-size-of-requires
 size-of-requires c κs = omega (arith, c .before .before .before .before .before .before .before .before .before .before .before .before .before .before .before .before .before .before .before .before .before .before .before .before .before .before .before .before .before .before .before .before .before .pre .1 .0)
@@ -53,7 +54,7 @@ returns c =
     let s = c .before .before .before .before .before .before .before .before .before .before .before .before .before .before .before .before .before .before .before .before .before .before .before .before .before .before .before .before .before .before .before .before .before .before .before .before in
     let a = s .args in
     let h = c .before .before .before .before .before .before .before .before .before .before .before .before .before .before .before .before .before .before .before .before .before .happen .ensures in
-    took (a .index) (lent (now (a .stations)) (now (a .carts)) (now (a .messages)) (now (a .lines)) (now (a .texts))) _ (now (a .output)) _ (a .p) _ _ _ _ (s .pre .0) (h .0 .1) (line-written (a .index) _ (h .1) (c .before .before .before .before .before .print .ensures))
+    took (a .index) (lent wholeFloor (now (a .stations)) (now (a .carts)) (now (a .messages)) (now (a .lines)) (now (a .texts))) _ (now (a .output)) _ (a .p) _ _ _ _ (s .pre .0) refl (h .0 .1) (line-written (a .index) _ (h .1) (c .before .before .before .before .before .print .ensures))
     (ap (λ (k : ℕ). a .p .read + k) (c .before .before .size-of .ensures)) refl refl
 
 pub take-event-spec : {M : Type 1} → statement M

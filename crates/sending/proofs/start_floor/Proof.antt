@@ -1,7 +1,6 @@
 -- `sending::start_floor` meets its contract.
 use mathlib.Core.Path.{_∙_}
 use borrow.Author.Needs.{needs}
-use Rattle.sending.proofs.StartIs.{pool-sized}
 use Rattle.sending.proofs.start_floor.Statement.{statement}
 use Rattle.sending.proofs.start_floor.Tie as tie
 
@@ -18,7 +17,7 @@ clear-messages-requires : tie.Need-clear-messages-requires
 clear-messages-requires c κs = search needs
 
 clear-requires : tie.Need-clear-requires
-clear-requires c κs = pool-sized (c .before .before .before .before .before .before .before .before .before .before .before .before .before .before .before .before .before .before .before .before .before .args .lines .now) (c .before .before .before .before .before .before .before .before .before .before .before .before .before .before .before .before .before .before .before .before .before .pre .1)
+clear-requires c κs = search needs
 
 same-length : tie.Need-same-length
 same-length c = search needs

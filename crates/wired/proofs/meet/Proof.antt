@@ -45,7 +45,7 @@ without-first-requires c κs = search needs
 next-of-requires : tie.Need-next-of-requires Inv-loop μ-loop
 next-of-requires c κs =
     let hand = at-hand (c .before .before .before .before .before .before .args .local) (c .before .before .before .before .loop .left) (c .before .before .first .result) (c .before .before .before .before .loop .inv .rest) (omega arith) (c .before .before .first .ensures) in
-    let below = hand .below in
+    let row = c .before .before .before .before .before .before .pre .0 _ (hand .member) in
     let size = c .before .before .before .before .loop .inv .raises .length in
     (omega arith, c .before .before .before .before .before .before .pre .1)
 
@@ -68,7 +68,7 @@ add-put-next c =
 put-next-requires : tie.Need-put-next-requires Inv-loop μ-loop
 put-next-requires c κs =
     let hand = at-hand (c .before .before .before .before .before .before .before .before .before .before .before .args .local) (c .before .before .before .before .before .before .before .before .before .loop .left) (c .before .before .before .before .before .before .before .first .result) (c .before .before .before .before .before .before .before .before .before .loop .inv .rest) (omega arith) (c .before .before .before .before .before .before .before .first .ensures) in
-    let below = hand .below in
+    let row = c .before .before .before .before .before .before .before .before .before .before .before .pre .0 _ (hand .member) in
     let size = c .before .before .before .before .before .before .before .before .before .loop .inv .raises .length in
     (omega arith, c .before .before .before .before .before .before .before .before .before .before .before .pre .1)
 

@@ -1,5 +1,8 @@
 -- `wired::on_multicast` meets its contract.
+use mathlib.Core.Path.{sym, ap, _∙_}
+use Prim.Native.Nat.{ℕ}
 use borrow.Author.Needs.{needs}
+use Rattle.protocol.specs.CartSets.{has}
 use Rattle.view.specs.Records.{indexOf, numberOf}
 use Rattle.wired.proofs.Stores.{buffers}
 use Rattle.wired.proofs.on_multicast.Statement.{statement}
@@ -18,7 +21,10 @@ local-of-requires : tie.Need-local-of-requires
 local-of-requires c κs = search needs
 
 meet-requires : tie.Need-meet-requires
-meet-requires c κs = search needs
+meet-requires c κs =
+    let p = c .before .before .before .before .before .before .before .before .before .pre .1 .0 in
+    let e = c .local-of .ensures in
+    ((λ d h. p d (ap (λ (x : ℕ). has x d) (sym e) ∙ h)), search needs, search needs)
 
 minus-requires : tie.Need-minus-requires
 minus-requires c κs = search needs

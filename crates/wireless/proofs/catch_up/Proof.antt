@@ -5,10 +5,10 @@ use Prim.Native.Nat.{ℕ, _-_, _≤_}
 use native.Mathlib.Omega.{arith}
 use Rattle.stations.specs.View.{stationsIn}
 use Rattle.carts.specs.View.{cartsIn, withNext}
-use Rattle.queue.specs.Rooms.{tablesFloor}
+use Rattle.queue.specs.Rooms.{tablesFloor, roomCount}
 use Rattle.catchup.specs.Nearest.{stopBy}
 use Rattle.catchup.specs.Arrival.{isFound, queuedFor}
-use Rattle.wireless.proofs.Parts.{found-is, no-fall, stays, none-queued}
+use Rattle.wireless.proofs.Parts.{naming-below, found-is, found-below, no-fall, stays, none-queued}
 use borrow.Author.Needs.{needs}
 use Rattle.wireless.proofs.catch_up.Statement.{statement}
 use Rattle.wireless.proofs.catch_up.Tie as tie
@@ -46,10 +46,20 @@ returns c =
     }
 
 nearest-of-requires : tie.Need-nearest-of-requires
-nearest-of-requires c κs = search needs
+nearest-of-requires c κs =
+    let s = c .before .before .before .before .before .before .before in
+    let a = s .args in
+    let p = s .pre in
+    ((p .0 .0, p .0 .1, p .0 .2, p .0 .4, p .0 .3), naming-below (a .stations .now) (a .station .0) (a .number .0) (roomCount (a .messages .now)) (p .1))
 
 stop-of-requires : tie.Need-stop-of-requires
-stop-of-requires c κs = search needs
+stop-of-requires c κs =
+    let s = c .before .before .before .before .before .before .before .before .before in
+    let a = s .args in
+    let p = s .pre in
+    let n = c .before .nearest-of in
+    let F = tablesFloor (a .stations .now) (a .messages .now) in
+    (p .0 .0, p .0 .1, p .0 .3, found-below F (a .station .0) (a .number .0) (a .initiator .0) (a .next) (roomCount (a .messages .now)) (n .result) (p .1) (n .ensures))
 
 put-next-requires-2 : tie.Need-put-next-requires-2
 put-next-requires-2 c κs = search needs

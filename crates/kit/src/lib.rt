@@ -1,0 +1,186 @@
+// THE DEMONSTRATION KIT: the six events over a small floor in lent memory, "at most 4 stations, 8 carts and 8 held messages". Every step is the floor's own:
+// only the limits are others.
+use answers::Answer;
+use ids::CartNumber;
+use ids::Station;
+use receiving::Handing;
+ghost use mathlib.Core.Path.{_≡_};
+ghost use mathlib.Core.List.{[]};
+ghost use lib.ListN.{length};
+ghost use Rattle.protocol.specs.Floor.{kit, limitsOf};
+ghost use Rattle.protocol.specs.Events.{start, enter, send, wire, radio, move, bufferAfter};
+ghost use Rattle.protocol.specs.Form.{passesForm};
+ghost use Rattle.protocol.specs.Step.{answer};
+ghost use Rattle.view.specs.View.{lent, floorIn};
+ghost use Rattle.answers.specs.Answers.{answerIn};
+ghost use Rattle.answers.specs.Met.{Met};
+
+// "at most 4 stations, 8 carts and 8 held messages"; the last number is the floor's.
+const STATIONS: u64 = 4;
+
+const CARTS: u64 = 8;
+
+const HELD: usize = 8;
+
+const LAST: u64 = 65534;
+
+// "text 0 to 32 octets".
+const TEXT: usize = 32;
+
+// The lent floor passes the form rule.
+fn passes(stations: &[u64], carts: &[u64], messages: &[u64], lines: &[u64], texts: &[u8]) -> bool
+    ensures { λ r. ⌜ r ≡ passesForm (limitsOf kit) (floorIn (lent kit (now (stations .entry)) (now (carts .entry)) (now (messages .entry)) (now (lines .entry)) (now (texts .entry)))) ⌝ }
+{
+    formtest::passes(
+        stations,
+        carts,
+        messages,
+        lines,
+        texts,
+        STATIONS,
+        CARTS,
+        HELD,
+        LAST,
+    )
+}
+
+// Start, of so many stations and carts: it looks at the lengths of the lent parts, at the mark and at the two numbers, "and it writes all the
+// rest afresh".
+pub fn start(
+    stations: &mut [u64],
+    carts: &mut [u64],
+    messages: &mut [u64],
+    lines: &mut [u64],
+    texts: &[u8],
+    n: u64,
+    k: u64,
+) -> Answer
+    ensures { λ a. ⌜ Met (lent kit (now (stations .entry)) (now (carts .entry)) (now (messages .entry)) (now (lines .entry)) (now (texts .entry))) (lent kit (now (stations .exit)) (now (carts .exit)) (now (messages .exit)) (now (lines .exit)) (now (texts .entry))) (start n k) (answerIn a []) ⌝ }
+{
+    starting::start(
+        stations,
+        carts,
+        messages,
+        lines,
+        texts,
+        n,
+        k,
+        STATIONS,
+        CARTS,
+        HELD,
+        LAST,
+    )
+}
+
+// "Enter (station, cart)".
+pub fn enter(
+    stations: &mut [u64],
+    carts: &mut [u64],
+    messages: &[u64],
+    lines: &[u64],
+    texts: &[u8],
+    station: Station,
+    cart: CartNumber,
+) -> Answer
+    ensures { λ a. ⌜ Met (lent kit (now (stations .entry)) (now (carts .entry)) (now (messages .entry)) (now (lines .entry)) (now (texts .entry))) (lent kit (now (stations .exit)) (now (carts .exit)) (now (messages .entry)) (now (lines .entry)) (now (texts .entry))) (enter (station .0) (cart .0)) (answerIn a []) ⌝ }
+{
+    if !passes(stations, carts, messages, lines, texts) {
+        return Answer::Refused(5);
+    }
+    rolling::enter(stations, carts, messages, lines, texts, station, cart)
+}
+
+// "Send (station, set, text)". A text longer than 32 octets is met before anything of the floor.
+pub fn send(
+    stations: &mut [u64],
+    carts: &[u64],
+    messages: &mut [u64],
+    lines: &mut [u64],
+    texts: &mut [u8],
+    station: Station,
+    set: u64,
+    text: &[u8],
+) -> Answer
+    ensures { λ a. ⌜ Met (lent kit (now (stations .entry)) (now (carts .entry)) (now (messages .entry)) (now (lines .entry)) (now (texts .entry))) (lent kit (now (stations .exit)) (now (carts .entry)) (now (messages .exit)) (now (lines .exit)) (now (texts .exit))) (send (station .0) set (now (text .entry))) (answerIn a []) ⌝ }
+{
+    if TEXT < text.len() {
+        return Answer::Refused(4);
+    }
+    if !passes(stations, carts, messages, lines, texts) {
+        return Answer::Refused(5);
+    }
+    posting::send(
+        stations,
+        carts,
+        messages,
+        lines,
+        texts,
+        station,
+        set,
+        text,
+        LAST,
+    )
+}
+
+// "Wire (from, to)".
+pub fn wire(
+    stations: &mut [u64],
+    carts: &mut [u64],
+    messages: &mut [u64],
+    lines: &mut [u64],
+    texts: &[u8],
+    from: Station,
+    to: Station,
+) -> Answer
+    ensures { λ a. ⌜ Met (lent kit (now (stations .entry)) (now (carts .entry)) (now (messages .entry)) (now (lines .entry)) (now (texts .entry))) (lent kit (now (stations .exit)) (now (carts .exit)) (now (messages .exit)) (now (lines .exit)) (now (texts .entry))) (wire (from .0) (to .0)) (answerIn a []) ⌝ }
+{
+    if !passes(stations, carts, messages, lines, texts) {
+        return Answer::Refused(5);
+    }
+    wiring::wire(stations, carts, messages, lines, texts, from, to)
+}
+
+// "Radio (station, cart)": "writes the text at the front of the lent buffer and leaves the rest"; a refusal "changes no octet of a lent text
+// buffer".
+pub fn radio(
+    stations: &mut [u64],
+    carts: &mut [u64],
+    messages: &[u64],
+    lines: &mut [u64],
+    texts: &[u8],
+    station: Station,
+    cart: CartNumber,
+    buffer: &mut [u8],
+) -> Answer
+    ensures { λ a. ⌜ Met (lent kit (now (stations .entry)) (now (carts .entry)) (now (messages .entry)) (now (lines .entry)) (now (texts .entry))) (lent kit (now (stations .exit)) (now (carts .exit)) (now (messages .entry)) (now (lines .exit)) (now (texts .entry))) (radio (station .0) (cart .0) (length (now (buffer .entry)))) (answerIn a (now (buffer .exit))) ⌝ }
+    ensures { λ a. ⌜ now (buffer .exit) ≡ bufferAfter (answer (limitsOf kit) (floorIn (lent kit (now (stations .entry)) (now (carts .entry)) (now (messages .entry)) (now (lines .entry)) (now (texts .entry)))) (radio (station .0) (cart .0) (length (now (buffer .entry))))) (now (buffer .entry)) ⌝ }
+{
+    if !passes(stations, carts, messages, lines, texts) {
+        return Answer::Refused(5);
+    }
+    let room = buffer.len();
+    let handing = receiving::radio(stations, carts, messages, lines, texts, station, cart, room);
+    let Handing::Over(m, size, initiator, number, p, w) = handing else {
+        return Answer::Refused(receiving::refusal(handing));
+    };
+    messages::copy_text(texts, m, size, buffer);
+    Answer::Received(initiator, number, p, w, size)
+}
+
+// "Move (cart, to)".
+pub fn move_cart(
+    stations: &[u64],
+    carts: &mut [u64],
+    messages: &[u64],
+    lines: &mut [u64],
+    texts: &[u8],
+    cart: CartNumber,
+    to: Station,
+) -> Answer
+    ensures { λ a. ⌜ Met (lent kit (now (stations .entry)) (now (carts .entry)) (now (messages .entry)) (now (lines .entry)) (now (texts .entry))) (lent kit (now (stations .entry)) (now (carts .exit)) (now (messages .entry)) (now (lines .exit)) (now (texts .entry))) (move (cart .0) (to .0)) (answerIn a []) ⌝ }
+{
+    if !passes(stations, carts, messages, lines, texts) {
+        return Answer::Refused(5);
+    }
+    rolling::move_cart(stations, carts, messages, lines, texts, cart, to)
+}
