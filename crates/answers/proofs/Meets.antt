@@ -37,17 +37,18 @@ module _ (L : Lent) (e : Event) where
   unfolding step answer
   meets-refused r q n =
       let differs : eqb (refusal (limitsOf (L .product)) F e) 0 ≡ false = ne-eqb (refusal (limitsOf (L .product)) F e) 0 (λ z. n (sym q ∙ z)) in
-      record { answers = rw differs (ap refused (sym q)); floor = rw differs refl; untouched = λ _ _. refl }
+      record { product = refl; answers = rw differs (ap refused (sym q)); floor = rw differs refl; untouched = λ _ _. refl }
 
   -- the same, of a floor that passes
   pub meets-no : (r : ℕ) → passesForm (limitsOf (L .product)) F ≡ true → r ≡ refusalIf (limitsOf (L .product)) F false e → (r ≡ 0 → ⊥) → Met L L e (refused r)
   meets-no r p q n = meets-refused r (refusal-standing p ∙ sym q) n
 
   -- "everything else is accepted"
-  pub meets-done : (L′ : Lent) (l : Report) → refusal (limitsOf (L .product)) F e ≡ 0 → floorIn L′ ≡ accept (limitsOf (L .product)) F e .floor → l ≡ accept (limitsOf (L .product)) F e .report → Met L L′ e (accepted l)
+  pub meets-done : (L′ : Lent) (l : Report) → L′ .product ≡ L .product → refusal (limitsOf (L .product)) F e ≡ 0 → floorIn L′ ≡ accept (limitsOf (L .product)) F e .floor → l ≡ accept (limitsOf (L .product)) F e .report → Met L L′ e (accepted l)
   unfolding step answer
-  meets-done L′ l q f r =
+  meets-done L′ l same q f r =
       record {
+        product = same;
         answers = rw q (ap accepted r);
         floor = rw q f;
         untouched = λ k z. absurd (let y : _≡_ {A = ℕ} 0 1 = cc z in omega arith);

@@ -1,4 +1,3 @@
 pub mod Broken
-pub mod Floors
 pub mod Radios
 pub mod Run

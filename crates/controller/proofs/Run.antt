@@ -15,7 +15,7 @@ use Rattle.controller.specs.Run.{Call, Calls, leftBy, listsOf, eventsOf,
 pub floor-of-calls : (L : Lent) (ks : List Call) → Calls L ks → floorIn (leftBy L ks) ≡ floorAfter (limitsOf (L .product)) (floorIn L) (eventsOf ks)
 unfolding Calls leftBy floorAfter
 floor-of-calls L [] h = refl
-floor-of-calls L (k ∷ ks) h = floor-of-calls (k .left) ks (h .1 .1) ∙ ap₂ (λ (P : Product) (F : Floor). floorAfter (limitsOf P) F (eventsOf ks)) (h .1 .0) (h .0 .floor)
+floor-of-calls L (k ∷ ks) h = floor-of-calls (k .left) ks (h .1) ∙ ap₂ (λ (P : Product) (F : Floor). floorAfter (limitsOf P) F (eventsOf ks)) (h .0 .product) (h .0 .floor)
 
 -- the answers
 pub answers-of-calls : (L : Lent) (ks : List Call) → Calls L ks → map (λ (k : Call). k .answered) ks ≡ answers (limitsOf (L .product)) (floorIn L) (eventsOf ks)
@@ -23,19 +23,19 @@ unfolding Calls answers
 answers-of-calls L [] h = refl
 answers-of-calls L (k ∷ ks) h =
     ap₂ (λ (a : Answer) (l : List Answer). a ∷ l) (h .0 .answers)
-    (answers-of-calls (k .left) ks (h .1 .1) ∙ ap₂ (λ (P : Product) (F : Floor). answers (limitsOf P) F (eventsOf ks)) (h .1 .0) (h .0 .floor))
+    (answers-of-calls (k .left) ks (h .1) ∙ ap₂ (λ (P : Product) (F : Floor). answers (limitsOf P) F (eventsOf ks)) (h .0 .product) (h .0 .floor))
 
 -- the two lists
 pub lists-of-calls : (L : Lent) (l : Lists) (ks : List Call) → Calls L ks → listsOf l ks ≡ listsAfter (limitsOf (L .product)) (floorIn L) l (eventsOf ks)
 unfolding Calls listsOf listsAfter
 lists-of-calls L l [] h = refl
 lists-of-calls L l (k ∷ ks) h =
-    lists-of-calls (k .left) (listsStep (k .event) (k .answered) l) ks (h .1 .1)
-    ∙ (λ i. listsAfter (limitsOf (h .1 .0 i)) (h .0 .floor i) (listsStep (k .event) (h .0 .answers i) l) (eventsOf ks))
+    lists-of-calls (k .left) (listsStep (k .event) (k .answered) l) ks (h .1)
+    ∙ (λ i. listsAfter (limitsOf (h .0 .product i)) (h .0 .floor i) (listsStep (k .event) (h .0 .answers i) l) (eventsOf ks))
 
--- ALL IN ONE: a start was accepted on whatever was lent (L₀) and left L, lent for the same product, and then every call was handed what the last one left
-pub run-is : (L₀ L : Lent) (n k : ℕ) (l : Report) → L .product ≡ L₀ .product → Met L₀ L (start n k) (accepted l) → (ks : List Call) → Calls L ks → RunIs L k ks
-run-is L₀ L n k l same begun ks calls =
+-- ALL IN ONE: a start was accepted on whatever was lent (L₀) and left L, and then every call was handed what the last one left
+pub run-is : (L₀ L : Lent) (n k : ℕ) (l : Report) → Met L₀ L (start n k) (accepted l) → (ks : List Call) → Calls L ks → RunIs L k ks
+run-is L₀ L n k l begun ks calls =
     record {
       floor = floor-of-calls L ks calls;
       answered = answers-of-calls L ks calls;
@@ -43,5 +43,5 @@ run-is L₀ L n k l same begun ks calls =
           let rule = two-list-rule (limitsOf (L₀ .product)) (floorIn L₀) n k l (sym (begun .answers)) (eventsOf ks) s c lc in
           let there : Product → Floor → Type 0 = λ P F. TwoListRule (owes (limitsOf P) (floorAfter (limitsOf P) F (eventsOf ks)) s c) (listsAfter (limitsOf P) F bothEmpty (eventsOf ks) .sent s c) (listsAfter (limitsOf P) F bothEmpty (eventsOf ks) .received s c) in
           subst (λ (m : Lists). TwoListRule (owes (limitsOf (L .product)) (floorAfter (limitsOf (L .product)) (floorIn L) (eventsOf ks)) s c) (m .sent s c) (m .received s c)) (sym (lists-of-calls L bothEmpty ks calls))
-          (subst (λ (P : Product). there P (floorIn L)) (sym same) (subst (there (L₀ .product)) (sym (begun .floor)) rule));
+          (subst (λ (P : Product). there P (floorIn L)) (sym (begun .product)) (subst (there (L₀ .product)) (sym (begun .floor)) rule));
     }

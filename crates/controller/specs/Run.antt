@@ -15,10 +15,10 @@ pub record Call : Type 0 where
   pub answered : Answer
   pub left : Lent
 
--- every call met its event, the first of them handed L, and left parts that are lent for the same product
+-- every call met its event, the first of them handed L
 unfoldable pub Calls : Lent → List Call → Type 0
 Calls L [] = Unit {0}
-Calls L (k ∷ ks) = Met L (k .left) (k .event) (k .answered) × ((k .left .product ≡ L .product) × Calls (k .left) ks)
+Calls L (k ∷ ks) = Met L (k .left) (k .event) (k .answered) × Calls (k .left) ks
 
 -- the lent parts after all of them
 unfoldable pub leftBy : Lent → List Call → Lent

@@ -16,15 +16,6 @@ ghost use Rattle.view.specs.View.{lent, floorIn};
 ghost use Rattle.answers.specs.Answers.{answerIn};
 ghost use Rattle.answers.specs.Met.{Met};
 
-// "Stations 1 to 16", "Carts 1 to 64", "At most 32 held messages", "last number 65,534".
-const STATIONS: u64 = 16;
-
-const CARTS: u64 = 64;
-
-const HELD: usize = 32;
-
-const LAST: u64 = 65534;
-
 // "text 0 to 32 octets".
 const TEXT: usize = 32;
 
@@ -38,10 +29,7 @@ fn passes(stations: &[u64], carts: &[u64], messages: &[u64], lines: &[u64], text
         messages,
         lines,
         texts,
-        STATIONS,
-        CARTS,
-        HELD,
-        LAST,
+        products::floor_bounds(),
     )
 }
 
@@ -66,10 +54,7 @@ pub fn start(
         texts,
         n,
         k,
-        STATIONS,
-        CARTS,
-        HELD,
-        LAST,
+        products::floor_bounds(),
     )
 }
 
@@ -119,7 +104,7 @@ pub fn send(
         station,
         set,
         text,
-        LAST,
+        products::floor_bounds(),
     )
 }
 

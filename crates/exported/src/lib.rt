@@ -269,7 +269,7 @@ pub extern "C" fn mekhturia_step_send(
         Station(station),
         set,
         text,
-        65534,
+        products::floor_bounds(),
     );
     put_answer_words(out, answer);
 }

@@ -21,9 +21,6 @@ pub record Sized (n k h : ℕ) (S C M : List ℕ) : Type 0 where
   pub stations : length S ≡ 116 + n * 116
   pub carts : length C ≡ k * 19
   pub messages : length M ≡ h * 6
-  pub few-stations : n ≤ 16
-  pub few-carts : k ≤ 64
-  pub few-rooms : h ≤ 32
 
 -- and for the floor's own stations and carts
 pub record OnTables (S C : List ℕ) : Type 0 where

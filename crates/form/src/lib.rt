@@ -3,6 +3,7 @@
 use carts::Place;
 use ids::CartNumber;
 use ids::Station;
+use products::Bounds;
 ghost use mathlib.Core.Path.{_≡_};
 ghost use mathlib.Core.Bool.{true, not};
 ghost use mathlib.Core.List.{[]};
@@ -12,6 +13,7 @@ ghost use Rattle.protocol.specs.Floor.{wholeFloor, Limits, Floor, limits, local
 ghost use Rattle.protocol.specs.CartSets.{has, setOf};
 ghost use Rattle.protocol.specs.Claims.{test, all, is, both, when, lt, le, eq};
 ghost use Rattle.protocol.specs.Form.{stationRule, placeInside, cartRule, entryRule};
+ghost use Rattle.products.specs.Numbers.{Fits};
 ghost use Rattle.stations.specs.View.{rooms, HasHead, HasStation, headIn, stationsIn};
 ghost use Rattle.carts.specs.Words.{HasRow};
 ghost use Rattle.carts.specs.Records.{seen};
@@ -22,9 +24,9 @@ ghost use Rattle.form.specs.Tables.{tables, Sized, OnTables, countsRule,
 ghost use Rattle.form.specs.Parts.{Home, mostOf, heldBefore, Entries, missingAt, Few};
 
 // "An unstarted floor fails it"; it has no more stations and carts than there are rows for.
-fn counts_ok(stations: &[u64], rows: u64, wagons: u64) -> bool
+fn counts_ok(stations: &[u64], bounds: Bounds) -> bool
     requires { ⌜ HasHead (now stations) ⌝ }
-    ensures { λ r. ⌜ r ≡ test (countsRule rows wagons (tables (now (stations .entry)) [] [])) ⌝ }
+    ensures { λ r. ⌜ r ≡ test (countsRule (bounds .stations) (bounds .carts) (tables (now (stations .entry)) [] [])) ⌝ }
 {
     if stations::mark_of(stations) != 1 {
         return false;
@@ -33,14 +35,14 @@ fn counts_ok(stations: &[u64], rows: u64, wagons: u64) -> bool
     if n == 0 {
         return false;
     }
-    if rows < n {
+    if bounds.stations < n {
         return false;
     }
     let k = stations::cart_count(stations);
     if k == 0 {
         return false;
     }
-    if wagons < k {
+    if bounds.carts < k {
         return false;
     }
     true
@@ -682,24 +684,19 @@ fn ends_ok(stations: &[u64], n: u64, held: usize) -> bool
     true
 }
 
-// THE FORM TEST OF THE TABLES: all of the above, of tables with rows for n stations, k carts and so many held messages, and the last number that
-// a message may have. The masks of local carts are tested before the queues, which go by them.
-pub fn tables_pass(
-    stations: &[u64],
-    carts: &[u64],
-    messages: &[u64],
-    n: u64,
-    k: u64,
-    held: usize,
-    last: u64,
-) -> bool
-    requires { ⌜ Sized n k held (now stations) (now carts) (now messages) × (last ≤ 4294967294) ⌝ }
-    ensures { λ r. ⌜ ((N : Limits) → N .last ≡ last → r ≡ test (tablesRule N n k held (now (stations .entry)) (now (carts .entry)) (now (messages .entry)))) ⌝ }
+// THE FORM TEST OF THE TABLES: all of the above, of tables that have their rows. The masks of local carts are tested before the queues, which go
+// by them.
+pub fn tables_pass(stations: &[u64], carts: &[u64], messages: &[u64], bounds: Bounds) -> bool
+    requires { ⌜ Fits bounds × Sized (bounds .stations) (bounds .carts) (bounds .held) (now stations) (now carts) (now messages) ⌝ }
+    ensures { λ r. ⌜ ((N : Limits) → N .last ≡ bounds .last → r ≡ test (tablesRule N (bounds .stations) (bounds .carts) (bounds .held) (now (stations .entry)) (now (carts .entry)) (now (messages .entry)))) ⌝ }
 {
-    if !counts_ok(stations, n, k) {
+    let n = bounds.stations;
+    let k = bounds.carts;
+    let held = bounds.held;
+    if !counts_ok(stations, bounds) {
         return false;
     }
-    if !stations_ok(stations, n, last) {
+    if !stations_ok(stations, n, bounds.last) {
         return false;
     }
     if !places_ok(carts, k) {

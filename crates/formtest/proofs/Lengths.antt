@@ -1,5 +1,5 @@
 -- THE LENGTHS OF THE LENT PARTS as a test that ends at the first failure.
-use mathlib.Core.Path.{_≡_, refl, sym, _∙_}
+use mathlib.Core.Path.{_≡_, sym, _∙_}
 use mathlib.Core.Bool.{Bool, true, false}
 use Prim.Native.Nat.{ℕ, _+_, _*_, _≤_}
 use native.Mathlib.Nat.{mul-le-mul-left}
@@ -11,27 +11,21 @@ use Rattle.protocol.specs.Floor.{Product, limitsOf, mostRecords}
 use Rattle.protocol.proofs.Tests.{by-test, same-test}
 use Rattle.view.specs.View.{Lent, lengthsIn}
 use Rattle.view.proofs.Lengths.{Lengths, lengths-of, lengths-right}
-use Rattle.formtest.specs.Numbers.{Fit, IsOf}
-
--- the numbers are those of a product
-abbrev pub productOf : (n k h last : ℕ) → Fit n k h last → Product
-productOf n k h last f = record { stations = n; carts = k; held = h; last = last; stations-fit = f .few-stations; carts-fit = f .few-carts; held-fit = f .few-held; last-fit = f .low-last }
-
-pub its-numbers : (n k h last : ℕ) (f : Fit n k h last) → IsOf (productOf n k h last f) n k h last
-its-numbers n k h last f = record { stations-are = refl; carts-are = refl; held-is = refl; last-is = refl }
+use Rattle.products.specs.declared.Bounds.{Bounds}
+use Rattle.products.specs.Numbers.{Fits, NumbersOf}
 
 -- the records on the lines are few
-pub few-ways : (n k h last : ℕ) → Fit n k h last → h * (n + n + k) ≤ 3072
-few-ways n k h last f =
-    let a = f .few-stations in
-    let b = f .few-carts in
-    let d = f .few-held in
-    let most : n + n + k ≤ 96 = omega arith in
-    let x = mul-le-mul-left h most in
+pub few-records : (b : Bounds) → Fits b → b .held * (b .stations + b .stations + b .carts) ≤ 3072
+few-records b f =
+    let x = f .few-stations in
+    let y = f .few-carts in
+    let z = f .few-held in
+    let most : b .stations + b .stations + b .carts ≤ 96 = omega arith in
+    let w = mul-le-mul-left (b .held) most in
     omega arith
 
-pub most-is : (P : Product) (n k h last : ℕ) → IsOf P n k h last → mostRecords (limitsOf P) ≡ h * (n + n + k) + k
-most-is P n k h last e = λ i. e .held-is i * (e .stations-are i + e .stations-are i + e .carts-are i) + e .carts-are i
+pub most-is : (P : Product) (b : Bounds) → NumbersOf P b → mostRecords (limitsOf P) ≡ b .held * (b .stations + b .stations + b .carts) + b .carts
+most-is P b e = λ i. e .held-is i * (e .stations-are i + e .stations-are i + e .carts-are i) + e .carts-are i
 
 -- a part has another length
 pub wrong-length : (L : Lent) → (Lengths L → ⊥) → false ≡ lengthsIn L

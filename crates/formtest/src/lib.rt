@@ -1,11 +1,11 @@
 // THE FORM TEST of the lent floor: "The form rule is a written yes-or-no test of the floor alone, the lengths of its lent parts included."
-// Any words, of any number, may be asked about. The limits are the caller's: how many stations, carts and held messages a floor may have, and
-// the last number of a message.
+// Any words, of any number, may be asked about. The limits are the caller's.
+use products::Bounds;
 ghost use mathlib.Core.Path.{_≡_};
 ghost use Rattle.protocol.specs.Floor.{Product, limitsOf};
 ghost use Rattle.protocol.specs.Form.{passesForm};
+ghost use Rattle.products.specs.Numbers.{Fits, NumbersOf};
 ghost use Rattle.view.specs.View.{lent, floorIn, lengthsIn};
-ghost use Rattle.formtest.specs.Numbers.{Fit, IsOf};
 
 // "a lent part of the floor has the wrong length" is no.
 pub fn lengths_ok(
@@ -14,27 +14,26 @@ pub fn lengths_ok(
     messages: &[u64],
     lines: &[u64],
     texts: &[u8],
-    n: u64,
-    k: u64,
-    held: usize,
-    last: u64,
+    bounds: Bounds,
 ) -> bool
-    requires { ⌜ Fit n k held last ⌝ }
-    ensures { λ r. ⌜ ((P : Product) → IsOf P n k held last → r ≡ lengthsIn (lent P (now (stations .entry)) (now (carts .entry)) (now (messages .entry)) (now (lines .entry)) (now (texts .entry)))) ⌝ }
+    requires { ⌜ Fits bounds ⌝ }
+    ensures { λ r. ⌜ ((P : Product) → NumbersOf P bounds → r ≡ lengthsIn (lent P (now (stations .entry)) (now (carts .entry)) (now (messages .entry)) (now (lines .entry)) (now (texts .entry)))) ⌝ }
 {
-    let rows = n as usize;
-    let wagons = k as usize;
-    if stations.len() != 116 + rows * 116 {
+    let n = bounds.stations as usize;
+    let k = bounds.carts as usize;
+    let held = bounds.held;
+    if stations.len() != 116 + n * 116 {
         return false;
     }
-    if carts.len() != wagons * 19 {
+    if carts.len() != k * 19 {
         return false;
     }
     if messages.len() != held * 6 {
         return false;
     }
-    let ways = rows + rows + wagons;
-    let records = held * ways + wagons;
+    // a held message has at most n multicasts, n deletes and k carts in ack lists on the lines, and a cart one record of its hand-off
+    let each = n + n + k;
+    let records = held * each + k;
     if lines.len() != 818 + records * 3 {
         return false;
     }
@@ -49,19 +48,16 @@ pub fn passes(
     messages: &[u64],
     lines: &[u64],
     texts: &[u8],
-    n: u64,
-    k: u64,
-    held: usize,
-    last: u64,
+    bounds: Bounds,
 ) -> bool
-    requires { ⌜ Fit n k held last ⌝ }
-    ensures { λ r. ⌜ ((P : Product) → IsOf P n k held last → r ≡ passesForm (limitsOf P) (floorIn (lent P (now (stations .entry)) (now (carts .entry)) (now (messages .entry)) (now (lines .entry)) (now (texts .entry))))) ⌝ }
+    requires { ⌜ Fits bounds ⌝ }
+    ensures { λ r. ⌜ ((P : Product) → NumbersOf P bounds → r ≡ passesForm (limitsOf P) (floorIn (lent P (now (stations .entry)) (now (carts .entry)) (now (messages .entry)) (now (lines .entry)) (now (texts .entry))))) ⌝ }
 {
-    if !lengths_ok(stations, carts, messages, lines, texts, n, k, held, last) {
+    if !lengths_ok(stations, carts, messages, lines, texts, bounds) {
         return false;
     }
-    if !form::tables_pass(stations, carts, messages, n, k, held, last) {
+    if !form::tables_pass(stations, carts, messages, bounds) {
         return false;
     }
-    formlines::lines_pass(stations, carts, messages, lines, n)
+    formlines::lines_pass(stations, carts, messages, lines, bounds.stations)
 }

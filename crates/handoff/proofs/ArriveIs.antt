@@ -138,9 +138,12 @@ module _ (Q : Limits) (S S′ C C′ M T : List ℕ) (lengths words : Bool) (lin
   -- a cart that is struck leaves no copy where there was none
   beyond′ : NoneBeyond Q D t c
   unfolding struck
-  beyond′ = (beyond .0, λ m l. let z = beyond .1 m l in rw z
-      (by-test (eqb t t && ((has (R .waiting m) t && ltb (R .number m) (stationsIn S .expected t (R .initiator m))) && ltb (R .number m) (withRow G c entries .next c (R .initiator m))))
-      (λ e. rw e (has-without 0 c c ∙ ap (λ (b : Bool). b && not (eqb c c)) (has-zero c))) (λ e. rw e (has-zero c))))
+  beyond′ = (
+    beyond .0,
+    λ m l. let z = beyond .1 m l in rw z
+        (by-test (eqb t t && ((has (R .waiting m) t && ltb (R .number m) (stationsIn S .expected t (R .initiator m))) && ltb (R .number m) (withRow G c entries .next c (R .initiator m))))
+        (λ e. rw e (has-without 0 c c ∙ ap (λ (b : Bool). b && not (eqb c c)) (has-zero c))) (λ e. rw e (has-zero c))),
+  )
 
   -- THE NEXT NUMBERS
   raised : (s : ℕ) → s < 16 → stopIn (tablesFloor K M) t row N s ≡ stop s .upto

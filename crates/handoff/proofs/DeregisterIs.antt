@@ -120,9 +120,10 @@ module _ {P : Product} (S S′ C C′ M W W₁ W′ T : List ℕ) (c i t : ℕ) 
       (laid-carts S C M W₁ T (laid-pop S C M W T (X .laid) W₁ i t li lt pop) S′ C′
       (λ d ld. ap (λ (f : ℕ → Bool). f d) (gone .canonical) ∙ on-update (λ (b : Bool). b ≡ true) (canonicalIn C) c true d (λ q. refl) (λ q. X .laid .canonical d ld))
       locals
-      (λ u m lu lm l. let was = X .laid .few u m lu lm l in
-      (ap (λ (Z : Stations). Z .copy m u) (gone .stations) ∙ was .0,
-      ap (λ (Z : Stations). Z .queue m u) (gone .stations) ∙ rw (was .1) (none-either-way (eqb u t) (without 0 c) (let z = without-lt 0 0 c (omega arith) in omega arith)))))
+      (λ u m lu lm l. let was = X .laid .few u m lu lm l in (
+        ap (λ (Z : Stations). Z .copy m u) (gone .stations) ∙ was .0,
+        ap (λ (Z : Stations). Z .queue m u) (gone .stations) ∙ rw (was .1) (none-either-way (eqb u t) (without 0 c) (let z = without-lt 0 0 c (omega arith) in omega arith)),
+      )))
       W′ t i (wordsOf 5 c 0 0) lt li (gone .lines) (register-right (roomsIn M) t i c (omega (arith, lc)))
 
   lines : linesIn (cartsIn C′ .next) W′ ≡ put (between t i) (register c (listOf 16 (cartsIn C .next c))) (behead i t (linesIn (cartsIn C .next) W))

@@ -15,15 +15,6 @@ ghost use Rattle.view.specs.View.{lent, floorIn};
 ghost use Rattle.answers.specs.Answers.{answerIn};
 ghost use Rattle.answers.specs.Met.{Met};
 
-// "at most 4 stations, 8 carts and 8 held messages"; the last number is the floor's.
-const STATIONS: u64 = 4;
-
-const CARTS: u64 = 8;
-
-const HELD: usize = 8;
-
-const LAST: u64 = 65534;
-
 // "text 0 to 32 octets".
 const TEXT: usize = 32;
 
@@ -37,10 +28,7 @@ fn passes(stations: &[u64], carts: &[u64], messages: &[u64], lines: &[u64], text
         messages,
         lines,
         texts,
-        STATIONS,
-        CARTS,
-        HELD,
-        LAST,
+        products::kit_bounds(),
     )
 }
 
@@ -65,10 +53,7 @@ pub fn start(
         texts,
         n,
         k,
-        STATIONS,
-        CARTS,
-        HELD,
-        LAST,
+        products::kit_bounds(),
     )
 }
 
@@ -118,7 +103,7 @@ pub fn send(
         station,
         set,
         text,
-        LAST,
+        products::kit_bounds(),
     )
 }
 

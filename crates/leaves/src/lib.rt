@@ -110,5 +110,12 @@ pub extern "C" fn mekhturia_passes(
 ) -> bool
     ensures { λ r. ⌜ r ≡ passesForm limits (floorIn (lent wholeFloor (now (stations .entry)) (now (carts .entry)) (now (messages .entry)) (now (lines .entry)) (now (texts .entry)))) ⌝ }
 {
-    formtest::passes(stations, carts, messages, lines, texts, 16, 64, 32, 65534)
+    formtest::passes(
+        stations,
+        carts,
+        messages,
+        lines,
+        texts,
+        products::floor_bounds(),
+    )
 }

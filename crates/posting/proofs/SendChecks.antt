@@ -2,7 +2,7 @@
 use mathlib.Core.Path.{_≡_, refl}
 use mathlib.Core.Bool.{Bool, true, false}
 use mathlib.Core.List.{List}
-use Prim.Native.Nat.{ℕ, _*_, _≤_, _<_}
+use Prim.Native.Nat.{ℕ, _≤_, _<_}
 use lib.Dec.{eqb}
 use lib.ListN.{length}
 use borrow.Author.Tests.{le-leb, lt-leb, lt-ltb, le-ltb, eq-eqb, ne-eqb}
@@ -24,7 +24,7 @@ module _ (r next : ℕ) where
   first-stays n = rw (ne-eqb r 0 n) refl
 
 -- THE NUMBER AND THE ROOM
-module _ (S : List ℕ) (s m : ℕ) (P : Product) (C M W T : List ℕ) (whole : length M ≡ P .held * 6) (found : m ≡ firstFree M) where
+module _ (S : List ℕ) (s m : ℕ) (P : Product) (C M W T : List ℕ) (found : m ≡ firstFree (P .held) M) where
   abbrev N : Limits
   N = limitsOf P
 
@@ -36,10 +36,10 @@ module _ (S : List ℕ) (s m : ℕ) (P : Product) (C M W T : List ℕ) (whole : 
 
   module _ (l : stationsIn S .sent s ≤ (P .last)) where
     pub rooms-full : m ≡ 32 → 14 ≡ roomChecks N F s
-    rooms-full z = rw (le-ltb (P .last) (stationsIn S .sent s) l, none-is-32 (lent P S C M W T) m found whole, eq-eqb m 32 z) refl
+    rooms-full z = rw (le-ltb (P .last) (stationsIn S .sent s) l, none-is-32 (lent P S C M W T) m found, eq-eqb m 32 z) refl
 
     pub room-passes : (m ≡ 32 → ⊥) → 0 ≡ roomChecks N F s
-    room-passes n = rw (le-ltb (P .last) (stationsIn S .sent s) l, none-is-32 (lent P S C M W T) m found whole, ne-eqb m 32 n) refl
+    room-passes n = rw (le-ltb (P .last) (stationsIn S .sent s) l, none-is-32 (lent P S C M W T) m found, ne-eqb m 32 n) refl
 
 -- THE WHOLE TABLE, of a text that is not too long, on a floor that passes the form rule
 module _ (P : Product) (F : Floor) (s set : ℕ) (text : List ℕ) (short : length text ≤ 32) where

@@ -4,6 +4,8 @@ use carts::Place;
 use ids::CartNumber;
 use ids::MessageNumber;
 use ids::Station;
+use products::Bounds;
+use sending::NewMessage;
 ghost use mathlib.Core.Path.{_≡_};
 ghost use mathlib.Core.Bool.{true, false, not};
 ghost use mathlib.Core.List.{List, []};
@@ -13,7 +15,6 @@ ghost use Rattle.protocol.specs.Floor.{Product, limitsOf, entered};
 ghost use Rattle.protocol.specs.CartSets.{has};
 ghost use Rattle.protocol.specs.Claims.{test, all, when, is};
 ghost use Rattle.protocol.specs.Events.{send};
-ghost use Rattle.protocol.specs.Form.{passesForm};
 ghost use Rattle.protocol.specs.Refusals.{refusalIf};
 ghost use Rattle.stations.specs.View.{HasHead, HasStation, headIn};
 ghost use Rattle.carts.specs.Words.{HasRow};
@@ -21,7 +22,7 @@ ghost use Rattle.carts.specs.View.{cartsIn};
 ghost use Rattle.view.specs.View.{lent, floorIn};
 ghost use Rattle.sending.specs.Rooms.{firstFree};
 ghost use Rattle.answers.specs.Answers.{answerIn};
-ghost use Rattle.answers.specs.Met.{Met};
+ghost use Rattle.answers.specs.Met.{PassingWith, MetWith};
 ghost use Rattle.posting.specs.Checks.{setChecks, roomChecks, firstApplying};
 
 // What the search for a free room answers where there is none.
@@ -75,7 +76,7 @@ fn set_refusal(stations: &[u64], carts: &[u64], set: u64) -> u64
 // "the station has used number 65,534", 13, or "32 messages held", 14, or 0; m is the first free room.
 fn room_refusal(stations: &[u64], station: Station, m: usize, last: u64) -> u64
     requires { ⌜ HasStation (now stations) (station .0) ⌝ }
-    ensures { λ r. ⌜ ((P : Product) (C M W T : List ℕ) → P .last ≡ last → length M ≡ P .held * 6 → m ≡ firstFree M → r ≡ roomChecks (limitsOf P) (floorIn (lent P (now (stations .entry)) C M W T)) (station .0)) ⌝ }
+    ensures { λ r. ⌜ ((P : Product) (C M W T : List ℕ) → P .last ≡ last → m ≡ firstFree (P .held) M → r ≡ roomChecks (limitsOf P) (floorIn (lent P (now (stations .entry)) C M W T)) (station .0)) ⌝ }
 {
     if last < stations::sent_of(stations, station) {
         return 13;
@@ -91,9 +92,16 @@ fn first_of(refusal: u64, next: u64) -> u64
 }
 
 // The refusal of a send, 8, 9 and 11 to 14, or 0; m is the first free room.
-fn send_refusal(stations: &[u64], carts: &[u64], station: Station, set: u64, m: usize, last: u64) -> u64
+fn send_refusal(
+    stations: &[u64],
+    carts: &[u64],
+    station: Station,
+    set: u64,
+    m: usize,
+    last: u64,
+) -> u64
     requires { ⌜ HasHead (now stations) × (headIn (now stations) .carts * 19 ≤ length (now carts)) × (headIn (now stations) .carts ≤ 64) × (116 + headIn (now stations) .stations * 116 ≤ length (now stations)) ⌝ }
-    ensures { λ r. ⌜ ((P : Product) (M W T text : List ℕ) → P .last ≡ last → length M ≡ P .held * 6 → m ≡ firstFree M → length text ≤ 32 → r ≡ refusalIf (limitsOf P) (floorIn (lent P (now (stations .entry)) (now (carts .entry)) M W T)) false (send (station .0) set text)) ⌝ }
+    ensures { λ r. ⌜ ((P : Product) (M W T text : List ℕ) → P .last ≡ last → m ≡ firstFree (P .held) M → length text ≤ 32 → r ≡ refusalIf (limitsOf P) (floorIn (lent P (now (stations .entry)) (now (carts .entry)) M W T)) false (send (station .0) set text)) ⌝ }
 {
     if stations::station_count(stations) <= station.0 {
         return 8;
@@ -114,29 +122,33 @@ pub fn send(
     station: Station,
     set: u64,
     text: &[u8],
-    last: u64,
+    bounds: Bounds,
 ) -> Answer
-    requires { ⌜ ((P : Product) × (P .last ≡ last) × (passesForm (limitsOf P) (floorIn (lent P (now stations) (now carts) (now messages) (now lines) (now texts))) ≡ true)) ⌝ }
+    requires { ⌜ PassingWith bounds (λ P. lent P (now stations) (now carts) (now messages) (now lines) (now texts)) ⌝ }
     requires { ⌜ length (now text) ≤ 32 ⌝ }
-    ensures { λ a. ⌜ ((P : Product) → P .last ≡ last → passesForm (limitsOf P) (floorIn (lent P (now (stations .entry)) (now (carts .entry)) (now (messages .entry)) (now (lines .entry)) (now (texts .entry)))) ≡ true → Met (lent P (now (stations .entry)) (now (carts .entry)) (now (messages .entry)) (now (lines .entry)) (now (texts .entry))) (lent P (now (stations .exit)) (now (carts .entry)) (now (messages .exit)) (now (lines .exit)) (now (texts .exit))) (send (station .0) set (now (text .entry))) (answerIn a [])) ⌝ }
+    ensures { λ a. ⌜ MetWith bounds (λ P. lent P (now (stations .entry)) (now (carts .entry)) (now (messages .entry)) (now (lines .entry)) (now (texts .entry))) (λ P. lent P (now (stations .exit)) (now (carts .entry)) (now (messages .exit)) (now (lines .exit)) (now (texts .exit))) (send (station .0) set (now (text .entry))) (answerIn a []) ⌝ }
 {
-    let m = sending::free_room(messages);
-    let refusal = send_refusal(stations, carts, station, set, m, last);
+    let m = sending::free_room(messages, bounds.held);
+    let refusal = send_refusal(stations, carts, station, set, m, bounds.last);
     if refusal != 0 {
         return Answer::Refused(refusal);
     }
     let n = stations::station_count(stations);
     let number = MessageNumber(stations::sent_of(stations, station));
+    let message = NewMessage {
+        room: m,
+        initiator: station,
+        number,
+        set,
+    };
     sending::on_send(
         stations,
         messages,
         lines,
         texts,
-        m,
-        station,
+        bounds.stations,
         n,
-        number,
-        set,
+        message,
         text,
     );
     Answer::Sent(station, number, n)

@@ -219,7 +219,7 @@ module _ (P : Product) (S C M W T : List ℕ) (t c buffer : ℕ) (p : passesForm
               let short = X .laid .short m here in
               let octets = X .lengths .texts in
               let served = is-served .1 in (
-                meets-done L (radio t c buffer) (lent P S′ C′ M W′ T) _ (refusal-standing L (radio t c buffer) p ∙ sym served-is ∙ free)
+                meets-done L (radio t c buffer) (lent P S′ C′ M W′ T) _ refl (refusal-standing L (radio t c buffer) p ∙ sym served-is ∙ free)
                     (radio-is S S′ C C′ M W W′ T m t c q w X may over₀)
                     (rw (es, en, ez) (sym (radio-reports S S′ C C′ M W W′ T m t c q w X may over₀))),
                 ((is-room, omega arith, omega arith), omega arith),

@@ -1,5 +1,5 @@
 -- AN ENTER MEETS ITS EVENT: what the code asks on the way, and what it leaves.
-use mathlib.Core.Path.{_≡_, sym, _∙_}
+use mathlib.Core.Path.{_≡_, refl, sym, _∙_}
 use mathlib.Core.Bool.{true, false}
 use mathlib.Core.List.{List, []}
 use Prim.Native.Nat.{ℕ, _<_, _≤_}
@@ -37,5 +37,5 @@ module _ (P : Product) (S C M W T : List ℕ) (t c : ℕ) (p : passesForm (limit
   pub meets-enter : (S′ C′ : List ℕ) (passed : ℕ) → Arrived S S′ C C′ M t c allZero passed → Met L (lent P S′ C′ M W T) (enter t c) (says 1 t c passed 0 [])
   unfolding accept
   meets-enter S′ C′ passed there =
-      meets-done L (enter t c) (lent P S′ C′ M W T) _ (refusal-standing L (enter t c) p ∙ sym free)
+      meets-done L (enter t c) (lent P S′ C′ M W T) _ refl (refusal-standing L (enter t c) p ∙ sym free)
       (enter-is S S′ C C′ M W T t c passed X may there) (sym (enter-reports S S′ C C′ M W T t c passed X may there))

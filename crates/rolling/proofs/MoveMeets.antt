@@ -48,5 +48,5 @@ module _ (P : Product) (S C M W T : List ℕ) (c to : ℕ) (p : passesForm (limi
     unfolding accept
     meets-move C′ W′ moved =
         let a = move-asks in
-        meets-done L (move c to) (lent P S C′ M W′ T) _ (refusal-standing L (move c to) p ∙ sym free)
+        meets-done L (move c to) (lent P S C′ M W′ T) _ refl (refusal-standing L (move c to) p ∙ sym free)
         (move-is S C C′ M W W′ T c old to X (a .0 .1) (a .1 .2) (a .1 .3) here moved) (sym (move-reports (floorIn L) c to))

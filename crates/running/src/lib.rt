@@ -32,9 +32,6 @@ const FRAME: usize = 16;
 
 const TEXT: usize = 32;
 
-// "last number 65,534".
-const LAST: u64 = 65534;
-
 // The mark that says started.
 const STARTED: u64 = 1;
 
@@ -148,7 +145,7 @@ fn send(
         station,
         set,
         text,
-        LAST,
+        products::floor_bounds(),
     ))
 }
 

@@ -2,7 +2,7 @@
 use mathlib.Core.Path.{_≡_, refl, ap}
 use mathlib.Core.Bool.{Bool, cond, _&&_}
 use mathlib.Core.List.{List}
-use Prim.Native.Nat.{ℕ, _+_, _/_, _≤_}
+use Prim.Native.Nat.{ℕ, _+_, _*_, _≤_}
 use native.Mathlib.Omega.{arith}
 use lib.Dec.{eqb, ltb}
 use lib.ListN.{length}
@@ -11,7 +11,7 @@ use Rattle.protocol.specs.Folds.{update2}
 use Rattle.protocol.proofs.Tests.{by-test, by-lt, by-eq, and-false}
 use Rattle.stations.specs.View.{Stations, stationsIn}
 use Rattle.stations.proofs.TableLaws.{copy-past, acks-past, queue-past}
-use Rattle.sending.specs.Copies.{WholeRows, withoutCopy, withoutCopies}
+use Rattle.sending.specs.Copies.{withoutCopy, withoutCopies}
 
 -- ONE TABLE of a word for each room and station
 
@@ -69,8 +69,8 @@ module _ (S : Stations) (m : ℕ) where
   }
 
 -- beyond the rows there is nothing
-pub cleared-all : (l : List ℕ) (m n : ℕ) → WholeRows l → length l / 116 ≤ n + 1 → clearedStations n (stationsIn l) m ≡ withoutCopies (stationsIn l) m
-cleared-all l m n whole all = λ i. record {
+pub cleared-all : (l : List ℕ) (m n : ℕ) → length l ≤ 116 + n * 116 → clearedStations n (stationsIn l) m ≡ withoutCopies (stationsIn l) m
+cleared-all l m n all = λ i. record {
   sent = stationsIn l .sent;
   expected = stationsIn l .expected;
   local = stationsIn l .local;

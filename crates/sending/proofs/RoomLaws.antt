@@ -3,9 +3,8 @@ use mathlib.Core.Path.{_≡_, sym, ap, _∙_}
 use mathlib.Core.Bool.{Bool, true, false}
 use mathlib.Core.Option.{Option, none, some}
 use mathlib.Core.List.{List}
-use Prim.Native.Nat.{ℕ, _+_, _≤_, _<_, _*_}
+use Prim.Native.Nat.{ℕ, _+_, _≤_, _<_}
 use native.Mathlib.Omega.{arith}
-use lib.ListN.{length}
 use lib.Dec.{eqb}
 use borrow.Author.Tests.{eq-eqb, ne-eqb}
 use Rattle.protocol.specs.Folds.{first, isNone}
@@ -14,7 +13,7 @@ use Rattle.protocol.specs.Wired.{freeRoom}
 use Rattle.protocol.proofs.Tests.{by-lt, by-eq, by-option, clash, first-some, first-none, first-least}
 use Rattle.messages.specs.View.{roomsIn}
 use Rattle.view.specs.View.{Lent, floorIn}
-use Rattle.queue.specs.Rooms.{roomCount, roomCode}
+use Rattle.queue.specs.Rooms.{roomCode}
 use Rattle.sending.specs.Rooms.{firstFree}
 
 -- FIRST
@@ -42,33 +41,31 @@ isFree messages m = eqb (roomsIn messages .waiting m) 0
 abbrev pub TakenTo : List ℕ → ℕ → Type 0
 TakenTo messages m = (k : ℕ) → k < m → isFree messages k ≡ false
 
-module _ (messages : List ℕ) (m : ℕ) where
+module _ (held : ℕ) (messages : List ℕ) (m : ℕ) where
   -- one more, whose waiting stations are w
   pub taken-more : (w : ℕ) → w ≡ roomsIn messages .waiting m → (w ≡ 0 → ⊥) → TakenTo messages m → TakenTo messages (m + 1)
   taken-more w e waits before k l =
       by-eq k m (λ q. ap (isFree messages) q ∙ ne-eqb (roomsIn messages .waiting m) 0 (λ z. waits (e ∙ z))) (λ q. before k (omega arith))
 
   -- room m is free
-  pub free-here : (w : ℕ) → w ≡ roomsIn messages .waiting m → w ≡ 0 → m < roomCount messages → TakenTo messages m → m ≡ firstFree messages
+  pub free-here : (w : ℕ) → w ≡ roomsIn messages .waiting m → w ≡ 0 → m < held → TakenTo messages m → m ≡ firstFree held messages
   unfolding firstFree
   free-here w e nobody l before =
-      sym (ap roomCode (found-first (roomCount messages) (isFree messages) m l (eq-eqb (roomsIn messages .waiting m) 0 (sym e ∙ nobody)) before))
+      sym (ap roomCode (found-first held (isFree messages) m l (eq-eqb (roomsIn messages .waiting m) 0 (sym e ∙ nobody)) before))
 
   -- no room is
-  pub free-nowhere : roomCount messages ≤ m → TakenTo messages m → 32 ≡ firstFree messages
+  pub free-nowhere : held ≤ m → TakenTo messages m → 32 ≡ firstFree held messages
   unfolding firstFree
-  free-nowhere g before = sym (ap roomCode (found-none (roomCount messages) (isFree messages) (λ k h. before k (omega arith))))
+  free-nowhere g before = sym (ap roomCode (found-none held (isFree messages) (λ k h. before k (omega arith))))
 
 -- so of the floor that the lent parts say
-module _ (L : Lent) (m : ℕ) (e : m ≡ firstFree (L .messages)) (sizes : length (L .messages) ≡ L .product .held * 6) where
+module _ (L : Lent) (m : ℕ) (e : m ≡ firstFree (L .product .held) (L .messages)) where
   abbrev N : Limits
   N = limitsOf (L .product)
 
   same : m ≡ roomCode (freeRoom N (floorIn L))
   unfolding freeRoom firstFree
-  same =
-      let z : roomCount (L .messages) ≡ L .product .held = (omega arith) in
-      e ∙ ap (λ (k : ℕ). roomCode (first k (isFree (L .messages)))) z
+  same = e
 
   pub room-found : m < 32 → freeRoom N (floorIn L) ≡ some m
   room-found l =

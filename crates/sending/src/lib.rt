@@ -3,7 +3,7 @@ use ids::MessageNumber;
 use ids::Station;
 ghost use mathlib.Core.Path.{_≡_};
 ghost use mathlib.Core.Bool.{true};
-ghost use Prim.Native.Nat.{_+_, _<_, _≤_};
+ghost use Prim.Native.Nat.{_+_, _*_, _<_, _≤_};
 ghost use lib.ListN.{length};
 ghost use Rattle.lines.specs.Form.{form, sized};
 ghost use Rattle.lines.specs.Lines.{used};
@@ -12,25 +12,20 @@ ghost use Rattle.messages.specs.View.{HasRoom};
 ghost use Rattle.messages.specs.Texts.{HasText};
 ghost use Rattle.stations.specs.View.{rooms, HasHead, HasStation, headIn, stationsIn};
 ghost use Rattle.sending.specs.Rooms.{firstFree};
-ghost use Rattle.sending.specs.Copies.{WholeRows, withoutCopy, withoutCopies};
+ghost use Rattle.sending.specs.Copies.{withoutCopy, withoutCopies};
 ghost use Rattle.sending.specs.Begun.{Begun};
 ghost use Rattle.sending.specs.Sent.{Kept, Sent};
-
-// The words of a station's row, and of a room's.
-const STATION: usize = 116;
-
-const ROOM: usize = 6;
 
 // The mark that says started.
 const STARTED: u64 = 1;
 
-// "Its room is then used again": the first room whose message no station waits for any more; 32 where every room is taken.
-pub fn free_room(messages: &[u64]) -> usize
-    ensures { λ r. ⌜ r ≡ firstFree (now (messages .entry)) ⌝ }
+// "Its room is then used again": the first of the rooms whose message no station waits for any more; 32 where every room is taken.
+pub fn free_room(messages: &[u64], held: usize) -> usize
+    requires { ⌜ (held * 6 ≤ length (now messages)) × (held ≤ 32) ⌝ }
+    ensures { λ r. ⌜ r ≡ firstFree held (now (messages .entry)) ⌝ }
 {
-    let rooms = messages.len() / ROOM;
     let mut m: usize = 0;
-    while m < rooms {
+    while m < held {
         if messages::waiting_of(messages, m) == 0 {
             return m;
         }
@@ -51,16 +46,15 @@ fn clear_copy(stations: &mut [u64], m: usize, station: Station)
     stations::put_queue(stations, m, station, 0);
 }
 
-// No station has a copy of the message in room m yet, an ack list or an entry for it.
-pub fn clear_copies(stations: &mut [u64], m: usize)
-    requires { ⌜ WholeRows (now stations) × (m < rooms) × (length (now stations) ≤ 1972) ⌝ }
+// No station that the table has a row for has a copy of the message in room m yet, an ack list or an entry for it.
+fn clear_copies(stations: &mut [u64], rows: u64, m: usize)
+    requires { ⌜ (length (now stations) ≡ 116 + rows * 116) × (rows ≤ 16) × (m < rooms) ⌝ }
     ensures { λ _. ⌜ stationsIn (now (stations .exit)) ≡ withoutCopies (stationsIn (now (stations .entry))) m ⌝ }
     ensures { λ _. ⌜ headIn (now (stations .exit)) ≡ headIn (now (stations .entry)) ⌝ }
     ensures { λ _. ⌜ length (now (stations .exit)) ≡ length (now (stations .entry)) ⌝ }
 {
-    let rows = (stations.len() / STATION) as u64;
     let mut t: u64 = 0;
-    while t + 1 < rows {
+    while t < rows {
         clear_copy(stations, m, Station(t));
         t += 1;
     }
@@ -85,54 +79,54 @@ pub fn start_floor(
     lines::clear(lines);
 }
 
-// The message and its text, into room m: "The initiator keeps the set as sent"; nobody has acknowledged it, and none of n stations has handled its
-// delete.
-fn keep_message(
-    messages: &mut [u64],
-    texts: &mut [u8],
-    m: usize,
-    s: Station,
-    n: u64,
-    number: MessageNumber,
-    set: u64,
-    text: &[u8],
-)
-    requires { ⌜ HasRoom (now messages) m × HasText (now texts) m × (length (now text) ≤ 32) × (n ≤ 16) ⌝ }
-    ensures { λ _. ⌜ Kept (now (messages .entry)) (now (messages .exit)) (now (texts .entry)) (now (texts .exit)) m (s .0) n (number .0) set (now (text .entry)) ⌝ }
+// A message that is sent: the room that it gets, its initiator, its number and the set.
+pub struct NewMessage {
+    pub room: usize,
+    pub initiator: Station,
+    pub number: MessageNumber,
+    pub set: u64,
+}
+
+// The message and its text, into its room: "The initiator keeps the set as sent"; nobody has acknowledged it, and none of n stations has handled
+// its delete.
+fn keep_message(messages: &mut [u64], texts: &mut [u8], n: u64, message: NewMessage, text: &[u8])
+    requires { ⌜ HasRoom (now messages) (message .room) × HasText (now texts) (message .room) × (length (now text) ≤ 32) × (n ≤ 16) ⌝ }
+    ensures { λ _. ⌜ Kept (now (messages .entry)) (now (messages .exit)) (now (texts .entry)) (now (texts .exit)) (message .room) (message .initiator .0) n (message .number .0) (message .set) (now (text .entry)) ⌝ }
 {
     messages::put_message(
         messages,
-        m,
-        s,
-        number,
-        set,
+        message.room,
+        message.initiator,
+        message.number,
+        message.set,
         cartset::all_below(n),
         text.len() as u64,
     );
-    messages::put_text(texts, m, text);
+    messages::put_text(texts, message.room, text);
 }
 
-// "Send (station, set, text): the message takes the station's number; a multicast goes on the line to every station", into room m, on a floor of
-// n stations.
+// "Send (station, set, text): the message takes the station's number; a multicast goes on the line to every station", on a floor of n stations
+// in a table that has rows for as many or more.
 pub fn on_send(
     stations: &mut [u64],
     messages: &mut [u64],
     lines: &mut [u64],
     texts: &mut [u8],
-    m: usize,
-    s: Station,
+    rows: u64,
     n: u64,
-    number: MessageNumber,
-    set: u64,
+    message: NewMessage,
     text: &[u8],
 )
-    requires { ⌜ WholeRows (now stations) × (length (now stations) ≤ 1972) × HasStation (now stations) (s .0) × HasRoom (now messages) m × HasText (now texts) m × (length (now text) ≤ 32) ⌝ }
-    requires { ⌜ (m < rooms) × (s .0 < 16) × (n ≤ 16) × (number .0 < 4294967296) ⌝ }
+    requires { ⌜ (length (now stations) ≡ 116 + rows * 116) × (rows ≤ 16) × HasStation (now stations) (message .initiator .0) × HasRoom (now messages) (message .room) × HasText (now texts) (message .room) × (length (now text) ≤ 32) ⌝ }
+    requires { ⌜ (message .room < rooms) × (message .initiator .0 < 16) × (n ≤ 16) × (message .number .0 < 4294967296) ⌝ }
     requires { ⌜ (form (now lines) ≡ true) × (used (now lines) + n ≤ capacity (now lines)) ⌝ }
-    ensures { λ _. ⌜ Sent (now (stations .entry)) (now (stations .exit)) (now (messages .entry)) (now (messages .exit)) (now (lines .entry)) (now (lines .exit)) (now (texts .entry)) (now (texts .exit)) m (s .0) n (number .0) set (now (text .entry)) ⌝ }
+    ensures { λ _. ⌜ Sent (now (stations .entry)) (now (stations .exit)) (now (messages .entry)) (now (messages .exit)) (now (lines .entry)) (now (lines .exit)) (now (texts .entry)) (now (texts .exit)) (message .room) (message .initiator .0) n (message .number .0) (message .set) (now (text .entry)) ⌝ }
 {
-    keep_message(messages, texts, m, s, n, number, set, text);
-    clear_copies(stations, m);
+    keep_message(messages, texts, n, message, text);
+    let m = message.room;
+    let s = message.initiator;
+    let number = message.number;
+    clear_copies(stations, rows, m);
     stations::put_sent(stations, s, number.next().0);
     everyline::push_to_every(lines, s, n, view::multicast(m, number));
 }

@@ -84,7 +84,7 @@ module _ (P : Product) (S C M W T : List ℕ) (n k : ℕ) (ok : Bool) (lengths-a
       -- "it writes all the rest afresh"
       pub meets-start : wrong ≡ false → (S′ C′ M′ W′ : List ℕ) → Begun S S′ C C′ M M′ W W′ n k → Met L (lent P S′ C′ M′ W′ T) (start n k) (says 0 n k 0 0 [])
       unfolding refusal refusalIf accept
-      meets-start e S′ C′ M′ W′ begun = meets-done L (start n k) (lent P S′ C′ M′ W′ T) _ met (accepted-start S S′ C C′ M M′ W W′ T n k lengths begun (floorIn L)) says-so
+      meets-start e S′ C′ M′ W′ begun = meets-done L (start n k) (lent P S′ C′ M′ W′ T) _ refl met (accepted-start S S′ C C′ M M′ W W′ T n k lengths begun (floorIn L)) says-so
         where
           met : refusal (limitsOf P) (floorIn L) (start n k) ≡ 0
           met = rw (right, ne-eqb (headIn S .mark) 1 fresh, sym size-is, e) refl

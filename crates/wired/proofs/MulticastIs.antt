@@ -103,9 +103,10 @@ module _ {P : Product} (S S′ C C′ M W W₁ T : List ℕ) (X : Standing (lent
       (λ c l. ap (λ (f : ℕ → Bool). f c) (buffered .carts .canonical) ∙ X .laid .canonical c l)
       (λ t l. ap (λ (Y : Stations). Y .local t) (buffered .stations .stations) ∙ X .laid .local t l
       ∙ ap (λ (K : Carts). setOf 64 (λ c. localTo (K .place c) t)) (sym (buffered .carts .carts)))
-      (λ t k lt lk l. let other : eqb k m ≡ false = ne-eqb k m (λ q. let z = in-room .held .slot in omega arith) in
-      (ap (λ (Y : Stations). Y .copy k t) (buffered .stations .stations) ∙ rw other (X .laid .few t k lt lk l .0),
-      ap (λ (Y : Stations). Y .queue k t) (buffered .stations .stations) ∙ rw other (X .laid .few t k lt lk l .1)))
+      (λ t k lt lk l. let other : eqb k m ≡ false = ne-eqb k m (λ q. let z = in-room .held .slot in omega arith) in (
+        ap (λ (Y : Stations). Y .copy k t) (buffered .stations .stations) ∙ rw other (X .laid .few t k lt lk l .0),
+        ap (λ (Y : Stations). Y .queue k t) (buffered .stations .stations) ∙ rw other (X .laid .few t k lt lk l .1),
+      ))
 
   -- the carts, with the next numbers that rise
   abbrev passed : Carts

@@ -74,9 +74,9 @@ module _ (P : Product) (S C M W W₁ T : List ℕ) (i j : ℕ) (said : word.Reco
   passes = rw (off .passes, lt-leb (F .stations) i (off .from), lt-leb (F .stations) j (off .to), on-line) refl
 
   -- the step of its kind is the event
-  meets : (L′ : Lent) (l : Report) → floorIn L′ ≡ onWire (limitsOf P) F i j .floor → onWire (limitsOf P) F i j .report ≡ l → Met L L′ (wire i j) (accepted l)
+  meets : (L′ : Lent) (l : Report) → L′ .product ≡ P → floorIn L′ ≡ onWire (limitsOf P) F i j .floor → onWire (limitsOf P) F i j .report ≡ l → Met L L′ (wire i j) (accepted l)
   unfolding accept
-  meets L′ l f r = meets-done L (wire i j) L′ l passes f (sym r)
+  meets L′ l same f r = meets-done L (wire i j) L′ l same passes f (sym r)
 
   -- A MULTICAST: what is no ack list, no delete and no hand-off record; x is the number that the code read
   pub is-multicast : kindOf (said .0) ≤ 3 → (kindOf (said .0) ≡ 2 → ⊥) → (kindOf (said .0) ≡ 3 → ⊥) → kindOf (said .0) ≡ 1
@@ -91,7 +91,7 @@ module _ (P : Product) (S C M W W₁ T : List ℕ) (i j : ℕ) (said : word.Reco
   pub meets-multicast : kindOf (said .0) ≡ 1 → (S′ C′ : List ℕ) (x p : ℕ) → x ≡ n → Buffered S S′ C C′ M m n i j p
       → Met L (lent P S′ C′ M W₁ T) (wire i j) (says 3 1 x p 0 [])
   meets-multicast k S′ C′ x p e b =
-      meets (lent P S′ C′ M W₁ T) _ (multicast-is S S′ C C′ M W W₁ T X i j (off .from) (off .to) said rest (off .top) k (off .popped) p b)
+      meets (lent P S′ C′ M W₁ T) _ refl (multicast-is S S′ C C′ M W W₁ T X i j (off .from) (off .to) said rest (off .top) k (off .popped) p b)
       (rw e (multicast-report S S′ C C′ M W W₁ T X i j (off .from) (off .to) said rest (off .top) k (off .popped) p b))
 
   -- AN ACK LIST; y is how many stations the code read
@@ -104,7 +104,7 @@ module _ (P : Product) (S C M W W₁ T : List ℕ) (i j : ℕ) (said : word.Reco
       → Met L (lent P S C M′ W′ T) (wire i j) (says 3 2 x 0 w [])
   meets-ack-list k M′ W′ x y w e f b =
       let b′ : Acknowledged M M′ W₁ W′ m n (said .1) j (headIn S .stations) w = subst (λ (z : ℕ). Acknowledged M M′ W₁ W′ m n (said .1) j z w) f b in
-      meets (lent P S C M′ W′ T) _ (ack-list-is S C M W W₁ T X i j (off .from) (off .to) said rest (off .top) k (off .popped) M′ W′ w b′)
+      meets (lent P S C M′ W′ T) _ refl (ack-list-is S C M W W₁ T X i j (off .from) (off .to) said rest (off .top) k (off .popped) M′ W′ w b′)
       (rw e (ack-list-report S C M W W₁ T X i j (off .from) (off .to) said rest (off .top) k (off .popped) M′ W′ w b′))
 
   -- A DELETE
@@ -114,7 +114,7 @@ module _ (P : Product) (S C M W W₁ T : List ℕ) (i j : ℕ) (said : word.Reco
   pub meets-delete : kindOf (said .0) ≡ 3 → (M′ : List ℕ) (x : ℕ) → x ≡ n → Deleted M M′ m j
       → Met L (lent P S C M′ W₁ T) (wire i j) (says 3 3 x 0 0 [])
   meets-delete k M′ x e b =
-      meets (lent P S C M′ W₁ T) _ (delete-is S C M M′ W W₁ T X i j (off .from) (off .to) said rest (off .top) k (off .popped) b)
+      meets (lent P S C M′ W₁ T) _ refl (delete-is S C M M′ W W₁ T X i j (off .from) (off .to) said rest (off .top) k (off .popped) b)
       (rw e (delete-report S C M M′ W W₁ T X i j (off .from) (off .to) said rest (off .top) k (off .popped) b))
 
   -- a record of a cart that the code read as x
@@ -137,7 +137,7 @@ module _ (P : Product) (S C M W W₁ T : List ℕ) (i j : ℕ) (said : word.Reco
     pub meets-deregister : kindOf (said .0) ≡ 4 → (S′ C′ W′ : List ℕ) → Left S S′ C C′ W₁ W′ x j i
         → Met L (lent P S′ C′ M W′ T) (wire i j) (says 3 4 x 0 1 [])
     meets-deregister k S′ C′ W′ b =
-        meets (lent P S′ C′ M W′ T) _ (deregister-is S S′ C C′ M W W₁ W′ T x i j left X (may-deregister k) (off .popped) b)
+        meets (lent P S′ C′ M W′ T) _ refl (deregister-is S S′ C C′ M W W₁ W′ T x i j left X (may-deregister k) (off .popped) b)
         (deregister-reports S S′ C C′ M W W₁ W′ T x i j left X (may-deregister k) (off .popped) b)
 
     -- A REGISTER: what is none of the other four
@@ -160,5 +160,5 @@ module _ (P : Product) (S C M W W₁ T : List ℕ) (i j : ℕ) (said : word.Reco
 
       pub meets-register : (S′ C′ : List ℕ) (p : ℕ) → Arrived S S′ C C′ M j x row p → Met L (lent P S′ C′ M W₁ T) (wire i j) (says 3 5 x p 0 [])
       meets-register S′ C′ p b =
-          meets (lent P S′ C′ M W₁ T) _ (register-is S S′ C C′ M W W₁ T x i j p row left X may-register (off .popped) b)
+          meets (lent P S′ C′ M W₁ T) _ refl (register-is S S′ C C′ M W W₁ T x i j p row left X may-register (off .popped) b)
           (register-reports S S′ C C′ M W W₁ T x i j p row left X may-register (off .popped) b)

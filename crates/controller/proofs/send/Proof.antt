@@ -31,8 +31,15 @@ same-length-4 c = search needs
 returns-2 : tie.Need-returns-2
 returns-2 c = let a = c .before .before .before .before .before .before .before .before .before .before .before .before .before .args in broken-send (lent wholeFloor (now (a .stations)) (now (a .carts)) (now (a .messages)) (now (a .lines)) (now (a .texts))) _ (c .before .passes .ensures) (not-true _ (c .if2 .taken)) (a .station .0) (a .set) (now (a .text)) (omega (arith, c .before .before .before .before .before .before .if1 .left))
 
+floor-bounds-requires : tie.Need-floor-bounds-requires
+floor-bounds-requires c κs = search needs
+
 send-requires : tie.Need-send-requires
-send-requires c κs = ((wholeFloor, refl, sym (c .before .before .before .before .before .passes .ensures) ∙ not-false _ (c .before .before .before .before .if2 .left)), (omega (arith, c .before .before .before .before .before .before .before .before .before .before .if1 .left)))
+send-requires c κs =
+    let passing = c .before .before .before .before .before in
+    let tested = passing .before in
+    let short = tested .before .before .before .before .before in
+    ((wholeFloor, c .floor-bounds .ensures .1, sym (tested .passes .ensures) ∙ not-false _ (passing .if2 .left)), omega (arith, short .if1 .left))
 
 same-length-5 : tie.Need-same-length-5
 same-length-5 c = search needs
@@ -47,7 +54,12 @@ same-length-8 : tie.Need-same-length-8
 same-length-8 c = search needs
 
 returns-3 : tie.Need-returns-3
-returns-3 c = c .before .before .before .before .before .before .before .before .send .ensures wholeFloor refl (sym (c .before .before .before .before .before .before .before .before .before .before .before .before .before .before .passes .ensures) ∙ not-false _ (c .before .before .before .before .before .before .before .before .before .before .before .before .before .if2 .left))
+returns-3 c =
+    let sent = c .before .before .before .before .before .before .before .before in
+    let bounds = sent .before in
+    let passing = bounds .before .before .before .before .before in
+    let tested = passing .before in
+    sent .send .ensures wholeFloor (bounds .floor-bounds .ensures .1) (sym (tested .passes .ensures) ∙ not-false _ (passing .if2 .left))
 
 pub send-spec : {M : Type 1} → statement M
 send-spec =
@@ -60,6 +72,7 @@ send-spec =
     same-length-3
     same-length-4
     returns-2
+    floor-bounds-requires
     send-requires
     same-length-5
     same-length-6

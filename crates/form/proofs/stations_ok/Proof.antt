@@ -40,9 +40,11 @@ loop-less c = omega arith
 loop-again : tie.Need-loop-again Inv-loop μ-loop
 loop-again c =
     let a = c .before .before .before .loop in
-    let t = c .before .station-ok in
-    (omega arith, λ M e. let f = stationRule M (tables (c .before .before .before .before .before .args .stations .now) [] []) in
-    one-more f (a .s) (a .inv .1 M e) (passed (f (a .s)) (t .result) (t .ensures M e) (not-false _ (c .if1 .left))))
+    let t = c .before .station-ok in (
+      omega arith,
+      λ M e. let f = stationRule M (tables (c .before .before .before .before .before .args .stations .now) [] []) in
+          one-more f (a .s) (a .inv .1 M e) (passed (f (a .s)) (t .result) (t .ensures M e) (not-false _ (c .if1 .left))),
+    )
 
 returns-2 : tie.Need-returns-2 Inv-loop μ-loop
 returns-2 c =

@@ -2,7 +2,7 @@
 use Prim.Native.Nat.{_*_}
 use native.Mathlib.Omega.{arith}
 use Rattle.view.specs.View.{lent}
-use Rattle.formtest.proofs.Lengths.{few-ways, most-is, wrong-length, rests-on-texts}
+use Rattle.formtest.proofs.Lengths.{few-records, most-is, wrong-length, rests-on-texts}
 use Rattle.formtest.proofs.lengths_ok.Statement.{statement}
 use Rattle.formtest.proofs.lengths_ok.Tie as tie
 
@@ -36,29 +36,29 @@ returns-3 c =
     λ P e. wrong-length (lent P (a .stations .now) (a .carts .now) (a .messages .now) (a .lines .now) (a .texts .now))
     (λ h. let z = h .messages in let n = e .stations-are in let k = e .carts-are in let m = e .held-is in omega arith)
 
-add-ways : tie.Need-add-ways
-add-ways c = omega arith
+add-each : tie.Need-add-each
+add-each c = omega arith
 
-add-ways-2 : tie.Need-add-ways-2
-add-ways-2 c = omega arith
+add-each-2 : tie.Need-add-each-2
+add-each-2 c = omega arith
 
 mul-records : tie.Need-mul-records
-mul-records c = let s = c .before .before .before in let w = few-ways (s .args .n) (s .args .k) (s .args .held) (s .args .last) (s .pre) in omega arith
+mul-records c = let s = c .before .before .before in let w = few-records (s .args .bounds) (s .pre) in omega arith
 
 add-records : tie.Need-add-records
-add-records c = let s = c .before .before .before in let w = few-ways (s .args .n) (s .args .k) (s .args .held) (s .args .last) (s .pre) in omega arith
+add-records c = let s = c .before .before .before in let w = few-records (s .args .bounds) (s .pre) in omega arith
 
 mul-if4 : tie.Need-mul-if4
-mul-if4 c = let s = c .before .before .before in let w = few-ways (s .args .n) (s .args .k) (s .args .held) (s .args .last) (s .pre) in omega arith
+mul-if4 c = let s = c .before .before .before in let w = few-records (s .args .bounds) (s .pre) in omega arith
 
 add-if4 : tie.Need-add-if4
-add-if4 c = let s = c .before .before .before in let w = few-ways (s .args .n) (s .args .k) (s .args .held) (s .args .last) (s .pre) in omega arith
+add-if4 c = let s = c .before .before .before in let w = few-records (s .args .bounds) (s .pre) in omega arith
 
 returns-4 : tie.Need-returns-4
 returns-4 c =
     let a = c .before .before .before .before .args in
     λ P e. wrong-length (lent P (a .stations .now) (a .carts .now) (a .messages .now) (a .lines .now) (a .texts .now))
-    (λ h. let z = h .lines in let n = e .stations-are in let k = e .carts-are in let m = e .held-is in let w = most-is P (a .n) (a .k) (a .held) (a .last) e in omega arith)
+    (λ h. let z = h .lines in let n = e .stations-are in let k = e .carts-are in let m = e .held-is in let w = most-is P (a .bounds) e in omega arith)
 
 mul-result : tie.Need-mul-result
 mul-result c = omega arith
@@ -69,8 +69,8 @@ returns-5 c =
     λ P e. let n = e .stations-are in
     let k = e .carts-are in
     let m = e .held-is in
-    let w = most-is P (a .n) (a .k) (a .held) (a .last) e in
-    rests-on-texts (lent P (a .stations .now) (a .carts .now) (a .messages .now) (a .lines .now) (a .texts .now)) (a .held * 32) (omega arith) (omega arith) (omega arith) (omega arith) (omega arith)
+    let w = most-is P (a .bounds) e in
+    rests-on-texts (lent P (a .stations .now) (a .carts .now) (a .messages .now) (a .lines .now) (a .texts .now)) (a .bounds .held * 32) (omega arith) (omega arith) (omega arith) (omega arith) (omega arith)
 
 pub lengths-ok-spec : {M : Type 1} → statement M
-lengths-ok-spec = tie.close (tie.spec mul-if1 add-if1 returns mul-if2 returns-2 mul-if3 returns-3 add-ways add-ways-2 mul-records add-records mul-if4 add-if4 returns-4 mul-result returns-5)
+lengths-ok-spec = tie.close (tie.spec mul-if1 add-if1 returns mul-if2 returns-2 mul-if3 returns-3 add-each add-each-2 mul-records add-records mul-if4 add-if4 returns-4 mul-result returns-5)

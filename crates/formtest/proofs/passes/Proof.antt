@@ -10,16 +10,18 @@ use Rattle.view.specs.View.{Lent, lent}
 use Rattle.view.proofs.Lengths.{Lengths}
 use Rattle.form.specs.Tables.{tablesRule}
 use Rattle.form.proofs.Answers.{passed}
-use Rattle.formtest.specs.Numbers.{Fit, IsOf}
-use Rattle.formtest.proofs.Lengths.{productOf, its-numbers, few-ways, most-is, right-lengths}
+use Rattle.products.specs.declared.Bounds.{Bounds}
+use Rattle.products.specs.Numbers.{NumbersOf}
+use Rattle.products.proofs.Numbers.{productOf, its-numbers}
+use Rattle.formtest.proofs.Lengths.{few-records, right-lengths}
 use Rattle.formtest.proofs.Split.{pool-sized, fails-lengths, fails-tables, rests-on-lines}
 use Rattle.formtest.proofs.passes.Statement.{statement}
 use Rattle.formtest.proofs.passes.Tie as tie
 
 -- the tables' part, in the product's own numbers
-as-of : (P : Product) (n k h last : ℕ) (S C M : List ℕ) → IsOf P n k h last
-    → test (tablesRule (limitsOf P) n k h S C M) ≡ test (tablesRule (limitsOf P) (P .stations) (P .carts) (P .held) S C M)
-as-of P n k h last S C M e = λ i. test (tablesRule (limitsOf P) (sym (e .stations-are) i) (sym (e .carts-are) i) (sym (e .held-is) i) S C M)
+as-of : (P : Product) (b : Bounds) (S C M : List ℕ) → NumbersOf P b
+    → test (tablesRule (limitsOf P) (b .stations) (b .carts) (b .held) S C M) ≡ test (tablesRule (limitsOf P) (P .stations) (P .carts) (P .held) S C M)
+as-of P b S C M e = λ i. test (tablesRule (limitsOf P) (sym (e .stations-are) i) (sym (e .carts-are) i) (sym (e .held-is) i) S C M)
 
 lengths-ok-requires : tie.Need-lengths-ok-requires
 lengths-ok-requires c κs = c .before .before .before .before .before .pre
@@ -35,20 +37,17 @@ tables-pass-requires c κs =
     let a = c .before .before .before .before .before .before .before .args in
     let f = c .before .before .before .before .before .before .before .pre in
     let t = c .before .lengths-ok in
-    let P = productOf (a .n) (a .k) (a .held) (a .last) f in
+    let P = productOf (a .bounds) f in
     let L : Lent = lent P (a .stations .now) (a .carts .now) (a .messages .now) (a .lines .now) (a .texts .now) in
-    let h : Lengths L = right-lengths L (t .result) (t .ensures P (its-numbers (a .n) (a .k) (a .held) (a .last) f)) (not-false _ (c .if1 .left)) in
-    (
-      record { stations = h .stations; carts = h .carts; messages = h .messages; few-stations = f .few-stations; few-carts = f .few-carts; few-rooms = f .few-held },
-      f .low-last,
-    )
+    let h : Lengths L = right-lengths L (t .result) (t .ensures P (its-numbers (a .bounds) f)) (not-false _ (c .if1 .left)) in
+    (f, record { stations = h .stations; carts = h .carts; messages = h .messages })
 
 returns-2 : tie.Need-returns-2
 returns-2 c =
     let a = c .before .before .before .before .before .before .before .before .before .args in
     let t = c .before .tables-pass in
     λ P e. fails-tables P (a .stations .now) (a .carts .now) (a .messages .now) (a .lines .now) (a .texts .now) (t .result)
-    (t .ensures (limitsOf P) (e .last-is) ∙ as-of P (a .n) (a .k) (a .held) (a .last) (a .stations .now) (a .carts .now) (a .messages .now) e) (not-true _ (c .if2 .taken))
+    (t .ensures (limitsOf P) (e .last-is) ∙ as-of P (a .bounds) (a .stations .now) (a .carts .now) (a .messages .now) e) (not-true _ (c .if2 .taken))
 
 lines-pass-requires : tie.Need-lines-pass-requires
 lines-pass-requires c κs =
@@ -56,21 +55,20 @@ lines-pass-requires c κs =
     let f = c .before .before .before .before .before .before .before .before .before .pre in
     let t = c .before .before .before .lengths-ok in
     let s = c .before .tables-pass in
-    let P = productOf (a .n) (a .k) (a .held) (a .last) f in
+    let P = productOf (a .bounds) f in
     let L : Lent = lent P (a .stations .now) (a .carts .now) (a .messages .now) (a .lines .now) (a .texts .now) in
-    let h : Lengths L = right-lengths L (t .result) (t .ensures P (its-numbers (a .n) (a .k) (a .held) (a .last) f)) (not-false _ (c .before .before .if1 .left)) in
-    let counts = passed (tablesRule (limitsOf P) (a .n) (a .k) (a .held) (a .stations .now) (a .carts .now) (a .messages .now)) (s .result) (s .ensures (limitsOf P) refl) (not-false _ (c .if2 .left)) .0 in
-    let few = few-ways (a .n) (a .k) (a .held) (a .last) f in
+    let h : Lengths L = right-lengths L (t .result) (t .ensures P (its-numbers (a .bounds) f)) (not-false _ (c .before .before .if1 .left)) in
+    let counts = passed (tablesRule (limitsOf P) (a .bounds .stations) (a .bounds .carts) (a .bounds .held) (a .stations .now) (a .carts .now) (a .messages .now)) (s .result) (s .ensures (limitsOf P) refl) (not-false _ (c .if2 .left)) .0 in
+    let few = few-records (a .bounds) f in
     let b = f .few-carts in
     let on = counts .1 .1 .1 in
-    let rows = h .carts in
-    (
+    let rows = h .carts in (
       h .stations,
       f .few-stations,
       counts .1 .0 .1,
       omega arith,
       omega arith,
-      record { rows = a .held; few = f .few-held; words = h .messages },
+      record { rows = a .bounds .held; few = f .few-held; words = h .messages },
       pool-sized (a .lines .now) (mostRecords (limitsOf P)) (h .lines) (omega arith),
     )
 
@@ -81,7 +79,7 @@ returns-3 c =
     let s = c .before .before .tables-pass in
     λ P e. rests-on-lines P (a .stations .now) (a .carts .now) (a .messages .now) (a .lines .now) (a .texts .now) (t .result) (s .result) (c .lines-pass .result)
     (t .ensures P e) (not-false _ (c .before .before .before .if1 .left))
-    (s .ensures (limitsOf P) (e .last-is) ∙ as-of P (a .n) (a .k) (a .held) (a .last) (a .stations .now) (a .carts .now) (a .messages .now) e) (not-false _ (c .before .if2 .left)) (c .lines-pass .ensures P (a .texts .now))
+    (s .ensures (limitsOf P) (e .last-is) ∙ as-of P (a .bounds) (a .stations .now) (a .carts .now) (a .messages .now) e) (not-false _ (c .before .if2 .left)) (c .lines-pass .ensures P (a .texts .now))
 
 pub passes-spec : {M : Type 1} → statement M
 passes-spec =

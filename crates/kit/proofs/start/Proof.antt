@@ -1,12 +1,14 @@
 -- `kit::start` meets its contract.
 use Rattle.protocol.specs.Floor.{kit}
-use Rattle.kit.proofs.Kits.{kit-fits, is-kit}
 use borrow.Author.Needs.{needs}
 use Rattle.kit.proofs.start.Statement.{statement}
 use Rattle.kit.proofs.start.Tie as tie
 
+kit-bounds-requires : tie.Need-kit-bounds-requires
+kit-bounds-requires c κs = search needs
+
 start-requires : tie.Need-start-requires
-start-requires c κs = kit-fits
+start-requires c κs = c .kit-bounds .ensures .0
 
 same-length : tie.Need-same-length
 same-length c = search needs
@@ -21,12 +23,15 @@ same-length-4 : tie.Need-same-length-4
 same-length-4 c = search needs
 
 returns : tie.Need-returns
-returns c = c .before .before .before .before .before .before .before .before .start .ensures kit is-kit
+returns c =
+    let started = c .before .before .before .before .before .before .before .before in
+    started .start .ensures kit (started .before .kit-bounds .ensures .1)
 
 pub start-spec : {M : Type 1} → statement M
 start-spec =
     tie.close
     (tie.spec
+    kit-bounds-requires
     start-requires
     same-length
     same-length-2

@@ -1,14 +1,17 @@
 -- `leaves::mekhturia_passes` meets its contract.
 use Rattle.protocol.specs.Floor.{wholeFloor}
-use Rattle.controller.proofs.Floors.{floor-fits, is-floor}
+use borrow.Author.Needs.{needs}
 use Rattle.leaves.proofs.mekhturia_passes.Statement.{statement}
 use Rattle.leaves.proofs.mekhturia_passes.Tie as tie
 
+floor-bounds-requires : tie.Need-floor-bounds-requires
+floor-bounds-requires c κs = search needs
+
 passes-requires : tie.Need-passes-requires
-passes-requires c κs = floor-fits
+passes-requires c κs = c .floor-bounds .ensures .0
 
 returns : tie.Need-returns
-returns c = c .passes .ensures wholeFloor is-floor
+returns c = c .passes .ensures wholeFloor (c .before .floor-bounds .ensures .1)
 
 pub mekhturia-passes-spec : {M : Type 1} → statement M
-mekhturia-passes-spec = tie.close (tie.spec passes-requires returns)
+mekhturia-passes-spec = tie.close (tie.spec floor-bounds-requires passes-requires returns)

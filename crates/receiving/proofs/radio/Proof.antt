@@ -138,9 +138,10 @@ returns-3 c =
     let begin = c .before .before .before .before .before .before .before .before .before .before .before .before .before .before .before .before .before .before .before .before .before .before .before .before .before .before .before in
     let here = c .before .before .before .before .before .before .before .before .before .before .before .before .before .before .before .before .before .before in
     let served = c .before .before .before .before .before .before .before .before .before .before .before .before .before in
-    let a = begin .args in
-    (λ P p. (meets-radio P (now (a .stations)) (now (a .carts)) (now (a .messages)) (now (a .lines)) (now (a .texts)) (a .station .0) (a .cart .0) (a .buffer) p _ (here .before .not-here .ensures) (here .if1 .left) _ (served .before .before .before .head .ensures) _ (served .before .not-served .ensures) (served .if2 .left) _ _ (c .before .before .before .before .before .before .before .before .before .before .before .initiator-of .ensures) (c .before .before .before .before .before .before .before .before .before .before .number-of .ensures) _ (c .before .before .before .before .before .before .before .before .before .before .before .before .length-of .ensures) _ _ _ _ _ (c .before .before .before .before .before .before .hand-over .ensures)) .0,
-    (meets-radio (begin .pre .0) (now (a .stations)) (now (a .carts)) (now (a .messages)) (now (a .lines)) (now (a .texts)) (a .station .0) (a .cart .0) (a .buffer) (begin .pre .1) _ (here .before .not-here .ensures) (here .if1 .left) _ (served .before .before .before .head .ensures) _ (served .before .not-served .ensures) (served .if2 .left) _ _ (c .before .before .before .before .before .before .before .before .before .before .before .initiator-of .ensures) (c .before .before .before .before .before .before .before .before .before .before .number-of .ensures) _ (c .before .before .before .before .before .before .before .before .before .before .before .before .length-of .ensures) _ _ _ _ _ (c .before .before .before .before .before .before .hand-over .ensures)) .1)
+    let a = begin .args in (
+      λ P p. (meets-radio P (now (a .stations)) (now (a .carts)) (now (a .messages)) (now (a .lines)) (now (a .texts)) (a .station .0) (a .cart .0) (a .buffer) p _ (here .before .not-here .ensures) (here .if1 .left) _ (served .before .before .before .head .ensures) _ (served .before .not-served .ensures) (served .if2 .left) _ _ (c .before .before .before .before .before .before .before .before .before .before .before .initiator-of .ensures) (c .before .before .before .before .before .before .before .before .before .before .number-of .ensures) _ (c .before .before .before .before .before .before .before .before .before .before .before .before .length-of .ensures) _ _ _ _ _ (c .before .before .before .before .before .before .hand-over .ensures)) .0,
+      (meets-radio (begin .pre .0) (now (a .stations)) (now (a .carts)) (now (a .messages)) (now (a .lines)) (now (a .texts)) (a .station .0) (a .cart .0) (a .buffer) (begin .pre .1) _ (here .before .not-here .ensures) (here .if1 .left) _ (served .before .before .before .head .ensures) _ (served .before .not-served .ensures) (served .if2 .left) _ _ (c .before .before .before .before .before .before .before .before .before .before .before .initiator-of .ensures) (c .before .before .before .before .before .before .before .before .before .before .number-of .ensures) _ (c .before .before .before .before .before .before .before .before .before .before .before .before .length-of .ensures) _ _ _ _ _ (c .before .before .before .before .before .before .hand-over .ensures)) .1,
+    )
 
 pub radio-spec : {M : Type 1} → statement M
 radio-spec =

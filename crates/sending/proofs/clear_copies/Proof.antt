@@ -11,20 +11,17 @@ use Rattle.sending.proofs.clear_copies.Statement.{statement}
 use Rattle.sending.proofs.clear_copies.Tie as tie
 
 abbrev Inv-loop : tie.InvT-loop
-Inv-loop stations₀ m rows t₀ stations t =
+Inv-loop stations₀ rows m t₀ stations t =
     (t ≤ rows)
     × (stationsIn stations ≡ clearedStations t (stationsIn stations₀) m)
     × (headIn stations ≡ headIn stations₀)
     × (length stations ≡ length stations₀)
 
 abbrev μ-loop : tie.MeasureT-loop
-μ-loop stations₀ m rows t₀ stations t = rows - t
+μ-loop stations₀ rows m t₀ stations t = rows - t
 
 loop-holds : tie.Need-loop-holds Inv-loop μ-loop
 loop-holds c = (omega arith, cleared-none (stationsIn (c .before .args .stations .now)) (c .before .args .m), refl, refl)
-
-add-loop : tie.Need-add-loop Inv-loop μ-loop
-add-loop c = search needs
 
 clear-copy-requires : tie.Need-clear-copy-requires Inv-loop μ-loop
 clear-copy-requires c κs = search needs
@@ -53,7 +50,7 @@ returns : tie.Need-returns Inv-loop μ-loop
 returns c =
     let a = c .before .before .before .args in
     let l = c .before .loop in (
-      l .inv .1 ∙ cleared-all (a .stations .now) (a .m) (l .t) (c .before .before .before .pre .0) (omega arith),
+      l .inv .1 ∙ cleared-all (a .stations .now) (a .m) (l .t) (omega arith),
       (l .inv .2, l .inv .3),
     )
 
@@ -64,7 +61,6 @@ clear-copies-spec =
     Inv-loop
     μ-loop
     loop-holds
-    add-loop
     clear-copy-requires
     add-t
     loop-less

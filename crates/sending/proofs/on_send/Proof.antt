@@ -26,7 +26,11 @@ multicast-requires : tie.Need-multicast-requires
 multicast-requires c κs = search needs
 
 push-to-every-requires : tie.Need-push-to-every-requires
-push-to-every-requires c κs = let h = c .before .before .before .before .before .before .before .before .before .before .before .before .before .before .before .before .before .before .before .before .before .before .before .pre in (h .1 .0 .1, h .1 .0 .2, h .1 .1 .0, h .1 .1 .1)
+push-to-every-requires c κs =
+    let cleared = c .before .before .before .before .before .before .before .before .before in
+    let kept = cleared .before .before .before .before .before .before .before .before in
+    let asked = kept .before .before .before .before .before .before .before .before .pre in
+    (asked .1 .0 .1, asked .1 .0 .2, asked .1 .1 .0, asked .1 .1 .1)
 
 same-length : tie.Need-same-length
 same-length c = search needs
@@ -42,20 +46,26 @@ same-length-4 c = search needs
 
 returns : tie.Need-returns
 returns c =
-    let a = c .before .before .before .before .before .before .before .before .before .before .before .before .before .before .before .before .before .before .before .before .before .before .before .before .before .before .args in
-    let k = c .before .before .before .before .before .before .before .before .before .before .before .before .clear-copies .ensures in
-    let p = c .before .before .before .before .before .before .before .put-sent .ensures in
+    let pushed = c .before .before in
+    let made = pushed .before in
+    let rose = made .before .before .before .before in
+    let next = rose .before in
+    let cleared = next .before .before .before .before in
+    let kept = cleared .before .before .before .before .before .before .before .before in
+    let a = kept .before .before .before .before .before .before .before .before .args in
+    let k = cleared .clear-copies .ensures in
+    let p = rose .put-sent .ensures in
     record {
       stations =
           p .0
-          ∙ ap (λ (S : Stations). withSent S (a .s .0) (c .before .before .before .before .before .before .before .before .next .result .0)) (k .0)
-          ∙ ap (λ (x : ℕ). withSent (withoutCopies (stationsIn (a .stations .now)) (a .m)) (a .s .0) x) (c .before .before .before .before .before .before .before .before .next .ensures ∙ add-one (a .number .0));
+          ∙ ap (λ (S : Stations). withSent S (a .message .initiator .0) (next .next .result .0)) (k .0)
+          ∙ ap (λ (x : ℕ). withSent (withoutCopies (stationsIn (a .stations .now)) (a .message .room)) (a .message .initiator .0) x) (next .next .ensures ∙ add-one (a .message .number .0));
       top = p .1 .0 ∙ k .1 .0;
       words = p .1 .1 ∙ k .1 .1;
-      message = c .before .before .before .before .before .before .before .before .before .before .before .before .before .before .before .before .before .before .keep-message .ensures;
+      message = kept .keep-message .ensures;
       lines =
-          subst (λ (r : word.Record). PushedToEvery (a .lines .now) (c .before .before .push-to-every .last .0) (a .s .0) (a .n) r) (c .before .before .before .multicast .ensures)
-          (c .before .before .push-to-every .ensures);
+          subst (λ (r : word.Record). PushedToEvery (a .lines .now) (pushed .push-to-every .last .0) (a .message .initiator .0) (a .n) r) (made .multicast .ensures)
+          (pushed .push-to-every .ensures);
     }
 
 pub on-send-spec : {M : Type 1} → statement M

@@ -3,7 +3,7 @@ use mathlib.Core.Path.{sym, _∙_}
 use borrow.Author.Tests.{not-true, not-false}
 use denote.Ref.{now}
 use Rattle.protocol.specs.Floor.{limitsOf}
-use Rattle.formtest.proofs.Lengths.{productOf, its-numbers}
+use Rattle.products.proofs.Numbers.{productOf, its-numbers}
 use Rattle.starting.proofs.Starts.{start-lengths, has-head, start-begun, start-size, start-fits, meets-start}
 use borrow.Author.Needs.{needs}
 use Rattle.starting.proofs.start.Statement.{statement}
@@ -28,7 +28,7 @@ returns : tie.Need-returns
 returns c = let a = c .before .before .before .before .before .before .before .before .before .before .before .args in λ P e. start-lengths P (now (a .stations)) (now (a .carts)) (now (a .messages)) (now (a .lines)) (now (a .texts)) (a .n) (a .k) _ (c .before .lengths-ok .ensures P e) (not-true _ (c .if1 .taken))
 
 mark-of-requires : tie.Need-mark-of-requires
-mark-of-requires c κs = let a = c .before .before .before .before .before .before .before .before .before .before .before .before .args in let f = c .before .before .before .before .before .before .before .before .before .before .before .before .pre in let P = productOf (a .rows) (a .wagons) (a .held) (a .last) f in let e = its-numbers (a .rows) (a .wagons) (a .held) (a .last) f in has-head P (now (a .stations)) (now (a .carts)) (now (a .messages)) (now (a .lines)) (now (a .texts)) (a .n) (a .k) _ (c .before .before .lengths-ok .ensures P e) (not-false _ (c .before .if1 .left))
+mark-of-requires c κs = let a = c .before .before .before .before .before .before .before .before .before .before .before .before .args in let f = c .before .before .before .before .before .before .before .before .before .before .before .before .pre in let P = productOf (a .bounds) f in let e = its-numbers (a .bounds) f in has-head P (now (a .stations)) (now (a .carts)) (now (a .messages)) (now (a .lines)) (now (a .texts)) (a .n) (a .k) _ (c .before .before .lengths-ok .ensures P e) (not-false _ (c .before .if1 .left))
 
 same-length-5 : tie.Need-same-length-5
 same-length-5 c = search needs
@@ -64,7 +64,7 @@ returns-3 : tie.Need-returns-3
 returns-3 c = let a = c .before .before .before .before .before .before .before .before .before .before .before .before .before .before .before .before .args in λ P e. start-size P (now (a .stations)) (now (a .carts)) (now (a .messages)) (now (a .lines)) (now (a .texts)) (a .n) (a .k) _ (c .before .before .before .before .before .before .lengths-ok .ensures P e) (not-false _ (c .before .before .before .before .before .if1 .left)) (λ z. c .before .before .if2 .left (c .before .before .before .mark-of .ensures ∙ z)) _ (c .before .wrong-size .ensures (limitsOf P) (e .stations-are) (e .carts-are)) (c .if3 .taken)
 
 start-floor-requires : tie.Need-start-floor-requires
-start-floor-requires c κs = let a = c .before .before .before .before .before .before .before .before .before .before .before .before .before .before .before .before .before .before .before .before .args in let f = c .before .before .before .before .before .before .before .before .before .before .before .before .before .before .before .before .before .before .before .before .pre in let P = productOf (a .rows) (a .wagons) (a .held) (a .last) f in let e = its-numbers (a .rows) (a .wagons) (a .held) (a .last) f in start-fits P (now (a .stations)) (now (a .carts)) (now (a .messages)) (now (a .lines)) (now (a .texts)) (a .n) (a .k) _ (c .before .before .before .before .before .before .before .before .before .before .lengths-ok .ensures P e) (not-false _ (c .before .before .before .before .before .before .before .before .before .if1 .left)) (λ z. c .before .before .before .before .before .before .if2 .left (c .before .before .before .before .before .before .before .mark-of .ensures ∙ z)) _ (c .before .before .before .before .before .wrong-size .ensures (limitsOf P) (e .stations-are) (e .carts-are))
+start-floor-requires c κs = let a = c .before .before .before .before .before .before .before .before .before .before .before .before .before .before .before .before .before .before .before .before .args in let f = c .before .before .before .before .before .before .before .before .before .before .before .before .before .before .before .before .before .before .before .before .pre in let P = productOf (a .bounds) f in let e = its-numbers (a .bounds) f in start-fits P (now (a .stations)) (now (a .carts)) (now (a .messages)) (now (a .lines)) (now (a .texts)) (a .n) (a .k) _ (c .before .before .before .before .before .before .before .before .before .before .lengths-ok .ensures P e) (not-false _ (c .before .before .before .before .before .before .before .before .before .if1 .left)) (λ z. c .before .before .before .before .before .before .if2 .left (c .before .before .before .before .before .before .before .mark-of .ensures ∙ z)) _ (c .before .before .before .before .before .wrong-size .ensures (limitsOf P) (e .stations-are) (e .carts-are))
 
 same-length-13 : tie.Need-same-length-13
 same-length-13 c = search needs

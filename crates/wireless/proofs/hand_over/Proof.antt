@@ -28,8 +28,7 @@ catch-up-requires c κs =
     let a = s .args in
     let p = s .pre in
     let r = c .before .before .before .before .before .before .before .before .before .before .before .before .before .before .receive in
-    let k = c .before .before .before .before .before .before .before .send-acks-if-all in
-    (
+    let k = c .before .before .before .before .before .before .before .send-acks-if-all in (
       (omega (arith, k .ensures .words, r .ensures .words, p .0 .0), p .0 .5, p .0 .1, p .0 .3, p .1 .0 .1, omega (arith, r .ensures .rows, p .1 .0 .0)),
       acks-beyond _ _ _ _ (a .m) (a .initiator .0) (a .n .0) (a .station .0) (k .result) (roomCount (a .messages .now)) (k .ensures) (p .0 .2)
           (λ q l. ap (λ (X : Stations). X .copy q (a .station .0)) (r .ensures .stations) ∙ p .1 .1 .0 q l),

@@ -1,0 +1,35 @@
+// THE PRODUCTS: "a second caller of the same steps with its own limits". The floor and the kit run the same code, and only these numbers differ.
+ghost use Rattle.protocol.specs.Floor.{wholeFloor, kit};
+ghost use Rattle.products.specs.Numbers.{Fits, NumbersOf};
+
+// How many stations and carts a floor may have, how many messages may be held, and the last number of a message.
+pub struct Bounds {
+    pub stations: u64,
+    pub carts: u64,
+    pub held: usize,
+    pub last: u64,
+}
+
+// The floor: "Stations 1 to 16", "Carts 1 to 64", "At most 32 held messages", "last number 65,534".
+pub fn floor_bounds() -> Bounds
+    ensures { λ r. ⌜ Fits r × NumbersOf wholeFloor r ⌝ }
+{
+    Bounds {
+        stations: 16,
+        carts: 64,
+        held: 32,
+        last: 65534,
+    }
+}
+
+// The demonstration kit: "at most 4 stations, 8 carts and 8 held messages"; the last number is the floor's.
+pub fn kit_bounds() -> Bounds
+    ensures { λ r. ⌜ Fits r × NumbersOf kit r ⌝ }
+{
+    Bounds {
+        stations: 4,
+        carts: 8,
+        held: 8,
+        last: 65534,
+    }
+}
