@@ -30,7 +30,7 @@ nearestRow F t c row n = listOf 16 (λ s. roomCode (nearestAmong F t c s (getD r
 abbrev pub stopIn : Floor → ℕ → List ℕ → List ℕ → ℕ → ℕ
 stopIn F t row nearest s = stopBy F t s (getD row s 0) (roomIn (getD nearest s 0)) .upto
 
--- no next number falls, and "last number 65,534": none rises by more than can be sent
+-- no next number falls, and none rises by 2^32 or more: sixteen of them can be summed in a word
 abbrev pub Rises : List ℕ → List ℕ → Type 0
 Rises row upto = (s : ℕ) → s < 16 → (getD row s 0 ≤ getD upto s 0) × (getD upto s 0 - getD row s 0 ≤ 4294967295)
 

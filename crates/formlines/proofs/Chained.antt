@@ -55,8 +55,5 @@ unformed l p h = by-test (form l) (λ e. absurd (h e)) (λ e. sym (ap (λ (b : B
 pub formed : (l : List ℕ) (r p : Bool) → form l ≡ true → r ≡ p → r ≡ (form l && p)
 formed l r p e q = q ∙ sym (ap (λ (b : Bool). b && p) e)
 
-pub unpassed : (l : List ℕ) (p : Bool) → false ≡ p → false ≡ (form l && p)
-unpassed l p q = sym (and-false (form l)) ∙ ap (λ (b : Bool). form l && b) q
-
 pub passed : (l : List ℕ) (r p o : Bool) → r ≡ (form l && p) → p ≡ o → r ≡ (form l && o)
 passed l r p o e q = e ∙ ap (λ (b : Bool). form l && b) q

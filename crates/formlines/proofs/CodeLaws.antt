@@ -25,9 +25,6 @@ module _ (R : Rooms) (s x m : ℕ) where
   pub low-room : (w i n : ℕ) (a b : Bool) → m < 32 → w ≡ R .waiting m → i ≡ R .initiator m → n ≡ R .number m → a ≡ (eqb i s && eqb n x) → b ≡ (not (eqb w 0) && a) → b ≡ (ltb m 32 && isIn R s x m)
   low-room w i n a b l p q r e f = rw (lt-ltb m 32 l) (f ∙ ap₂ (λ (y : ℕ) (z : Bool). not (eqb y 0) && z) p (e ∙ ap₂ (λ (y z : ℕ). eqb y s && eqb z x) q r))
 
-  pub slot-below : (b : Bool) → b ≡ (ltb m 32 && isIn R s x m) → not b ≡ false → m < 32
-  slot-below b e h = ltb-true m 32 (and-left (ltb m 32) (isIn R s x m) (sym e ∙ not-false b h))
-
 -- A TABLE OF WHOLE ROWS
 module _ (M : List ℕ) (W : WholeRooms M) (m : ℕ) where
   -- no room beyond it is taken, or has acknowledgements

@@ -11,7 +11,7 @@ use Rattle.protocol.proofs.Tests.{by-test}
 use Rattle.rows.specs.Rows.{cell}
 use Rattle.rows.proofs.RowLaws.{cell-zero, cell-past, update2-column}
 use Rattle.rows.proofs.ColumnLaws.{word-put}
-use Rattle.messages.specs.View.{width, tableWords, HasRoom, roomsOf, roomsIn, noRooms, withAcked, withWaiting, withMessage}
+use Rattle.messages.specs.View.{width, HasRoom, roomsOf, roomsIn, noRooms, withAcked, withWaiting, withMessage}
 
 -- THE WORDS OF A ROW. W m k is word k of room m.
 
@@ -58,10 +58,6 @@ module _ (W : ℕ → ℕ → ℕ) (m s n named waiting octets : ℕ) where
   }
 
 -- THE TABLE
-
--- the whole table has thirty-two rooms
-pub whole-table : (l : List ℕ) → length l ≡ tableWords → (m : ℕ) → m < 32 → HasRoom l m
-whole-table l e m h = omega arith
 
 module _ (l k : List ℕ) (m v : ℕ) where
   pub acked-put : cell width k ≡ update2 (cell width l) m 3 v → roomsIn k ≡ withAcked (roomsIn l) m v

@@ -9,11 +9,7 @@ use borrow.Rule.Slice.PartMut.{putMid, postOf, take-put, drop-put}
 use borrow.Author.Tests.{eq-eqb, ne-eqb}
 use Rattle.protocol.specs.Folds.{update}
 use Rattle.protocol.proofs.Tests.{by-lt, by-eq}
-use Rattle.messages.specs.Texts.{longest, textOctets, HasText, textIn}
-
--- all the parts are those of thirty-two rooms
-pub whole-texts : (l : List ℕ) → length l ≡ textOctets → (m : ℕ) → m < 32 → HasText l m
-whole-texts l e m h = omega arith
+use Rattle.messages.specs.Texts.{longest, HasText, textIn}
 
 -- a text within its part
 pub length-text : (l : List ℕ) (n m : ℕ) → HasText l m → n ≤ longest → length (textIn l n m) ≡ n

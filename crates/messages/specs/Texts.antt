@@ -8,10 +8,6 @@ use Rattle.rows.specs.Rows.{RowIn}
 abbrev pub longest : ℕ
 longest = 32
 
--- the octets of all the parts
-abbrev pub textOctets : ℕ
-textOctets = 1024
-
 -- there is a part for room m
 abbrev pub HasText : List ℕ → ℕ → Type 0
 HasText texts m = RowIn longest texts m

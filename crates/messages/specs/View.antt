@@ -10,10 +10,6 @@ use Rattle.rows.specs.Rows.{cell, RowIn}
 abbrev pub width : ℕ
 width = 6
 
--- the words of the whole table: "At most 32 held messages"
-abbrev pub tableWords : ℕ
-tableWords = 192
-
 -- the table has a row for room m
 abbrev pub HasRoom : List ℕ → ℕ → Type 0
 HasRoom words m = RowIn width words m

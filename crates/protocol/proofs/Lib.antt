@@ -29,5 +29,6 @@ pub mod FormRule
 pub mod Ready
 pub mod ExamplesHold
 pub mod InRange
+pub mod Width
 pub mod QueueOrder
 pub mod Theorems

@@ -1,15 +1,15 @@
-use mathlib.Core.Path.{_≡_, refl, subst, sym, _≡_}
+use mathlib.Core.Path.{_≡_, ap, refl, subst, sym}
 use mathlib.Core.Bool.{false, not, true}
 use mathlib.Core.Option.{some}
 use mathlib.Core.List.{List, map}
-use Prim.Native.Nat.{_*_, _+_, _-_, _<_, max, suc, ℕ, _≤_}
-use native.Mathlib.Nat.{mul-le-mul-left}
+use Prim.Native.Nat.{_*_, _+_, _-_, _<_, _^_, max, suc, ℕ, _≤_}
+use native.Mathlib.Nat.{mul-le-mul-left, mul-le-mul-right}
 use native.Mathlib.Omega.{arith}
 use lib.Dec.{eqb}
 use lib.ListN.{length}
 use borrow.Author.Tests.{ne-eqb}
 use Rattle.protocol.specs.Folds.{count, sum}
-use Rattle.protocol.specs.Floor.{Floor, Limits, Record, at, justStarted, limits, onTheLines}
+use Rattle.protocol.specs.Floor.{Floor, Limits, Record, at, justStarted, kit, limits, limitsOf, mostRecords, onTheLines}
 use Rattle.protocol.specs.Events.{Event, Report, accepted, refused, start}
 use Rattle.protocol.specs.Handoff.{entryOf, onRegister}
 use Rattle.protocol.specs.Wireless.{queueHead}
@@ -19,7 +19,7 @@ use Rattle.protocol.specs.Refusals.{refusal, refusalIf, wrongSize}
 use Rattle.protocol.specs.Step.{accept, answer, floorAfter, step}
 use Rattle.protocol.specs.TwoLists.{TwoListRule, bothEmpty, listsAfter, owes}
 use Rattle.protocol.specs.SumRule.{gains, total}
-use Rattle.protocol.specs.Ranges.{InRange}
+use Rattle.protocol.specs.Ranges.{InRange, NumbersBelow, Wide}
 use Rattle.protocol.specs.Examples.{examples, outcome}
 use Rattle.protocol.proofs.Tests.{by-eq}
 use Rattle.protocol.proofs.Accepted.{passed-check}
@@ -32,6 +32,7 @@ use Rattle.protocol.proofs.Sized.{CountsFit}
 use Rattle.protocol.proofs.FormTest.{clauses-of, form-of, sized-of}
 use Rattle.protocol.proofs.FormRule.{form-bound, form-kept, form-started}
 use Rattle.protocol.proofs.Ready.{ready-run, ready-unstarted, right-size, started-after, unstarted-fails}
+use Rattle.protocol.proofs.Width.{numbers-below}
 use Rattle.protocol.proofs.ExamplesHold.{table-holds}
 use Rattle.protocol.proofs.InRange.{in-range, step-most}
 use Rattle.protocol.proofs.QueueOrder.{head-first}
@@ -117,17 +118,45 @@ passed-in-range M F e l B h a =
     let z = step-most M F (past M F X) (some-history M F X) (sized-of M F B P) e in
     rw a at z
 
--- for the floor: at most 16 × 65,535
-pub floor-passed : (F : Floor) (e : Event) (l : Report) → BlankBeyond limits F → passesForm limits F ≡ true → answer limits F e ≡ accepted l → l .p ≤ 1048560
-floor-passed F e l B h a =
-    let p = passed-in-range limits F e l B h a in
-    let r = numbers-in-range limits F B h in
+-- NUMBERS OF A WIDTH: on every floor that passes, every message number, next number and expected number, in every record that carries it
+pub numbers-of-width : (w : ℕ) (M : Limits) (F : Floor) → Wide w M → BlankBeyond M F → passesForm M F ≡ true → NumbersBelow (2 ^ w) M F
+numbers-of-width w M F wide B h = numbers-below (2 ^ w) M F (omega arith) (form-of M F B (clauses-of M F h)) (numbers-in-range M F B h)
+
+-- and p, which needs a wider word: at most stations × (2^w − 1), or the number of carts where that is more
+pub passed-of-width : (w : ℕ) (M : Limits) (F : Floor) (e : Event) (l : Report) → Wide w M → BlankBeyond M F → passesForm M F ≡ true → answer M F e ≡ accepted l
+    → l .p ≤ max (M .stations * (2 ^ w - 1)) (M .carts)
+passed-of-width w M F e l wide B h a =
+    let p = passed-in-range M F e l B h a in
+    let r = numbers-in-range M F B h in
     let n = r .stations in
     let k = r .carts in
+    let last : suc (M .last) ≡ 2 ^ w - 1 = omega arith in
+    let most : F .stations * suc (M .last) ≤ M .stations * suc (M .last) = mul-le-mul-right (suc (M .last)) n in
+    let same : M .stations * suc (M .last) ≡ M .stations * (2 ^ w - 1) = ap (λ (x : ℕ). M .stations * x) last in
     omega arith
 
+-- "last number 65,534": the floor's numbers are of 16 bits, and the kit's
+floor-wide : Wide 16 limits
+floor-wide = refl
+
+kit-wide : Wide 16 (limitsOf kit)
+kit-wide = refl
+
+pub floor-numbers : (F : Floor) → BlankBeyond limits F → passesForm limits F ≡ true → NumbersBelow 65536 limits F
+floor-numbers F B h = numbers-of-width 16 limits F floor-wide B h
+
+pub kit-numbers : (F : Floor) → BlankBeyond (limitsOf kit) F → passesForm (limitsOf kit) F ≡ true → NumbersBelow 65536 (limitsOf kit) F
+kit-numbers F B h = numbers-of-width 16 (limitsOf kit) F kit-wide B h
+
+-- p: for the floor at most 16 × 65,535, for the kit at most 4 × 65,535
+pub floor-passed : (F : Floor) (e : Event) (l : Report) → BlankBeyond limits F → passesForm limits F ≡ true → answer limits F e ≡ accepted l → l .p ≤ 1048560
+floor-passed F e l B h a = passed-of-width 16 limits F e l floor-wide B h a
+
+pub kit-passed : (F : Floor) (e : Event) (l : Report) → BlankBeyond (limitsOf kit) F → passesForm (limitsOf kit) F ≡ true → answer (limitsOf kit) F e ≡ accepted l → l .p ≤ 262140
+kit-passed F e l B h a = passed-of-width 16 (limitsOf kit) F e l kit-wide B h a
+
 -- THE RECORD BOUND: "No event may be refused for want of room on a line": on every floor that passes, reached or not
-pub record-bound : (M : Limits) (F : Floor) → BlankBeyond M F → passesForm M F ≡ true → onTheLines (F .stations) (F .lines) ≤ M .held * (M .stations + M .stations + M .carts) + M .carts
+pub record-bound : (M : Limits) (F : Floor) → BlankBeyond M F → passesForm M F ≡ true → onTheLines (F .stations) (F .lines) ≤ mostRecords M
 record-bound M F B h =
     let c = sized-of M F B (clauses-of M F h) .counts in
     let r = form-bound M F B h in

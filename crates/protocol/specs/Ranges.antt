@@ -1,4 +1,6 @@
 -- "with nothing out of range": the numbers that are stored for a floor, each in its range.
+use mathlib.Core.Path.{_≡_}
+use mathlib.Core.List.{List, [], _∷_}
 use Prim.Native.Nat.{ℕ, suc, _^_, _<_, _≤_}
 use lib.ListN.{length}
 use Rattle.protocol.specs.Floor.{Limits, Place, outside, at, leaving, travelling, Record, multicast, ackList, delete, deregister, register, Floor}
@@ -37,3 +39,28 @@ pub record InRange (M : Limits) (F : Floor) : Type 0 where
   pub acks : (m t : ℕ) → m < M .held → t < M .stations → F .acks m t < 2 ^ F .carts
   pub queue : (m t : ℕ) → m < M .held → t < M .stations → F .queue m t < 2 ^ F .carts
   pub records : (i j : ℕ) → All (RecordInRange (M .last) (F .carts)) (F .lines i j)
+
+-- A WIDTH: numbers of w bits, of which the greatest stands only for one past the last message number
+abbrev pub Wide : ℕ → Limits → Type 0
+Wide w M = suc (suc (M .last)) ≡ 2 ^ w
+
+-- each number of a row is below b
+abbrev pub EachBelow : ℕ → List ℕ → Type 0
+EachBelow b [] = Unit {0}
+EachBelow b (x ∷ l) = (x < b) × EachBelow b l
+
+-- the message number of a record is below b, and so is each next number that it carries
+abbrev pub RecordBelow : ℕ → Record → Type 0
+RecordBelow b (multicast n) = n < b
+RecordBelow b (ackList n x) = n < b
+RecordBelow b (delete n) = n < b
+RecordBelow b (deregister c) = Unit {0}
+RecordBelow b (register c row) = EachBelow b row
+
+-- the numbers of messages, the next numbers and the expected numbers, in every record that carries them, are below b
+pub record NumbersBelow (b : ℕ) (M : Limits) (F : Floor) : Type 0 where
+  pub sent : (s : ℕ) → F .sent s < b
+  pub expected : (t s : ℕ) → t < F .stations → F .expected t s < b
+  pub next : (c s : ℕ) → F .next c s < b
+  pub number : (m : ℕ) → m < M .held → 0 < F .waiting m → F .number m < b
+  pub records : (i j : ℕ) → i < F .stations → j < F .stations → All (RecordBelow b) (F .lines i j)

@@ -22,10 +22,6 @@ initiators = 16
 abbrev pub rooms : ℕ
 rooms = 32
 
--- the words of the whole table: the floor's own row, and sixteen stations
-abbrev pub tableWords : ℕ
-tableWords = 1972
-
 -- the table has the floor's own row
 abbrev pub HasHead : List ℕ → Type 0
 HasHead words = RowIn width words 0
