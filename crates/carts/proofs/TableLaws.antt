@@ -7,12 +7,11 @@ use native.Mathlib.Omega.{arith}
 use lib.Bits.{bitOr, or-add-and, and-le-l, and-le-r}
 use lib.Dec.{eqb, ltb}
 use lib.ListN.{length, getD, set, length-set, List·getD-eq-default}
-use lib.Seq.{getD-set-same, getD-set-other, ext-getD}
 use borrow.Author.Tests.{lt-ltb, le-ltb, eq-eqb, ne-eqb, eqb-true}
-use Rattle.protocol.specs.Folds.{listOf, update, update2}
+use Rattle.protocol.specs.Folds.{update, update2}
 use Rattle.protocol.specs.Floor.{outside, Carts}
 use Rattle.protocol.specs.Handoff.{entryOf}
-use Rattle.protocol.proofs.Tests.{by-test, by-lt, by-eq, same-test, and-intro, and-second-false, both-equal, length-listOf, listOf-at}
+use Rattle.protocol.proofs.Tests.{by-test, by-lt, by-eq, same-test, and-intro, and-second-false, both-equal}
 use Rattle.rows.specs.Rows.{cell}
 use Rattle.carts.specs.Words.{width, HasRow, placeIn, canonical}
 use Rattle.carts.specs.View.{cartsIn, canonicalIn, noCarts, withPlace, withNext, withRow}
@@ -158,20 +157,6 @@ module _ (l : List ℕ) (c x y z : ℕ) (row : HasRow l c) where
   place-put-canonical = ap canonicalOf put-cells ∙ cells-canonical (cell 19 l) c x y z
 
 -- A ROW OF NEXT NUMBERS
-
--- the first i entries of a row are f's
-abbrev pub ReadTo : (ℕ → ℕ) → List ℕ → ℕ → Type 0
-ReadTo f row i = (k : ℕ) → k < i → getD row k 0 ≡ f k
-
-pub read-one : (f : ℕ → ℕ) (row : List ℕ) (i v : ℕ) → i < length row → v ≡ f i → ReadTo f row i → ReadTo f (set row i v) (i + 1)
-read-one f row i v h e before k l =
-    by-eq k i
-    (λ q. ap (λ (n : ℕ). getD (set row i v) n 0) q ∙ getD-set-same row i v 0 h ∙ e ∙ ap f (sym q))
-    (λ q. getD-set-other row i k v 0 q ∙ before k (omega arith))
-
-pub read-all : (n : ℕ) (f : ℕ → ℕ) (row : List ℕ) (i : ℕ) → length row ≡ n → n ≤ i → ReadTo f row i → row ≡ listOf n f
-read-all n f row i e h r =
-    ext-getD 0 row (listOf n f) (e ∙ sym (length-listOf n f)) (λ k l. r k (omega arith) ∙ sym (listOf-at n f 0 k (omega arith)))
 
 -- the first i entries of cart c's row are the row's
 abbrev pub writtenTo : ℕ → Carts → ℕ → List ℕ → Carts

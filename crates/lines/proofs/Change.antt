@@ -17,7 +17,7 @@ use Rattle.lines.proofs.Formed.{Formed, standsTo, length-rows, length-l
 
 pub capacity-same : (l l′ : List ℕ) → length l′ ≡ length l → capacity l′ ≡ capacity l
 unfolding capacity
-capacity-same l l′ e = ap (λ (n : ℕ). (n - 818) / 3) e
+capacity-same l l′ e = ap (λ (n : ℕ). (n - 1842) / 3) e
 
 module _ (l l′ : List ℕ) (k : ℕ) (hk : k < 256) (others : (j : ℕ) → j < 256 → (j ≡ k → ⊥) → rowsOf l′ j ≡ rowsOf l j) where
   pub stands-change : (x : ℕ) → standsTo l′ 256 x + count x (rowsOf l k) ≡ standsTo l 256 x + count x (rowsOf l′ k)
@@ -36,7 +36,7 @@ module _ (l l′ : List ℕ) (k : ℕ) (hk : k < 256) (others : (j : ℕ) → j 
       → allBelow (capacity l) (rowsOf l′ k) ≡ true → lastOf (tailOf l′ k) (rowsOf l′ k) ≡ tailOf l′ k
       → ((x : ℕ) → x < 3136 → standsTo l′ 256 x + bitAt l′ x ≡ standsTo l 256 x + bitAt l x) → summaryOk l′ ≡ true → Formed l′
   formed-change w long tails below last rows summary = let room = capacity-same l l′ long in record {
-    long = long ∙ w .long ∙ ap (λ (n : ℕ). 818 + n * 3) (sym room);
+    long = long ∙ w .long ∙ ap (λ (n : ℕ). 1842 + n * 3) (sym room);
     most = omega (arith, w .most);
     below = λ j hj. subst (λ (n : ℕ). allBelow n (rowsOf l′ j) ≡ true) (sym room) (below-at j hj (ℕ-discrete j k));
     last = λ j hj. last-at j hj (ℕ-discrete j k);

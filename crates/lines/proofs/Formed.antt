@@ -34,7 +34,7 @@ count-lines l x zero = refl
 count-lines l x (suc n) = count-append x (rowsOnLines l n) (rowsOf l n) ∙ ap (λ (y : ℕ). y + count x (rowsOf l n)) (count-lines l x n)
 
 pub record Formed (l : List ℕ) : Type 0 where
-  pub long : length l ≡ 818 + capacity l * 3
+  pub long : length l ≡ 1842 + capacity l * 3
   pub most : capacity l ≤ 3136
   pub below : (k : ℕ) → k < 256 → allBelow (capacity l) (rowsOf l k) ≡ true
   pub last : (k : ℕ) → k < 256 → lastOf (tailOf l k) (rowsOf l k) ≡ tailOf l k
@@ -42,15 +42,15 @@ pub record Formed (l : List ℕ) : Type 0 where
   pub summary : summaryOk l ≡ true
 
 -- ---- the parts of the test
-pub sized-of : (l : List ℕ) → sized l ≡ true → (length l ≡ 818 + capacity l * 3) × (capacity l ≤ 3136)
+pub sized-of : (l : List ℕ) → sized l ≡ true → (length l ≡ 1842 + capacity l * 3) × (capacity l ≤ 3136)
 unfolding sized
 sized-of l e =
-    let w = and-true (eqb (length l) (818 + capacity l * 3)) (leb (capacity l) 3136) e in
-    (eqb-true (length l) (818 + capacity l * 3) (w .0), leb-true (capacity l) 3136 (w .1))
+    let w = and-true (eqb (length l) (1842 + capacity l * 3)) (leb (capacity l) 3136) e in
+    (eqb-true (length l) (1842 + capacity l * 3) (w .0), leb-true (capacity l) 3136 (w .1))
 
-pub of-sized : (l : List ℕ) → length l ≡ 818 + capacity l * 3 → capacity l ≤ 3136 → sized l ≡ true
+pub of-sized : (l : List ℕ) → length l ≡ 1842 + capacity l * 3 → capacity l ≤ 3136 → sized l ≡ true
 unfolding sized
-of-sized l e h = ap₂ _&&_ (eq-eqb (length l) (818 + capacity l * 3) e) (le-leb (capacity l) 3136 h)
+of-sized l e h = ap₂ _&&_ (eq-eqb (length l) (1842 + capacity l * 3) e) (le-leb (capacity l) 3136 h)
 
 pub line-of : (l : List ℕ) (k : ℕ) → lineOk l k ≡ true → (allBelow (capacity l) (rowsOf l k) ≡ true) × (lastOf (tailOf l k) (rowsOf l k) ≡ tailOf l k)
 unfolding lineOk

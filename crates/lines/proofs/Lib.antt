@@ -5,6 +5,7 @@ pub mod Bitmap
 pub mod Chains
 pub mod Formed
 pub mod Change
+pub mod Registers
 pub mod Push
 pub mod Holding
 pub mod Pop

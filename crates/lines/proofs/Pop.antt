@@ -20,6 +20,7 @@ use Rattle.lines.proofs.Digits.{same-yes, same-no}
 use Rattle.lines.proofs.Sums.{count-cons, below-head}
 use Rattle.lines.proofs.Bitmap.{bits-same, summary-same}
 use Rattle.lines.proofs.Change.{capacity-same, stands-change, used-change, formed-change}
+use Rattle.lines.proofs.Registers.{registers-kept}
 use Rattle.lines.proofs.Formed.{Formed, form-formed, formed-form, standsTo, m-of, rows-head, head-below, at-most-once, some-long}
 
 last-less : (t x : ℕ) (a : List ℕ) → lastOf t (x ∷ a) ≡ t → lastOf t a ≡ t
@@ -134,6 +135,7 @@ module _ (l l2 : List ℕ) (k n : ℕ) (w : Formed l) (hk : k < 256) (some : 0 <
     formed = formed-form l2 formed-less;
     line = line-less;
     others = line-other;
+    registers = registers-kept l l2 (λ a h1 h2. other a (omega arith) (omega arith) (omega arith));
     fewer = omega (arith, used-change l l2 k hk rows-other, length-is, en, some);
     room = capacity-same l l2 same;
     words = same;

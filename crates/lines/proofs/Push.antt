@@ -15,13 +15,14 @@ use Rattle.lines.specs.Bits.{bitAt}
 use Rattle.lines.specs.Words.{capacity, lineAt, rowAt, headOf, tailOf, lengthOf, nextOf}
 use Rattle.lines.specs.Lines.{chain, rowsOf, recordOf, lineOf}
 use Rattle.lines.specs.Form.{count, allBelow, lastOf, form}
-use Rattle.lines.specs.Post.{Pushed}
+use Rattle.lines.specs.Post.{SameRegisters, Pushed}
 use Rattle.lines.specs.Parts.{Taken, Link, Fits, joined}
 use Rattle.lines.proofs.Digits.{same-yes, same-no}
 use Rattle.lines.proofs.Sums.{count-end, below-end, last-end, map-same, map-append}
 use Rattle.lines.proofs.Bitmap.{bits-same, summary-same}
 use Rattle.lines.proofs.Chains.{chain-none, chain-one, chain-same, chain-join}
 use Rattle.lines.proofs.Change.{capacity-same, stands-change, used-change, formed-change}
+use Rattle.lines.proofs.Registers.{registers-kept}
 use Rattle.lines.proofs.Formed.{Formed, form-formed, formed-form, standsTo, some-below, m-of, tail-below, tail-nth, rows-last, at-most-once, stands-line, stands-lines, line-short}
 
 -- ---- the stores
@@ -218,11 +219,17 @@ module _ (l l1 : List ℕ) (at k f n : ℕ) (r : Record) (w : Formed l) (hk : k 
       ap (map (recordOf l2)) rows-line ∙ map-append (recordOf l2) (rowsOf l k) (f ∷ [])
       ∙ ap₂ (λ (a : List Record) (x : Record). a ++ (x ∷ [])) (map-same (recordOf l2) (recordOf l) f (rowsOf l k) (f-off k hk) (stored .words)) (stored .word)
 
+  -- the registers lie in other words
+  same-registers : SameRegisters l l2
+  same-registers = registers-kept l l2
+      (λ a h1 h2. other a (omega arith) (omega arith) (omega arith) (not-link a (omega arith) (omega arith)) (omega arith) (omega arith))
+
   pushed : Pushed l l2 k r
   pushed = record {
     formed = formed-form l2 formed-more;
     line = line-more;
     others = line-other;
+    registers = same-registers;
     more = omega (arith, used-change l l2 k hk rows-other, stored .more);
     room = capacity-same l l2 long-same;
     words = long-same;

@@ -83,7 +83,7 @@ module _ (l l1 l2 : List ℕ) (e : sized l ≡ true) (f : AllFree l l1) (g : Emp
   formed-start : Formed l2
   unfolding allBelow lastOf
   formed-start = record {
-    long = same ∙ sized-of l e .0 ∙ ap (λ (n : ℕ). 818 + n * 3) (sym cap-same);
+    long = same ∙ sized-of l e .0 ∙ ap (λ (n : ℕ). 1842 + n * 3) (sym cap-same);
     most = omega (arith, cap-same, sized-of l e .1);
     below = λ k h. ap (allBelow (capacity l2)) (rows-none k h);
     last = λ k h. ap (lastOf (tailOf l2 k)) (rows-none k h);

@@ -31,16 +31,16 @@ and-yes false b e = refl
 
 -- ---- the length
 module _ (l : List ℕ) where
-  pub short-fails : length l < 818 → false ≡ sized l
+  pub short-fails : length l < 1842 → false ≡ sized l
   short-fails h = not-true-false (sized l) (λ t. omega (arith, sized-of l t .0))
 
   pub large-fails : (rows : ℕ) → rows ≡ capacity l → 3136 < rows → false ≡ sized l
   large-fails rows e h = not-true-false (sized l) (λ t. omega (arith, sized-of l t .1))
 
-  pub sized-end : (rows : ℕ) → rows ≡ capacity l → rows ≤ 3136 → eqb (length l) (818 + rows * 3) ≡ sized l
+  pub sized-end : (rows : ℕ) → rows ≡ capacity l → rows ≤ 3136 → eqb (length l) (1842 + rows * 3) ≡ sized l
   unfolding sized
   sized-end rows e h =
-      ap (λ (n : ℕ). eqb (length l) (818 + n * 3)) e ∙ sym (and-yes (eqb (length l) (818 + capacity l * 3)) (leb (capacity l) 3136) (le-leb (capacity l) 3136 (omega arith)))
+      ap (λ (n : ℕ). eqb (length l) (1842 + n * 3)) e ∙ sym (and-yes (eqb (length l) (1842 + capacity l * 3)) (leb (capacity l) 3136) (le-leb (capacity l) 3136 (omega arith)))
 
 -- ---- the summary
 abbrev pub summaryTest : List ℕ → ℕ → Bool

@@ -1,10 +1,12 @@
--- The lines as lists of records.
+-- The lines as lists of records, and the rows of the registers.
+use mathlib.Core.Bool.{cond, _&&_}
 use mathlib.Core.List.{List, [], _∷_, map}
-use Prim.Native.Nat.{ℕ, zero, suc}
-use lib.ListN.{length}
+use Prim.Native.Nat.{ℕ, zero, suc, _+_}
+use lib.Dec.{ltb}
+use lib.ListN.{length, getD}
 use Rattle.protocol.specs.Folds.{sum}
 use Rattle.lines.specs.declared.Record.{Record}
-use Rattle.lines.specs.Words.{lineCount, headOf, lengthOf, nextOf, wordOf, cartsOf}
+use Rattle.lines.specs.Words.{lineCount, mostCarts, registerAt, headOf, lengthOf, nextOf, wordOf, cartsOf}
 
 -- n rows, each but the first the next of the one before
 unfoldable pub chain : (ℕ → ℕ) → ℕ → ℕ → List ℕ
@@ -30,3 +32,7 @@ recordsFrom l x n = map (recordOf l) (chain (nextOf l) x n)
 -- how many records are on the lines
 unfoldable pub used : List ℕ → ℕ
 used l = sum lineCount (λ k. length (lineOf l k))
+
+-- "the register record carries the cart's whole row of next numbers": word s of the row of cart c's register; 0 beyond 64 carts and 16 words
+unfoldable pub registersIn : List ℕ → ℕ → ℕ → ℕ
+registersIn l c s = cond (ltb c mostCarts && ltb s 16) (getD l (registerAt c + s) 0) 0

@@ -14,16 +14,26 @@ mostRows = 3136
 abbrev pub lineCount : ℕ
 lineCount = 256
 
--- where the lines begin, and the rows
+-- how many carts may have a register on the lines
+abbrev pub mostCarts : ℕ
+mostCarts = 64
+
+-- where the lines begin, the registers and the rows
 abbrev pub linesAt : ℕ
 linesAt = 50
 
-abbrev pub rowsAt : ℕ
-rowsAt = 818
+abbrev pub registersAt : ℕ
+registersAt = 818
 
--- where line k stands, and row x
+abbrev pub rowsAt : ℕ
+rowsAt = 1842
+
+-- where line k stands, the register of cart c and row x
 abbrev pub lineAt : ℕ → ℕ
 lineAt k = linesAt + k * 3
+
+abbrev pub registerAt : ℕ → ℕ
+registerAt c = registersAt + c * 16
 
 abbrev pub rowAt : ℕ → ℕ
 rowAt x = rowsAt + x * 3

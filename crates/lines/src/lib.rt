@@ -2,8 +2,10 @@
 //   words 0 to 48     which rows are free: row r is bit r % 64 of word r / 64, and 1 is free
 //   word 49           the summary: bit w is 1 exactly where word w is not 0
 //   words 50 to 817   line k = i * 16 + j, from station i to j: its head row, its tail row, its length
-//   words 818 and on  the rows: the next row of the line, then the record's word and carts
-// A head and a tail have no meaning where the length is 0, nor has the next row of a tail. A push takes the lowest free row, by the lowest
+//   words 818 to 1841 the registers: for each of 64 carts, the sixteen next numbers that its register carries
+//   words 1842 and on the rows: the next row of the line, then the record's word and carts
+// A head and a tail have no meaning where the length is 0, nor has the next row of a tail, nor the row of a cart whose register is on no line:
+// a cart has one register at most, so its number finds the row. A push takes the lowest free row, by the lowest
 // bit of the summary and that of its word, so no free rows need a list, and push and pop cost the same whatever the pool holds.
 ghost use mathlib.Core.Path.{_≡_};
 ghost use mathlib.Core.Bool.{true};
@@ -11,14 +13,14 @@ ghost use mathlib.Core.List.{_∷_};
 ghost use Prim.Native.Nat.{ℕ, _+_, _-_, _*_, _<_, _≤_};
 ghost use lib.ListN.{length, drop};
 ghost use lib.Dec.{eqb, ltb};
-ghost use Rattle.protocol.specs.Folds.{every};
+ghost use Rattle.protocol.specs.Folds.{every, listOf};
 ghost use Rattle.protocol.specs.CartSets.{digit};
 ghost use Rattle.protocol.specs.Form.{bit};
 ghost use Rattle.lines.specs.Bits.{bitAt, lowestOf};
-ghost use Rattle.lines.specs.Words.{freeWords, mostRows, lineCount, linesAt, rowsAt, lineAt, rowAt, headOf, tailOf, lengthOf, nextOf, capacity, summaryOf};
-ghost use Rattle.lines.specs.Lines.{recordOf, lineOf, used};
+ghost use Rattle.lines.specs.Words.{freeWords, mostRows, lineCount, mostCarts, linesAt, rowsAt, lineAt, rowAt, headOf, tailOf, lengthOf, nextOf, capacity, summaryOf};
+ghost use Rattle.lines.specs.Lines.{recordOf, lineOf, used, registersIn};
 ghost use Rattle.lines.specs.Form.{form, sized, rowsOk, summaryOk};
-ghost use Rattle.lines.specs.Post.{Pushed, Popped, Cleared};
+ghost use Rattle.lines.specs.Post.{Pushed, Popped, Cleared, Carried};
 ghost use Rattle.lines.specs.Holding.{released, Holds};
 ghost use Rattle.lines.specs.Parts.{With, Without, Summed, Full, Freed, Taken, Given, AllFree, Emptied, Link, Fits, joined, left, Marked, Walked, Surveyed};
 
@@ -30,7 +32,11 @@ const LINE_COUNT: usize = 256;
 
 const LINE_WORDS: usize = 3;
 
-const ROWS: usize = 818;
+const REGISTERS: usize = 818;
+
+const REGISTER_WORDS: usize = 16;
+
+const ROWS: usize = 1842;
 
 const ROW_WORDS: usize = 3;
 
@@ -359,6 +365,36 @@ pub fn pop_front(pool: &mut [u64], i: usize, j: usize)
     let n = length_of(pool, k);
     leave(pool, k, next_of(pool, row), n);
     give_row(pool, row);
+}
+
+// ---- The registers.
+
+// "the register record carries the cart's whole row of next numbers": that of the cart's register.
+pub fn register_of(pool: &[u64], cart: usize) -> [u64; 16]
+    requires { ⌜ (cart < mostCarts) × (rowsAt ≤ length (now pool)) ⌝ }
+    ensures { λ r. ⌜ r ≡ listOf 16 (registersIn (now (pool .entry)) cart) ⌝ }
+{
+    let at = REGISTERS + cart * REGISTER_WORDS;
+    let mut row = [0u64; 16];
+    let mut s: usize = 0;
+    while s < REGISTER_WORDS {
+        row[s] = pool[at + s];
+        s += 1;
+    }
+    row
+}
+
+// The cart's register carries that row.
+pub fn put_register(pool: &mut [u64], cart: usize, row: [u64; 16])
+    requires { ⌜ (cart < mostCarts) × (form (now pool) ≡ true) ⌝ }
+    ensures { λ _. ⌜ Carried (now (pool .entry)) (now (pool .exit)) cart row ⌝ }
+{
+    let at = REGISTERS + cart * REGISTER_WORDS;
+    let mut s: usize = 0;
+    while s < REGISTER_WORDS {
+        pool[at + s] = row[s];
+        s += 1;
+    }
 }
 
 // ---- The start.

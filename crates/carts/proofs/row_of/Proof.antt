@@ -5,7 +5,7 @@ use native.Mathlib.Omega.{arith}
 use lib.ListN.{length, length-set}
 use borrow.Author.Needs.{needs}
 use Rattle.carts.specs.View.{cartsIn}
-use Rattle.carts.proofs.TableLaws.{ReadTo, read-one, read-all}
+use Rattle.rows.proofs.WordByWord.{ReadTo, read-one, read-all}
 use Rattle.carts.proofs.row_of.Statement.{statement}
 use Rattle.carts.proofs.row_of.Tie as tie
 

@@ -7,7 +7,7 @@ use native.Mathlib.Omega.{arith}
 use denote.Ref.{now}
 use lib.ListN.{length, length-set}
 use Rattle.protocol.specs.Folds.{every}
-use Rattle.carts.proofs.TableLaws.{ReadTo, read-one, read-all}
+use Rattle.rows.proofs.WordByWord.{ReadTo, read-one, read-all}
 use Rattle.messages.specs.View.{roomsIn}
 use Rattle.stations.specs.View.{stationsIn}
 use Rattle.formlines.specs.Pass.{gathered, apart, isTaken}
