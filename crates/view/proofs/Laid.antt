@@ -18,7 +18,7 @@ use Rattle.messages.specs.View.{roomsIn}
 use Rattle.lines.specs.declared.Record as word
 use Rattle.lines.specs.Lines.{lineOf}
 use Rattle.lines.specs.Form.{form}
-use Rattle.lines.specs.Post.{Pushed, Popped}
+use Rattle.lines.specs.Post.{Pushed, Popped, Carried}
 use Rattle.view.specs.Records.{roomRight}
 use Rattle.view.specs.View.{Lent, lent, localRight, everyWord, lineRight, shortText, roomsRight, wordsIn}
 use Rattle.view.proofs.LinesView.{same-line, line-below}
@@ -197,4 +197,16 @@ module _ {P : Product} (S C M W T : List ℕ) (X : Laid (lent P S C M W T)) wher
             (λ q. let z = same-line i j a b lj lb q in
             rw (z .0, z .1) (rw (p .line) (words-drop (roomRight (roomsIn M) a b) (lineOf W (a * 16 + b)) (X .rooms a b la lb))))
             (λ q. rw (p .others (i * 16 + j) (line-below i j li lj) q) (X .rooms i j li lj));
+      }
+
+  -- the register of a cart gets its row
+  pub laid-carry : (W′ : List ℕ) (c : ℕ) (row : List ℕ) → Carried W W′ c row → Laid (lent P S C M W′ T)
+  laid-carry W′ c row p =
+      record {
+        chains = p .formed;
+        canonical = X .canonical;
+        local = X .local;
+        short = X .short;
+        few = X .few;
+        rooms = λ i j li lj. rw (p .lines (i * 16 + j) (line-below i j li lj)) (X .rooms i j li lj);
       }

@@ -23,7 +23,7 @@ pub record Lengths (L : Lent) : Type 0 where
   pub stations : length (L .stations) ≡ 116 + L .product .stations * 116
   pub carts : length (L .carts) ≡ L .product .carts * 19
   pub messages : length (L .messages) ≡ L .product .held * 6
-  pub lines : length (L .lines) ≡ 818 + mostRecords (limitsOf (L .product)) * 3
+  pub lines : length (L .lines) ≡ 1842 + mostRecords (limitsOf (L .product)) * 3
   pub texts : length (L .texts) ≡ L .product .held * 32
 
 pub lengths-of : (L : Lent) → lengthsIn L ≡ true → Lengths L
@@ -33,7 +33,7 @@ lengths-of L e =
     let a = eqb (length (L .stations)) (116 + P .stations * 116) in
     let b = eqb (length (L .carts)) (P .carts * 19) in
     let c = eqb (length (L .messages)) (P .held * 6) in
-    let d = eqb (length (L .lines)) (818 + mostRecords (limitsOf P) * 3) in
+    let d = eqb (length (L .lines)) (1842 + mostRecords (limitsOf P) * 3) in
     let f = eqb (length (L .texts)) (P .held * 32) in
     let r = and-right a (b && (c && (d && f))) e in
     let q = and-right b (c && (d && f)) r in
@@ -74,7 +74,7 @@ nothing-beyond L h laid =
         right = λ m t l. queue-past (L .stations) t (omega arith) m;
       };
       lines = record {
-        below = λ i j l. line-beyond (cartsIn (L .carts) .next) (L .lines) i j (λ x y. omega arith);
-        right = λ i j l. line-beyond (cartsIn (L .carts) .next) (L .lines) i j (λ x y. omega arith);
+        below = λ i j l. line-beyond (L .lines) i j (λ x y. omega arith);
+        right = λ i j l. line-beyond (L .lines) i j (λ x y. omega arith);
       };
     }

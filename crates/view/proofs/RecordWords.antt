@@ -18,24 +18,24 @@ index-is kind index number h l = omega arith
 pub number-is : (kind index number : ℕ) → kind < 8 → index < 256 → numberOf (wordOf kind index number) ≡ number
 number-is kind index number h l = omega arith
 
-module _ (next : ℕ → ℕ → ℕ) where
-  pub multicast-is : (m n : ℕ) → m < 256 → recordIn next (wordsOf 1 m n 0) ≡ multicast n
+module _ (rows : ℕ → ℕ → ℕ) where
+  pub multicast-is : (m n : ℕ) → m < 256 → recordIn rows (wordsOf 1 m n 0) ≡ multicast n
   unfolding recordIn
   multicast-is m n l = rw (kind-is 1 m n (omega arith), number-is 1 m n (omega arith) l) refl
 
-  pub ack-list-is : (m n x : ℕ) → m < 256 → recordIn next (wordsOf 2 m n x) ≡ ackList n x
+  pub ack-list-is : (m n x : ℕ) → m < 256 → recordIn rows (wordsOf 2 m n x) ≡ ackList n x
   unfolding recordIn
   ack-list-is m n x l = rw (kind-is 2 m n (omega arith), number-is 2 m n (omega arith) l) refl
 
-  pub delete-is : (m n : ℕ) → m < 256 → recordIn next (wordsOf 3 m n 0) ≡ delete n
+  pub delete-is : (m n : ℕ) → m < 256 → recordIn rows (wordsOf 3 m n 0) ≡ delete n
   unfolding recordIn
   delete-is m n l = rw (kind-is 3 m n (omega arith), number-is 3 m n (omega arith) l) refl
 
-  pub deregister-is : (c : ℕ) → c < 256 → recordIn next (wordsOf 4 c 0 0) ≡ deregister c
+  pub deregister-is : (c : ℕ) → c < 256 → recordIn rows (wordsOf 4 c 0 0) ≡ deregister c
   unfolding recordIn
   deregister-is c l = rw (kind-is 4 c 0 (omega arith), index-is 4 c 0 (omega arith) l) refl
 
-  pub register-is : (c : ℕ) → c < 256 → recordIn next (wordsOf 5 c 0 0) ≡ register c (listOf 16 (next c))
+  pub register-is : (c : ℕ) → c < 256 → recordIn rows (wordsOf 5 c 0 0) ≡ register c (listOf 16 (rows c))
   unfolding recordIn
   register-is c l = rw (kind-is 5 c 0 (omega arith), index-is 5 c 0 (omega arith) l) refl
 

@@ -11,7 +11,7 @@ use Rattle.protocol.specs.Form.{bit}
 use Rattle.protocol.proofs.Tests.{by-test}
 use Rattle.protocol.proofs.Counting.{sum-ext, sum-add, sum-nil}
 use Rattle.lines.specs.declared.Record as word
-use Rattle.lines.specs.Lines.{lineOf, used}
+use Rattle.lines.specs.Lines.{lineOf, used, registersIn}
 use Rattle.view.specs.Records.{recordIn, linesIn}
 use Rattle.view.proofs.LinesView.{line-in}
 
@@ -27,13 +27,13 @@ sum-rows f zero = refl
 sum-rows f (suc n) = let z = sum-rows f n in let y = sum-more f (n * 16) 16 in let w : suc n * 16 ≡ n * 16 + 16 = omega arith in let x : sum (suc n * 16) f ≡ sum (n * 16 + 16) f = ap (λ (x : ℕ). sum x f) w in omega arith
 
 -- the records in the pool are those on the lines
-pub used-view : (next : ℕ → ℕ → ℕ) (W : List ℕ) → used W ≡ onTheLines 16 (linesIn next W)
+pub used-view : (W : List ℕ) → used W ≡ onTheLines 16 (linesIn W)
 unfolding used
-used-view next W =
+used-view W =
     sum-rows (λ k. length (lineOf W k)) 16
-    ∙ sum-ext 16 (λ i. sum 16 (λ j. length (lineOf W (i * 16 + j)))) (λ i. sum 16 (λ j. length (linesIn next W i j)))
-    (λ i li. sum-ext 16 (λ j. length (lineOf W (i * 16 + j))) (λ j. length (linesIn next W i j))
-    (λ j lj. sym (ap (λ (l : List Record). length l) (line-in next W i j li lj) ∙ length-map (lineOf W (i * 16 + j)) (recordIn next))))
+    ∙ sum-ext 16 (λ i. sum 16 (λ j. length (lineOf W (i * 16 + j)))) (λ i. sum 16 (λ j. length (linesIn W i j)))
+    (λ i li. sum-ext 16 (λ j. length (lineOf W (i * 16 + j))) (λ j. length (linesIn W i j))
+    (λ j lj. sym (ap (λ (l : List Record). length l) (line-in W i j li lj) ∙ length-map (lineOf W (i * 16 + j)) (recordIn (registersIn W)))))
 
 -- A RECORD IS PUT: as many more as lines are picked
 put-length : (on : ℕ → ℕ → Bool) (r : Record) (lines : ℕ → ℕ → List Record) (i j : ℕ) → length (put on r lines i j) ≡ length (lines i j) + bit (on i j)

@@ -19,7 +19,6 @@ use Rattle.protocol.proofs.Sized.{Sized, OnFloor}
 use Rattle.protocol.proofs.Theorems.{form-closed, record-bound}
 use Rattle.lines.specs.Lines.{used}
 use Rattle.lines.specs.Words.{capacity}
-use Rattle.carts.specs.View.{cartsIn}
 use Rattle.view.specs.View.{Lent, floorIn}
 use Rattle.view.proofs.Lengths.{Lengths, lengths-of, nothing-beyond}
 use Rattle.view.proofs.Laid.{Laid, laid-of}
@@ -78,7 +77,7 @@ module _ (L : Lent) (X : Standing L) where
       let few = X .sized .counts .stations in
       let most = L .product .stations-fit in
       let all : F .stations + (16 - F .stations) ≡ 16 = omega arith in
-      used-view (cartsIn (L .carts) .next) (L .lines)
+      used-view (L .lines)
       ∙ ap (λ (n : ℕ). onTheLines n (F .lines)) (sym all)
       ∙ fewer-stations (F .stations) (16 - F .stations) (F .lines) no-line-from no-line-to
 

@@ -43,5 +43,5 @@ module _ {P : Product} (S C M W₀ W T : List ℕ) (n k : ℕ)
   pub start-view : floorIn L ≡ justStarted n k
   unfolding textIn
   start-view =
-      (λ i. floorOf (lengthsIn L) (wordsIn L) (top i) (no-stations i) (no-carts i) (no-rooms i) (textsIn T (no-rooms i)) (linesIn (no-carts i .next) W))
-      ∙ (λ i. floorOf (lengths-right L sizes i) (words-right L laid-start i) (head 1 n k) noStations noCarts noRooms (textsIn T noRooms) (clear-view (noCarts .next) W₀ W cleared i))
+      (λ i. floorOf (lengthsIn L) (wordsIn L) (top i) (no-stations i) (no-carts i) (no-rooms i) (textsIn T (no-rooms i)) (linesIn W))
+      ∙ (λ i. floorOf (lengths-right L sizes i) (words-right L laid-start i) (head 1 n k) noStations noCarts noRooms (textsIn T noRooms) (clear-view W₀ W cleared i))

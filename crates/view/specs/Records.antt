@@ -1,6 +1,6 @@
 -- RECORDS ON THE LINES, in words: kind + 8 × index + 2048 × number. The index is the room of the message, or the cart of a hand-off; the
--- second word of a record is an ack list's carts. "the register record carries the cart's whole row of next numbers": while a cart travels,
--- its row stays where it is, in the carts' table, and nothing changes it.
+-- second word of a record is an ack list's carts. "the register record carries the cart's whole row of next numbers": they stand in the
+-- register's own words, which the cart's number finds.
 use mathlib.Core.Bool.{Bool, true, cond, _&&_, not}
 use mathlib.Core.List.{List, [], map}
 use Prim.Native.Nat.{ℕ, _+_, _*_, _/_, _%_}
@@ -8,7 +8,7 @@ use lib.Dec.{eqb, ltb}
 use Rattle.protocol.specs.Folds.{listOf}
 use Rattle.protocol.specs.Floor.{Record, multicast, ackList, delete, deregister, register}
 use Rattle.lines.specs.declared.Record as word
-use Rattle.lines.specs.Lines.{lineOf}
+use Rattle.lines.specs.Lines.{lineOf, registersIn}
 use Rattle.messages.specs.View.{Rooms}
 
 -- the parts of a record's word
@@ -29,19 +29,19 @@ wordOf kind index number = kind + 8 * index + 2048 * number
 abbrev pub wordsOf : ℕ → ℕ → ℕ → ℕ → word.Record
 wordsOf kind index number carts = record { 0 = wordOf kind index number; 1 = carts }
 
--- the record that two words say, with the row of a register's cart
+-- the record that two words say, where the register of each cart carries that row
 unfoldable pub recordIn : (ℕ → ℕ → ℕ) → word.Record → Record
-recordIn next r =
+recordIn rows r =
     let kind = kindOf (r .0) in
     cond (eqb kind 1) (multicast (numberOf (r .0)))
     (cond (eqb kind 2) (ackList (numberOf (r .0)) (r .1))
     (cond (eqb kind 3) (delete (numberOf (r .0)))
     (cond (eqb kind 4) (deregister (indexOf (r .0)))
-    (register (indexOf (r .0)) (listOf 16 (next (indexOf (r .0))))))))
+    (register (indexOf (r .0)) (listOf 16 (rows (indexOf (r .0))))))))
 
 -- the records on the line from i to j, head first
-unfoldable pub linesIn : (ℕ → ℕ → ℕ) → List ℕ → ℕ → ℕ → List Record
-linesIn next words i j = cond (ltb i 16 && ltb j 16) (map (recordIn next) (lineOf words (i * 16 + j))) []
+unfoldable pub linesIn : List ℕ → ℕ → ℕ → List Record
+linesIn words i j = cond (ltb i 16 && ltb j 16) (map (recordIn (registersIn words)) (lineOf words (i * 16 + j))) []
 
 -- is message n of s in room m
 abbrev pub isIn : Rooms → ℕ → ℕ → ℕ → Bool

@@ -29,12 +29,12 @@ abbrev pub lent : Product → List ℕ → List ℕ → List ℕ → List ℕ �
 lent product stations carts messages lines texts = record { product = product; stations = stations; carts = carts; messages = messages; lines = lines; texts = texts }
 
 -- "a lent part of the floor has the wrong length" is no: the floor's own row and one for each station, of 116 words; a row of 19 for each
--- cart; of 6 for each held message, and 32 octets of text; 818 words, and a row of 3 for each record on the lines
+-- cart; of 6 for each held message, and 32 octets of text; 1,842 words, and a row of 3 for each record on the lines
 unfoldable pub lengthsIn : Lent → Bool
 lengthsIn L =
     let P = L .product in
     eqb (length (L .stations)) (116 + P .stations * 116)
-    && (eqb (length (L .carts)) (P .carts * 19) && (eqb (length (L .messages)) (P .held * 6) && (eqb (length (L .lines)) (818 + mostRecords (limitsOf P) * 3) && eqb (length (L .texts)) (P .held * 32))))
+    && (eqb (length (L .carts)) (P .carts * 19) && (eqb (length (L .messages)) (P .held * 6) && (eqb (length (L .lines)) (1842 + mostRecords (limitsOf P) * 3) && eqb (length (L .texts)) (P .held * 32))))
 
 -- the mask of the local carts at station t is right
 unfoldable pub localRight : Lent → ℕ → Bool
@@ -99,5 +99,4 @@ floorOf lengths words H S C R text lines =
 abbrev pub floorIn : Lent → Floor
 floorIn L =
     let R = roomsIn (L .messages) in
-    let C = cartsIn (L .carts) in
-    floorOf (lengthsIn L) (wordsIn L) (headIn (L .stations)) (stationsIn (L .stations)) C R (textsIn (L .texts) R) (linesIn (C .next) (L .lines))
+    floorOf (lengthsIn L) (wordsIn L) (headIn (L .stations)) (stationsIn (L .stations)) (cartsIn (L .carts)) R (textsIn (L .texts) R) (linesIn (L .lines))

@@ -62,7 +62,7 @@ pub fn deregister(cart: CartNumber) -> Record
     Record(word_of(DEREGISTER, cart.0, 0), 0)
 }
 
-// "register (5)": of a cart. Its row is in the carts' table.
+// "register (5)": of a cart. The row that it carries stands in words of its own (lines::put_register).
 pub fn register(cart: CartNumber) -> Record
     requires { ⌜ cart .0 < 64 ⌝ }
     ensures { λ r. ⌜ r ≡ wordsOf 5 (cart .0) 0 0 ⌝ }
