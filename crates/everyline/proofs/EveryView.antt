@@ -13,10 +13,10 @@ use Rattle.protocol.proofs.Tests.{by-test, clash, and-left, and-right, and-intr
 use Rattle.protocol.proofs.Counting.{sum-term}
 use Rattle.messages.specs.View.{roomsIn}
 use Rattle.lines.specs.declared.Record as word
-use Rattle.lines.specs.Lines.{lineOf}
+use Rattle.lines.specs.Lines.{lineOf, registersIn}
 use Rattle.view.specs.Records.{recordIn, linesIn, roomRight}
 use Rattle.view.specs.View.{lent}
-use Rattle.view.proofs.LinesView.{line-in, line-beyond, line-below, by-line, map-append}
+use Rattle.view.proofs.LinesView.{line-with, line-in, line-beyond, line-below, by-line, map-append}
 use Rattle.view.proofs.Laid.{Laid, words-append}
 use Rattle.everyline.specs.ToEvery.{PushedToEvery}
 
@@ -36,16 +36,17 @@ module _ (l l′ : List ℕ) (s n : ℕ) (r : word.Record) (ls : s < 16) (ln : n
       (λ k lk q. let same : i ≡ s = omega arith in let to : j ≡ k = omega arith in clash (toEvery n s i j) (rw (same, to) (is-picked n s k lk)) e)
 
   -- A RECORD IS PUT on the lines to every station
-  pub every-view : (next : ℕ → ℕ → ℕ) → linesIn next l′ ≡ put (toEvery n s) (recordIn next r) (linesIn next l)
-  every-view next =
-      fun-ext (λ i. fun-ext (λ j. by-line next i j
+  pub every-view : linesIn l′ ≡ put (toEvery n s) (recordIn (registersIn l) r) (linesIn l)
+  every-view =
+      let rows = registersIn l in
+      fun-ext (λ i. fun-ext (λ j. by-line i j
       (λ li lj. by-test (toEvery n s i j)
-      (λ e. rw e (line-in next l′ i j li lj ∙ ap (λ (x : List word.Record). map (recordIn next) x) (joined i j e)
-      ∙ map-append next (lineOf l (i * 16 + j)) (r ∷ []) ∙ ap (λ (x : List Record). x ++ (recordIn next r ∷ [])) (sym (line-in next l i j li lj))))
-      (λ e. rw e (line-in next l′ i j li lj ∙ ap (λ (x : List word.Record). map (recordIn next) x) (line-stays i j li lj e) ∙ sym (line-in next l i j li lj))))
+      (λ e. rw e (line-with rows l′ i j (p .registers) li lj ∙ ap (λ (x : List word.Record). map (recordIn rows) x) (joined i j e)
+      ∙ map-append rows (lineOf l (i * 16 + j)) (r ∷ []) ∙ ap (λ (x : List Record). x ++ (recordIn rows r ∷ [])) (sym (line-in l i j li lj))))
+      (λ e. rw e (line-with rows l′ i j (p .registers) li lj ∙ ap (λ (x : List word.Record). map (recordIn rows) x) (line-stays i j li lj e) ∙ sym (line-in l i j li lj))))
       (λ h. by-test (toEvery n s i j)
       (λ e. let z = picked n s i j e in absurd (h (let a = z .0 in omega arith) (let b = z .1 in omega arith)))
-      (λ e. rw e (line-beyond next l′ i j h ∙ sym (line-beyond next l i j h))))))
+      (λ e. rw e (line-beyond l′ i j h ∙ sym (line-beyond l i j h))))))
     where
       joined : (i j : ℕ) → toEvery n s i j ≡ true → lineOf l′ (i * 16 + j) ≡ lineOf l (i * 16 + j) ++ (r ∷ [])
       joined i j e = let z = picked n s i j e in rw (← z .0) (p .line j (z .1))

@@ -13,7 +13,7 @@ use Rattle.everyline.specs.ToEvery.{PushedToEvery}
 -- to none
 pub to-none : (l : List ℕ) (s : ℕ) (r : Record) → form l ≡ true → PushedToEvery l l s 0 r
 to-none l s r h =
-    record { formed = h; line = λ j lt. absurd (omega arith); others = λ k lt q. refl; more = omega arith; room = refl; words = refl }
+    record { formed = h; line = λ j lt. absurd (omega arith); others = λ k lt q. refl; registers = refl; more = omega arith; room = refl; words = refl }
 
 -- to one more
 pub to-one-more : (l k l′ : List ℕ) (s n : ℕ) (r : Record) → s < 16 → n < 16 → PushedToEvery l k s n r → Pushed k l′ (s * 16 + n) r → PushedToEvery l l′ s (n + 1) r
@@ -24,6 +24,7 @@ to-one-more l k l′ s n r ls ln a p =
           (λ q. rw q (p .line ∙ ap (λ (x : List Record). x ++ (r ∷ [])) (a .others (s * 16 + n) (omega arith) (λ i li e. omega arith))))
           (λ q. p .others (s * 16 + j) (omega arith) (λ e. q (omega arith)) ∙ a .line j (omega arith));
       others = λ i li h. p .others i li (λ e. h n (omega arith) e) ∙ a .others i li (λ j lj e. h j (omega arith) e);
+      registers = p .registers ∙ a .registers;
       more = let x = p .more in let y = a .more in omega arith;
       room = p .room ∙ a .room;
       words = p .words ∙ a .words;

@@ -1,21 +1,19 @@
 -- THE ROWS OF THE REGISTERS, between the lines and the rows of the pool.
-use mathlib.Core.Path.{_≡_, refl, sym, ap, _∙_, fun-ext, subst}
-use mathlib.Core.Bool.{Bool, true, cond, _&&_}
+use mathlib.Core.Path.{_≡_, refl, sym, ap, _∙_, fun-ext}
+use mathlib.Core.Bool.{true}
 use mathlib.Core.List.{List, map}
 use Prim.Native.Nat.{ℕ, _+_, _*_, _≤_, _<_}
 use native.Mathlib.Omega.{arith}
-use lib.Dec.{eqb, ltb}
+use lib.Dec.{ltb}
 use lib.ListN.{length, getD, set, List·getD-eq-default}
 use lib.Seq.{getD-set-same, getD-set-other}
 use borrow.Author.Tests.{eq-eqb, ne-eqb, lt-ltb, le-ltb}
-use Rattle.protocol.specs.Folds.{sum}
 use Rattle.protocol.specs.Form.{bit}
 use Rattle.protocol.specs.Handoff.{entryOf}
 use Rattle.protocol.proofs.Tests.{by-lt, by-eq, and-false}
 use Rattle.protocol.proofs.Counting.{sum-ext}
-use Rattle.lines.specs.declared.Record.{Record}
 use Rattle.lines.specs.Bits.{bitAt}
-use Rattle.lines.specs.Words.{capacity, lineAt, registerAt, rowAt, headOf, tailOf, lengthOf, nextOf}
+use Rattle.lines.specs.Words.{lineAt, registerAt, rowAt, tailOf, nextOf}
 use Rattle.lines.specs.Lines.{chain, rowsOf, recordOf, lineOf, used, registersIn}
 use Rattle.lines.specs.Form.{count, allBelow, lastOf, form}
 use Rattle.lines.specs.Post.{SameRegisters, Carried}

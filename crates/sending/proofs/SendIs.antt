@@ -24,7 +24,7 @@ use Rattle.messages.specs.View.{Rooms, roomsIn}
 use Rattle.messages.specs.View as messages
 use Rattle.messages.proofs.TextLaws.{texts-with}
 use Rattle.lines.specs.declared.Record as word
-use Rattle.lines.specs.Lines.{lineOf}
+use Rattle.lines.specs.Lines.{lineOf, registersIn}
 use Rattle.view.specs.Records.{kindOf, indexOf, numberOf, wordsOf, linesIn, isIn, roomRight}
 use Rattle.view.specs.View.{Lent, lent, everyWord, textsIn, floorOf, floorIn}
 use Rattle.view.proofs.Lengths.{Lengths, lengths-right}
@@ -153,12 +153,12 @@ module _ {P : Product} (S S′ C M M′ W W′ T T′ : List ℕ) (m s set : ℕ
       ap (λ (Y : Rooms). textsIn T′ Y) (sent .message .rooms)
       ∙ texts-with T T′ text m (roomsIn M .length) (short-texts (P .held) M (X .lengths .messages) (X .laid .short)) (sent .message .here) (sent .message .others)
 
-  lines : linesIn (cartsIn C .next) W′ ≡ put (toEvery n s) (multicast number) (linesIn (cartsIn C .next) W)
+  lines : linesIn W′ ≡ put (toEvery n s) (multicast number) (linesIn W)
   lines =
       let lm = may .room in
       let lh = P .held-fit in
-      every-view W W′ s n (wordsOf 1 m number 0) from few (sent .lines) (cartsIn C .next)
-      ∙ ap (λ (r : Record). put (toEvery n s) r (linesIn (cartsIn C .next) W)) (multicast-is (cartsIn C .next) m number (omega arith))
+      every-view W W′ s n (wordsOf 1 m number 0) from few (sent .lines)
+      ∙ ap (λ (r : Record). put (toEvery n s) r (linesIn W)) (multicast-is (registersIn W) m number (omega arith))
 
   -- "the message takes the station's number; a multicast goes on the line to every station"
   pub message-is : floorIn L′ ≡ withMessage (floorIn L) m s set text

@@ -32,13 +32,13 @@ few-records P =
     omega arith
 
 -- a pool of the right length is sized
-pub pool-sized : (P : Product) (l : List ℕ) → length l ≡ 818 + mostRecords (limitsOf P) * 3 → sized l ≡ true
+pub pool-sized : (P : Product) (l : List ℕ) → length l ≡ 1842 + mostRecords (limitsOf P) * 3 → sized l ≡ true
 unfolding sized capacity
 pool-sized P l h =
     let few = few-records P in
-    and-intro (eqb (length l) (818 + (length l - 818) / 3 * 3)) (leb ((length l - 818) / 3) 3136)
-    (eq-eqb (length l) (818 + (length l - 818) / 3 * 3) (omega arith))
-    (le-leb ((length l - 818) / 3) 3136 (omega arith))
+    and-intro (eqb (length l) (1842 + (length l - 1842) / 3 * 3)) (leb ((length l - 1842) / 3) 3136)
+    (eq-eqb (length l) (1842 + (length l - 1842) / 3 * 3) (omega arith))
+    (le-leb ((length l - 1842) / 3) 3136 (omega arith))
 
 module _ {P : Product} (S S′ C C′ M M′ W W′ T : List ℕ) (n k : ℕ) (sizes : Lengths (lent P S C M W T)) (begun : Begun S S′ C C′ M M′ W W′ n k) where
   abbrev L′ : Lent

@@ -18,7 +18,7 @@ use Rattle.stations.specs.View.{headIn, stationsIn}
 use Rattle.carts.specs.View.{cartsIn}
 use Rattle.messages.specs.View.{roomsIn}
 use Rattle.lines.specs.declared.Record as word
-use Rattle.lines.specs.Lines.{lineOf, used}
+use Rattle.lines.specs.Lines.{lineOf, used, registersIn}
 use Rattle.lines.specs.Words.{capacity}
 use Rattle.lines.specs.Post.{Popped}
 use Rattle.view.specs.Records.{kindOf, indexOf, numberOf, wordsOf, linesIn, roomRight}
@@ -80,8 +80,8 @@ module _ {P : Product} (S C M W W₁ T : List ℕ) (X : Standing (lent P S C M W
   part-step : (known ≡ roomsIn M .named m → ⊥) → onWire (limitsOf (L .product)) F i j ≡ done added 3 2 n 0 0 []
   part-step e = ack-step ∙ rw (ne-eqb known (roomsIn M .named m) e) refl
 
-  popped-lines : linesIn (cartsIn C .next) W₁ ≡ behead i j (linesIn (cartsIn C .next) W)
-  popped-lines = pop-view (cartsIn C .next) W W₁ i j li lj popped
+  popped-lines : linesIn W₁ ≡ behead i j (linesIn W)
+  popped-lines = pop-view W W₁ i j li lj popped
 
   -- there is room for the deletes
   pub room-for-deletes : known ≡ roomsIn M .named m → used W₁ + headIn S .stations ≤ capacity W₁
@@ -119,7 +119,7 @@ module _ {P : Product} (S C M W W₁ T : List ℕ) (X : Standing (lent P S C M W
         (λ e. rw (acknowledged .part e .1) laid-added)
 
     -- the floor, when these are its lines
-    with-lines : (lines : ℕ → ℕ → List Record) → linesIn (cartsIn C .next) W₂ ≡ lines → length W₂ ≡ length W → floorIn L′ ≡ onLines added lines
+    with-lines : (lines : ℕ → ℕ → List Record) → linesIn W₂ ≡ lines → length W₂ ≡ length W → floorIn L′ ≡ onLines added lines
     with-lines lines same size =
         λ k. floorOf ((lengths-right L′ lengths ∙ sym (lengths-right L (X .lengths))) k) ((words-right L′ laid ∙ sym (words-right L (X .laid))) k)
         (headIn S) (stationsIn S) (cartsIn C) (acknowledged .rooms k) (textsIn T (acknowledged .rooms k)) (same k)
@@ -136,21 +136,21 @@ module _ {P : Product} (S C M W W₁ T : List ℕ) (X : Standing (lent P S C M W
 
     -- the deletes on the lines
     deletes : PushedToEvery W₁ W₂ j (headIn S .stations) (wordsOf 3 m n 0)
-        → linesIn (cartsIn C .next) W₂ ≡ put (toEvery (headIn S .stations) j) (delete n) (behead i j (linesIn (cartsIn C .next) W))
+        → linesIn W₂ ≡ put (toEvery (headIn S .stations) j) (delete n) (behead i j (linesIn W))
     deletes p =
         let below = in-room .below in
-        every-view W₁ W₂ j (headIn S .stations) (wordsOf 3 m n 0) lj few p (cartsIn C .next)
-        ∙ (λ k. put (toEvery (headIn S .stations) j) (delete-is (cartsIn C .next) m n (omega arith) k) (popped-lines k))
+        every-view W₁ W₂ j (headIn S .stations) (wordsOf 3 m n 0) lj few p
+        ∙ (λ k. put (toEvery (headIn S .stations) j) (delete-is (registersIn W₁) m n (omega arith) k) (popped-lines k))
 
     -- "the initiator adds its carts. When they make up the whole set, a delete goes to every station"
     pub ack-list-is : floorIn L′ ≡ onWire (limitsOf (L .product)) F i j .floor
     ack-list-is =
         by-eq known (roomsIn M .named m)
         (λ e. let p = acknowledged .whole e .1 in
-        with-lines (put (toEvery (headIn S .stations) j) (delete n) (behead i j (linesIn (cartsIn C .next) W))) (deletes p) (p .words ∙ popped .words)
+        with-lines (put (toEvery (headIn S .stations) j) (delete n) (behead i j (linesIn W))) (deletes p) (p .words ∙ popped .words)
         ∙ sym (ap (λ (d : Done). d .floor) (whole-step e)))
         (λ e. let q = acknowledged .part e .1 in
-        with-lines (behead i j (linesIn (cartsIn C .next) W)) (ap (linesIn (cartsIn C .next)) q ∙ popped-lines) (ap (λ (l : List ℕ). length l) q ∙ popped .words)
+        with-lines (behead i j (linesIn W)) (ap linesIn q ∙ popped-lines) (ap (λ (l : List ℕ). length l) q ∙ popped .words)
         ∙ sym (ap (λ (d : Done). d .floor) (part-step e)))
 
     -- "3, 2, number, 0, w"

@@ -59,8 +59,8 @@ module _ {P : Product} (S C M M′ W W₁ T : List ℕ) (X : Standing (lent P S 
   stepped : step (limitsOf (L .product)) F (wire i j) ≡ unbuffer (unlined F i j) m j
   stepped = wire-steps L X i j from to said rest top ∙ ap (λ (d : Done). d .floor) delete-step
 
-  lines : linesIn (cartsIn C .next) W₁ ≡ behead i j (linesIn (cartsIn C .next) W)
-  lines = pop-view (cartsIn C .next) W W₁ i j (from-below L X i j from to) (to-below L X i j from to) popped
+  lines : linesIn W₁ ≡ behead i j (linesIn W)
+  lines = pop-view W W₁ i j (from-below L X i j from to) (to-below L X i j from to) popped
 
   lengths : Lengths L′
   lengths =
@@ -87,7 +87,7 @@ module _ {P : Product} (S C M M′ W W₁ T : List ℕ) (X : Standing (lent P S 
       let off = laid-pop S C M W T (X .laid) W₁ i j (from-below L X i j from to) (to-below L X i j from to) popped in
       laid-messages S C M W₁ T off M′
       (λ k l. rw (deleted .rooms) (X .laid .short k l))
-      (rooms-again L X (wire i j) M′ W₁ (cartsIn C .next)
+      (rooms-again L X (wire i j) M′ W₁
       (ap (λ (G : Floor). G .waiting) stepped ∙ sym (ap (λ (R : Rooms). R .waiting) (deleted .rooms)))
       (ap (λ (G : Floor). G .initiator) stepped ∙ sym (ap (λ (R : Rooms). R .initiator) (deleted .rooms)))
       (ap (λ (G : Floor). G .number) stepped ∙ sym (ap (λ (R : Rooms). R .number) (deleted .rooms)))

@@ -18,7 +18,7 @@ use Rattle.protocol.proofs.Invariant.{Held}
 use Rattle.protocol.proofs.FormFacts.{room-of-held}
 use Rattle.messages.specs.View.{roomsIn}
 use Rattle.lines.specs.declared.Record as word
-use Rattle.lines.specs.Lines.{lineOf}
+use Rattle.lines.specs.Lines.{lineOf, registersIn}
 use Rattle.view.specs.Records.{kindOf, indexOf, numberOf, recordIn, isIn, roomRight}
 use Rattle.view.specs.View.{Lent, everyWord, floorIn}
 use Rattle.view.proofs.LinesView.{head-view}
@@ -44,11 +44,11 @@ module _ (L : Lent) (X : Standing L) (i j : ℕ) (from : i < floorIn L .stations
   to-below = let z = few-stations L X in omega arith
 
   module _ (said : word.Record) (rest : List word.Record) (top : lineOf (L .lines) (i * 16 + j) ≡ said ∷ rest) where
-    pub line-head : F .lines i j ≡ recordIn (F .next) said ∷ map (recordIn (F .next)) rest
-    line-head = head-view (F .next) (L .lines) i j said rest from-below to-below top
+    pub line-head : F .lines i j ≡ recordIn (registersIn (L .lines)) said ∷ map (recordIn (registersIn (L .lines))) rest
+    line-head = head-view (L .lines) i j said rest from-below to-below top
 
     -- "Wire (from, to): the head record of that line is handled at to"
-    pub wire-is : onWire (limitsOf (L .product)) F i j ≡ handle (limitsOf (L .product)) (unlined F i j) i j (recordIn (F .next) said)
+    pub wire-is : onWire (limitsOf (L .product)) F i j ≡ handle (limitsOf (L .product)) (unlined F i j) i j (recordIn (registersIn (L .lines)) said)
     unfolding onWire
     wire-is = rw line-head refl
 
@@ -77,7 +77,7 @@ module _ (L : Lent) (X : Standing L) (i j : ℕ) (from : i < floorIn L .stations
     some-kind k = clash false (rw k at head-right) refl
 
     -- BY ITS KIND: what the record says, and its room
-    pub says-multicast : kindOf (said .0) ≡ 1 → recordIn (F .next) said ≡ multicast (numberOf (said .0))
+    pub says-multicast : kindOf (said .0) ≡ 1 → recordIn (registersIn (L .lines)) said ≡ multicast (numberOf (said .0))
     unfolding recordIn
     says-multicast k = rw k refl
 
@@ -85,7 +85,7 @@ module _ (L : Lent) (X : Standing L) (i j : ℕ) (from : i < floorIn L .stations
     unfolding roomRight
     multicast-room k = in-room i (rw k at head-right)
 
-    pub says-ack-list : kindOf (said .0) ≡ 2 → recordIn (F .next) said ≡ ackList (numberOf (said .0)) (said .1)
+    pub says-ack-list : kindOf (said .0) ≡ 2 → recordIn (registersIn (L .lines)) said ≡ ackList (numberOf (said .0)) (said .1)
     unfolding recordIn
     says-ack-list k = rw k refl
 
@@ -93,7 +93,7 @@ module _ (L : Lent) (X : Standing L) (i j : ℕ) (from : i < floorIn L .stations
     unfolding roomRight
     ack-list-room k = in-room j (rw k at head-right)
 
-    pub says-delete : kindOf (said .0) ≡ 3 → recordIn (F .next) said ≡ delete (numberOf (said .0))
+    pub says-delete : kindOf (said .0) ≡ 3 → recordIn (registersIn (L .lines)) said ≡ delete (numberOf (said .0))
     unfolding recordIn
     says-delete k = rw k refl
 

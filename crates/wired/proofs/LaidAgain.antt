@@ -20,7 +20,7 @@ use Rattle.protocol.proofs.Theorems.{form-closed}
 use Rattle.messages.specs.View.{Rooms, roomsIn}
 use Rattle.messages.proofs.RoomLaws.{waiting-past}
 use Rattle.lines.specs.declared.Record as word
-use Rattle.lines.specs.Lines.{lineOf}
+use Rattle.lines.specs.Lines.{lineOf, registersIn}
 use Rattle.view.specs.Records.{kindOf, indexOf, numberOf, recordIn, linesIn, isIn, roomRight}
 use Rattle.view.specs.View.{Lent, everyWord, floorIn}
 use Rattle.view.proofs.LinesView.{line-in}
@@ -55,12 +55,12 @@ module _ (N : Limits) (R R′ : Rooms)
       let same : h .m ≡ k = one (h .m) k (f .held) (was .0) (sym (f .initiator) ∙ h .is-initiator ∙ sym (was .1 .0)) (sym (f .number) ∙ h .is-number ∙ sym (was .1 .1)) in
       rw (← same) (room-is R′ s n (h .m) (h .held .some) (h .is-initiator) (h .is-number))
 
-  module _ (carts : ℕ) (acked named : ℕ → ℕ) (i j : ℕ) (next : ℕ → ℕ → ℕ) where
+  module _ (carts : ℕ) (acked named : ℕ → ℕ) (i j : ℕ) (rows : ℕ → ℕ → ℕ) where
     abbrev Right : Record → Type 0
     Right = OfHeld N carts (R′ .waiting) (R′ .initiator) (R′ .number) acked named i j
 
     -- a record
-    word-again : (r : word.Record) → Right (recordIn next r) → roomRight R i j r ≡ true → roomRight R′ i j r ≡ true
+    word-again : (r : word.Record) → Right (recordIn rows r) → roomRight R i j r ≡ true → roomRight R′ i j r ≡ true
     unfolding recordIn roomRight
     word-again r h e =
         by-test (eqb (kindOf (r .0)) 1)
@@ -74,7 +74,7 @@ module _ (N : Limits) (R R′ : Rooms)
         (λ e₃. rw (e₁, e₂, e₃) (rw (e₁, e₂, e₃) at e))))
 
     -- the records of a line
-    line-again : (l : List word.Record) → All Right (map (recordIn next) l) → everyWord (roomRight R i j) l ≡ true → everyWord (roomRight R′ i j) l ≡ true
+    line-again : (l : List word.Record) → All Right (map (recordIn rows) l) → everyWord (roomRight R i j) l ≡ true → everyWord (roomRight R′ i j) l ≡ true
     line-again [] h e = refl
     line-again (r ∷ l) h e =
         let first = roomRight R i j r in
@@ -82,9 +82,9 @@ module _ (N : Limits) (R R′ : Rooms)
         and-intro (roomRight R′ i j r) (everyWord (roomRight R′ i j) l) (word-again r (h .0) (and-left first others e)) (line-again l (h .1) (and-right first others e))
 
 -- a line with no records
-no-words : (next : ℕ → ℕ → ℕ) (f : word.Record → Bool) (l : List word.Record) → map (recordIn next) l ≡ [] → everyWord f l ≡ true
-no-words next f [] h = refl
-no-words next f (r ∷ l) h = absurd (let z : _≡_ {A = ℕ} 0 1 = cc in omega arith)
+no-words : (rows : ℕ → ℕ → ℕ) (f : word.Record → Bool) (l : List word.Record) → map (recordIn rows) l ≡ [] → everyWord f l ≡ true
+no-words rows f [] h = refl
+no-words rows f (r ∷ l) h = absurd (let z : _≡_ {A = ℕ} 0 1 = cc in omega arith)
 
 -- a taken room has a row
 pub taken-below : (L : Lent) → Standing L → (m : ℕ) → eqb (roomsIn (L .messages) .waiting m) 0 ≡ false → m < L .product .held
@@ -95,7 +95,7 @@ taken-below L X m w =
 
 -- AFTER AN EVENT: the rooms and lines of the floor that it leaves are R′ and those of W′. The words on these lines said their rooms right
 -- before, and what is held was held before, under the same name. Then they say their rooms right.
-module _ (L : Lent) (X : Standing L) (e : Event) (M′ W′ : List ℕ) (next′ : ℕ → ℕ → ℕ) where
+module _ (L : Lent) (X : Standing L) (e : Event) (M′ W′ : List ℕ) where
   abbrev F : Floor
   F = floorIn L
 
@@ -108,7 +108,7 @@ module _ (L : Lent) (X : Standing L) (e : Event) (M′ W′ : List ℕ) (next′
   abbrev R′ : Rooms
   R′ = roomsIn M′
 
-  pub rooms-again : F′ .waiting ≡ R′ .waiting → F′ .initiator ≡ R′ .initiator → F′ .number ≡ R′ .number → F′ .lines ≡ linesIn next′ W′
+  pub rooms-again : F′ .waiting ≡ R′ .waiting → F′ .initiator ≡ R′ .initiator → F′ .number ≡ R′ .number → F′ .lines ≡ linesIn W′
       → ((m : ℕ) → eqb (R′ .waiting m) 0 ≡ false → Fewer R R′ m)
       → ((i j : ℕ) → i < 16 → j < 16 → everyWord (roomRight R i j) (lineOf W′ (i * 16 + j)) ≡ true)
       → (i j : ℕ) → i < 16 → j < 16 → everyWord (roomRight R′ i j) (lineOf W′ (i * 16 + j)) ≡ true
@@ -118,12 +118,12 @@ module _ (L : Lent) (X : Standing L) (e : Event) (M′ W′ : List ℕ) (next′
       let P = clauses-of (limitsOf (L .product)) F′ (after .1) in
       let facts : FormFacts (limitsOf (L .product)) F′ = form-of (limitsOf (L .product)) F′ (after .0) P in
       let whole = sized-of (limitsOf (L .product)) F′ (after .0) P in
-      let here : F′ .lines i j ≡ map (recordIn next′) (lineOf W′ (i * 16 + j)) = ap (λ (f : ℕ → ℕ → List Record). f i j) lines ∙ line-in next′ W′ i j li lj in
+      let here : F′ .lines i j ≡ map (recordIn (registersIn W′)) (lineOf W′ (i * 16 + j)) = ap (λ (f : ℕ → ℕ → List Record). f i j) lines ∙ line-in W′ i j li lj in
       let empty : (i < F′ .stations → j < F′ .stations → ⊥) → everyWord (roomRight R′ i j) (lineOf W′ (i * 16 + j)) ≡ true =
-      λ h. no-words next′ (roomRight R′ i j) (lineOf W′ (i * 16 + j)) (sym here ∙ no-line (F′ .stations) (F′ .carts) i j (F′ .lines i j) (whole .lines i j) h) in
+      λ h. no-words (registersIn W′) (roomRight R′ i j) (lineOf W′ (i * 16 + j)) (sym here ∙ no-line (F′ .stations) (F′ .carts) i j (F′ .lines i j) (whole .lines i j) h) in
       by-lt i (F′ .stations)
       (λ a. by-lt j (F′ .stations)
-      (λ b. line-again (limitsOf (L .product)) R R′ (λ m k hm hk. X .facts .one-room m k (held m hm) (held k hk)) fewer (F′ .carts) (F′ .acked) (F′ .named) i j next′ (lineOf W′ (i * 16 + j))
+      (λ b. line-again (limitsOf (L .product)) R R′ (λ m k hm hk. X .facts .one-room m k (held m hm) (held k hk)) fewer (F′ .carts) (F′ .acked) (F′ .named) i j (registersIn W′) (lineOf W′ (i * 16 + j))
       (subst (λ (l : List Record). All (OfHeld (limitsOf (L .product)) (F′ .carts) (R′ .waiting) (R′ .initiator) (R′ .number) (F′ .acked) (F′ .named) i j) l) here
       (rw (waiting, initiator, number) at (facts .on-lines .records-held i j a b))) (right i j li lj))
       (λ b. empty (λ x y. omega arith)))

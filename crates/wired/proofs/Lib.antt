@@ -5,7 +5,6 @@ pub mod Head
 pub mod DeleteIs
 pub mod RoomFor
 pub mod AckListIs
-pub mod QuietCarts
 pub mod MulticastSets
 pub mod MulticastIs
 pub mod Asks

@@ -1,6 +1,6 @@
 -- A MULTICAST OVER THE LENT PARTS IS THE WRITTEN MULTICAST: the floor that they then say is the floor of the written step.
 use mathlib.Core.Path.{_≡_, refl, sym, ap, _∙_}
-use mathlib.Core.Bool.{Bool, true, false, cond, _&&_, and-false}
+use mathlib.Core.Bool.{Bool, false, cond, _&&_}
 use mathlib.Core.List.{List, [], _∷_}
 use Prim.Native.Nat.{ℕ, suc, _+_, _*_, _<_}
 use native.Mathlib.Numerals.{add-one}
@@ -8,13 +8,12 @@ use native.Mathlib.Omega.{arith}
 use lib.Dec.{eqb}
 use Rattle.protocol.specs.Folds.{count}
 use Rattle.protocol.specs.CartSets.{minus, setOf}
-use Rattle.protocol.specs.Floor.{Floor, Place, Carts, travelling, localTo, Record, behead, limitsOf, Product}
+use Rattle.protocol.specs.Floor.{Floor, Carts, localTo, Record, behead, limitsOf, Product}
 use Rattle.protocol.specs.Events.{Done, done}
 use Rattle.protocol.specs.Form.{multicastNumbers}
 use Rattle.protocol.specs.Handoff.{roomOf}
 use Rattle.protocol.specs.Wired.{handle, onMulticast, onWire, buffer, raiseExpected, passesOver, isQueued, isStruck}
 use borrow.Author.Tests.{ne-eqb}
-use Rattle.protocol.proofs.Tests.{and-left, clash}
 use Rattle.protocol.proofs.Accepted.{unlined}
 use Rattle.protocol.proofs.Updates.{counts-up-le}
 use Rattle.stations.specs.View.{Stations, headIn, stationsIn, withExpected, withCopy, withQueue}
@@ -28,16 +27,10 @@ use Rattle.view.specs.View.{Lent, lent, textsIn, floorOf, floorIn}
 use Rattle.view.proofs.LinesView.{pop-view}
 use Rattle.view.proofs.Lengths.{Lengths, lengths-right}
 use Rattle.view.proofs.Laid.{Laid, words-right, laid-pop, laid-carts}
-use Rattle.view.proofs.Registers.{none-unless-travelling}
 use Rattle.view.proofs.Standing.{Standing}
 use Rattle.wired.specs.Handled.{Buffered}
 use Rattle.wired.proofs.Head.{InRoom, from-below, to-below, wire-is, says-multicast, multicast-room}
-use Rattle.wired.proofs.QuietCarts.{lines-stay}
 use Rattle.wired.proofs.MulticastSets.{over-has, over-count, queue-same, copy-same}
-
--- a local cart is not travelling
-stays : (p : Place) (t s u : ℕ) → localTo p t ≡ true → p ≡ travelling s u → ⊥
-stays p t s u e q = clash (localTo p t) e (ap (λ (x : Place). localTo x t) q)
 
 -- the number that a station expects is no more than 65,535
 pub expected-below : (L : Lent) → Standing L → (t s : ℕ) → t < floorIn L .stations → floorIn L .expected t s < 4294967296
@@ -130,17 +123,8 @@ module _ {P : Product} (S S′ C C′ M W W₁ T : List ℕ) (X : Standing (lent
       (withQueue (withCopy (stationsIn S) m j (copy-same L X m j i n (in-room .held .slot) lj′ k)) m j (queue-same L X m j i n (in-room .held .slot) lj′ (buffered .over) (buffered .passed) k))
       j i (add-one (stationsIn S .expected j i) k))
 
-  -- carts that are not passed over keep their next numbers, and those that are have no register on a line
-  kept-numbers : (c u : ℕ) → passesOver F m j i n c ≡ false → passed .next c u ≡ cartsIn C .next c u
-  kept-numbers c u e = rw (e, and-false (eqb u i)) refl
-
-  lines : linesIn (cartsIn C′ .next) W₁ ≡ behead i j (linesIn (cartsIn C .next) W)
-  lines =
-      ap (λ (K : Carts). linesIn (K .next) W₁) carts
-      ∙ pop-view (passed .next) W W₁ i j li lj popped
-      ∙ ap (behead i j) (lines-stay (cartsIn C .next) (passed .next) (passesOver F m j i n) kept-numbers W
-      (λ a b c e. rw (X .facts .handoffs-right c a b)
-      (none-unless-travelling (F .place c) a b _ (λ s u. stays (F .place c) j s u (and-left (localTo (F .place c) j) _ e)))))
+  lines : linesIn W₁ ≡ behead i j (linesIn W)
+  lines = pop-view W W₁ i j li lj popped
 
   -- "the message is buffered with its own copy of the set. For each local cart: .."; "the expected number rises by one"
   pub multicast-is : floorIn L′ ≡ onWire (limitsOf (L .product)) F i j .floor

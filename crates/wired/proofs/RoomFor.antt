@@ -34,8 +34,8 @@ module _ (L : Lent) (X : Standing L) (W₁ : List ℕ) (i j : ℕ) (li : i < 16)
   used-popped =
       let few = few-stations L X in
       let all : F .stations + (16 - F .stations) ≡ 16 = omega arith in
-      used-view (F .next) W₁
-      ∙ ap (λ (f : ℕ → ℕ → List Record). onTheLines 16 f) (pop-view (F .next) (L .lines) W₁ i j li lj popped)
+      used-view W₁
+      ∙ ap (λ (f : ℕ → ℕ → List Record). onTheLines 16 f) (pop-view (L .lines) W₁ i j li lj popped)
       ∙ ap (λ (n : ℕ). onTheLines n (behead i j (F .lines))) (sym all)
       ∙ fewer-stations (F .stations) (16 - F .stations) (behead i j (F .lines))
       (λ a b l. behead-none i j (F .lines) a b (no-line-from L X a b l)) (λ a b l. behead-none i j (F .lines) a b (no-line-to L X a b l))

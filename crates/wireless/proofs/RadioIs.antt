@@ -1,7 +1,7 @@
 -- A MESSAGE HANDED OVER in the lent parts is the written radio step: the floor that they then say is the floor of that step.
 use mathlib.Core.Path.{_≡_, refl, sym, ap, ap₂, _∙_, subst}
 use mathlib.Core.Bool.{Bool, true, false, cond, _&&_}
-use mathlib.Core.List.{List, [], _∷_, _++_, append-nil}
+use mathlib.Core.List.{List}
 use mathlib.Core.Option.{Option, none, some}
 use Prim.Native.Nat.{ℕ, suc, _+_, _-_, _≤_, _<_, _^_}
 use native.Mathlib.Omega.{arith}
@@ -9,26 +9,23 @@ use lib.Dec.{eqb}
 use borrow.Author.Tests.{eq-eqb}
 use Rattle.protocol.specs.Folds.{update2, byOption}
 use Rattle.protocol.specs.CartSets.{has, setOf, with, without, minus}
-use Rattle.protocol.specs.Floor.{Product, limitsOf, Floor, Carts, at, travelling, Record, ackList, put, between, localTo, setNext}
-use Rattle.protocol.specs.Form.{handoffs}
-use Rattle.protocol.specs.Handoff.{catchUp, catchUpStop, enqueue, rowOf}
+use Rattle.protocol.specs.Floor.{Product, limitsOf, Floor, Carts, Record, ackList, put, between, localTo, setNext}
+use Rattle.protocol.specs.Handoff.{catchUp, catchUpStop, enqueue}
 use Rattle.protocol.specs.Wireless.{receive, allAcked, sendAcks, sendAcksIfAll, handOver, onRadio}
-use Rattle.protocol.proofs.Tests.{on-update2, on-cond, update2-at, by-test, by-lt, both-differ, eqb-self}
+use Rattle.protocol.proofs.Tests.{on-update2, update2-at, by-test, by-lt, both-differ, eqb-self}
 use Rattle.protocol.proofs.SetLaws.{has-zero}
-use Rattle.protocol.proofs.FloorLaws.{at-is}
 use Rattle.protocol.proofs.Accepted.{MayRadio}
 use Rattle.protocol.proofs.Invariant.{Queued}
-use Rattle.protocol.proofs.Updates.{handoffs-append}
 use Rattle.stations.specs.View.{Stations, Head, headIn, stationsIn, withCopy, withAcks, withQueue}
 use Rattle.stations.proofs.TableLaws.{copy-beyond}
 use Rattle.carts.specs.View.{cartsIn, withNext}
 use Rattle.messages.specs.View.{roomsIn}
+use Rattle.lines.specs.Lines.{registersIn}
 use Rattle.view.specs.Records.{linesIn, wordsOf, isIn}
 use Rattle.view.specs.View.{Lent, lent, lengthsIn, wordsIn, localRight, textsIn, floorOf, floorIn}
 use Rattle.view.proofs.LinesView.{push-view}
 use Rattle.view.proofs.Lengths.{Lengths, lengths-right}
 use Rattle.view.proofs.Laid.{Laid, words-right, laid-stations, laid-carts, laid-push}
-use Rattle.view.proofs.Registers.{NoRegister, none-unless-travelling, lines-kept}
 use Rattle.view.proofs.RecordWords.{ack-list-is, ack-list-right}
 use Rattle.view.proofs.Standing.{Standing, few-carts}
 use Rattle.queue.specs.Rooms.{tablesFloor, roomCode}
@@ -45,8 +42,7 @@ use Rattle.wireless.proofs.Parts.{not-found}
 
 -- THE FIRST PART: from any lent parts that lie right
 module _ {P : Product} (S S₁ C C₁ M W T : List ℕ) (m s t c : ℕ) (lh : m < P .held) (sizes : Lengths (lent P S C M W T)) (laid : Laid (lent P S C M W T))
-    (received : Received S S₁ C C₁ m s t c) (due : cartsIn C .next c s ≡ roomsIn M .number m) (from : s ≡ roomsIn M .initiator m)
-    (none-there : (i j : ℕ) → NoRegister (handoffs c (linesIn (cartsIn C .next) W i j))) where
+    (received : Received S S₁ C C₁ m s t c) (due : cartsIn C .next c s ≡ roomsIn M .number m) (from : s ≡ roomsIn M .initiator m) where
   abbrev L : Lent
   L = lent P S C M W T
 
@@ -67,13 +63,6 @@ module _ {P : Product} (S S₁ C C₁ M W T : List ℕ) (m s t c : ℕ) (lh : m 
             ∙ on-update2 (λ (y : ℕ). y ≡ 0) (stationsIn S .queue) m t (without (stationsIn S .queue m t) c) r u (λ e f. absurd (omega arith)) (λ e. was .1),
       ))
 
-  -- only that cart's numbers are others
-  pub others₁ : (d u : ℕ) → (d ≡ c → ⊥) → cartsIn C₁ .next d u ≡ cartsIn C .next d u
-  others₁ d u h = ap (λ (K : Carts). K .next d u) (received .carts) ∙ on-update2 (λ (x : ℕ). x ≡ cartsIn C .next d u) (cartsIn C .next) c s (cartsIn C .next c s + 1) d u (λ e f. absurd (h e)) (λ e. refl)
-
-  pub lines₁ : linesIn (cartsIn C₁ .next) W ≡ linesIn (cartsIn C .next) W
-  lines₁ = lines-kept (cartsIn C .next) (cartsIn C₁ .next) c others₁ W none-there
-
   carts₁ : cartsIn C₁ ≡ withNext (cartsIn C) c (roomsIn M .initiator m) (suc (roomsIn M .number m))
   carts₁ = let n : cartsIn C .next c s + 1 ≡ suc (roomsIn M .number m) = omega arith in received .carts ∙ ap₂ (withNext (cartsIn C) c) from n
 
@@ -81,7 +70,7 @@ module _ {P : Product} (S S₁ C C₁ M W T : List ℕ) (m s t c : ℕ) (lh : m 
   unfolding receive
   received-is =
       λ i. floorOf ((lengths-right L₁ lengths₁ ∙ sym (lengths-right L sizes)) i) ((words-right L₁ laid₁ ∙ sym (words-right L laid)) i)
-      (received .head i) (received .stations i) (carts₁ i) (roomsIn M) (textsIn T (roomsIn M)) (lines₁ i)
+      (received .head i) (received .stations i) (carts₁ i) (roomsIn M) (textsIn T (roomsIn M)) (linesIn W)
 
 -- THE SECOND: the ack list goes if nobody holds it back
 module _ {P : Product} (S₁ S₂ C₁ M W W′ T : List ℕ) (m t w : ℕ) (lh : m < P .held) (lp : t < P .stations) (sizes : Lengths (lent P S₁ C₁ M W T)) (laid : Laid (lent P S₁ C₁ M W T))
@@ -140,8 +129,8 @@ module _ {P : Product} (S₁ S₂ C₁ M W W′ T : List ℕ) (m t w : ℕ) (lh 
         laid₂,
         λ i. floorOf ((lengths-right L₂ lengths₂ ∙ sym (lengths-right L₁′ sizes)) i) ((words-right L₂ laid₂ ∙ sym (words-right L₁′ laid)) i)
             (acks .head i) (y .0 i) (cartsIn C₁) (roomsIn M) (textsIn T (roomsIn M))
-            ((push-view (cartsIn C₁ .next) W W′ t s (wordsOf 2 m n (X .acks m t)) lt ls (y .1)
-            ∙ ap (λ (r : Record). put (between t s) r (linesIn (cartsIn C₁ .next) W)) (ack-list-is (cartsIn C₁ .next) m n (X .acks m t) (omega arith))) i),
+            ((push-view W W′ t s (wordsOf 2 m n (X .acks m t)) lt ls (y .1)
+            ∙ ap (λ (r : Record). put (between t s) r (linesIn W)) (ack-list-is (registersIn W) m n (X .acks m t) (omega arith))) i),
       )
 
   when-not : (holdNone X m t ≡ false) → Lengths L₂ × Laid L₂ × (floorIn L₂ ≡ floorIn L₁′)
@@ -166,7 +155,7 @@ module _ {P : Product} (S₁ S₂ C₁ M W W′ T : List ℕ) (m t w : ℕ) (lh 
         lengthsK,
         laidK,
         λ i. floorOf ((lengths-right K lengthsK ∙ sym (lengths-right L₁′ sizes)) i) ((words-right K laidK ∙ sym (words-right L₁′ laid)) i)
-            (acks .head i) (acks .no e .0 i) (cartsIn C₁) (roomsIn M) (textsIn T (roomsIn M)) (linesIn (cartsIn C₁ .next) W),
+            (acks .head i) (acks .no e .0 i) (cartsIn C₁) (roomsIn M) (textsIn T (roomsIn M)) (linesIn W),
       )
 
   -- and the number of records that went is the written one
@@ -178,8 +167,7 @@ module _ {P : Product} (S₁ S₂ C₁ M W W′ T : List ℕ) (m t w : ℕ) (lh 
 
 -- THE THIRD: catch-up for that initiator
 module _ {P : Product} (S₂ S′ C₁ C′ M W T : List ℕ) (s t c x p : ℕ) (lp : t < P .stations) (sizes : Lengths (lent P S₂ C₁ M W T)) (laid : Laid (lent P S₂ C₁ M W T))
-    (caught : CaughtUp S₂ S′ C₁ C′ M s t c x p) (next-is : cartsIn C₁ .next c s ≡ x)
-    (none-there : (i j : ℕ) → NoRegister (handoffs c (linesIn (cartsIn C₁ .next) W i j))) where
+    (caught : CaughtUp S₂ S′ C₁ C′ M s t c x p) (next-is : cartsIn C₁ .next c s ≡ x) where
   abbrev L₂′ : Lent
   L₂′ = lent P S₂ C₁ M W T
 
@@ -215,12 +203,6 @@ module _ {P : Product} (S₂ S′ C₁ C′ M W T : List ℕ) (s t c x p : ℕ) 
             ∙ rw (not-found (tablesFloor S₂ M) t c s x (P .held) r none-named l) (by-test (eqb v t) (λ e. rw e (was .1)) (λ e. rw e (was .1))),
       ))
 
-  lines₃ : linesIn (cartsIn C′ .next) W ≡ linesIn (cartsIn C₁ .next) W
-  lines₃ =
-      lines-kept (cartsIn C₁ .next) (cartsIn C′ .next) c
-      (λ d v h. ap (λ (K : Carts). K .next d v) (caught .carts) ∙ on-update2 (λ (y : ℕ). y ≡ cartsIn C₁ .next d v) (cartsIn C₁ .next) c s u d v (λ e f. absurd (h e)) (λ e. refl))
-      W none-there
-
   -- where the code stopped is where the written loop stops
   stop-is : catchUpStop (limitsOf P) G t c s ≡ record { upto = u; found = o }
   stop-is =
@@ -233,10 +215,10 @@ module _ {P : Product} (S₂ S′ C₁ C′ M W T : List ℕ) (s t c x p : ℕ) 
   abbrev raised : Floor
   raised = setNext G (update2 (G .next) c s u)
 
-  queued : (h : Option ℕ) → floorOf (lengthsIn L₂′) (wordsIn L₂′) (headIn S₂) (queuedFor (stationsIn S₂) t c (isFound h)) (withNext (cartsIn C₁) c s u) (roomsIn M) (textsIn T (roomsIn M)) (linesIn (cartsIn C₁ .next) W)
+  queued : (h : Option ℕ) → floorOf (lengthsIn L₂′) (wordsIn L₂′) (headIn S₂) (queuedFor (stationsIn S₂) t c (isFound h)) (withNext (cartsIn C₁) c s u) (roomsIn M) (textsIn T (roomsIn M)) (linesIn W)
       ≡ byOption h raised (λ k. enqueue raised k t c)
-  queued none = λ i. floorOf (lengthsIn L₂′) (wordsIn L₂′) (headIn S₂) (sym (queued-none (stationsIn S₂) t c (λ k. false) (λ k. refl)) i) (withNext (cartsIn C₁) c s u) (roomsIn M) (textsIn T (roomsIn M)) (linesIn (cartsIn C₁ .next) W)
-  queued (some k) = λ i. floorOf (lengthsIn L₂′) (wordsIn L₂′) (headIn S₂) (one k i) (withNext (cartsIn C₁) c s u) (roomsIn M) (textsIn T (roomsIn M)) (linesIn (cartsIn C₁ .next) W)
+  queued none = λ i. floorOf (lengthsIn L₂′) (wordsIn L₂′) (headIn S₂) (sym (queued-none (stationsIn S₂) t c (λ k. false) (λ k. refl)) i) (withNext (cartsIn C₁) c s u) (roomsIn M) (textsIn T (roomsIn M)) (linesIn W)
+  queued (some k) = λ i. floorOf (lengthsIn L₂′) (wordsIn L₂′) (headIn S₂) (one k i) (withNext (cartsIn C₁) c s u) (roomsIn M) (textsIn T (roomsIn M)) (linesIn W)
     where
       queue-of : (k d v : ℕ) → cond (eqb v t && eqb d k) (with (stationsIn S₂ .queue d v) c) (stationsIn S₂ .queue d v) ≡ update2 (stationsIn S₂ .queue) k t (with (stationsIn S₂ .queue k t) c) d v
       queue-of k d v =
@@ -259,12 +241,9 @@ module _ {P : Product} (S₂ S′ C₁ C′ M W T : List ℕ) (s t c x p : ℕ) 
   caught-is =
       rw stop-is
       ((λ i. floorOf ((lengths-right L₃ lengths₃ ∙ sym (lengths-right L₂′ sizes)) i) ((words-right L₃ laid₃ ∙ sym (words-right L₂′ laid)) i)
-      (caught .head i) (caught .stations i) (caught .carts i) (roomsIn M) (textsIn T (roomsIn M)) (lines₃ i)) ∙ queued o)
+      (caught .head i) (caught .stations i) (caught .carts i) (roomsIn M) (textsIn T (roomsIn M)) (linesIn W)) ∙ queued o)
 
 -- THE WHOLE STEP
-no-register-behind : (c n x : ℕ) (l : List Record) → NoRegister (handoffs c l) → NoRegister (handoffs c (l ++ (ackList n x ∷ [])))
-no-register-behind c n x l h = subst NoRegister (sym (handoffs-append c l (ackList n x ∷ []) ∙ append-nil (handoffs c l))) h
-
 module _ {P : Product} (S S′ C C′ M W W′ T : List ℕ) (m t c p w : ℕ) (X : Standing (lent P S C M W T)) (may : MayRadio (limitsOf P) (floorIn (lent P S C M W T)) t c m)
     (over : HandedOver S S′ C C′ M W W′ m (roomsIn M .initiator m) (roomsIn M .number m) t c p w) where
   abbrev K₀ : Lent
@@ -288,12 +267,6 @@ module _ {P : Product} (S S′ C C′ M W W′ T : List ℕ) (m t c p w : ℕ) (
   is-queued : Queued (limitsOf P) (F .waiting) (F .initiator) (F .number) (F .named) (F .place) (F .next) m t c
   is-queued = X .facts .queues m t c (may .queued)
 
-  not-travelling : (a b : ℕ) → F .place c ≡ travelling a b → ⊥
-  not-travelling a b q = let z : at t ≡ travelling a b = sym (at-is (F .place c) t (may .is-at)) ∙ q in let y : _≡_ {A = ℕ} 0 1 = cc in omega arith
-
-  none₀ : (i j : ℕ) → NoRegister (handoffs c (F .lines i j))
-  none₀ i j = subst NoRegister (sym (X .facts .handoffs-right c i j)) (none-unless-travelling (F .place c) i j (rowOf (limitsOf P) (F .next c)) not-travelling)
-
   lh₀ : m < P .held
   lh₀ = radio-numbers K₀ X t c m may .0
 
@@ -301,7 +274,7 @@ module _ {P : Product} (S S′ C C′ M W W′ T : List ℕ) (m t c p w : ℕ) (
   lp₀ = let a = may .station in let b = X .sized .counts .stations in omega arith
 
   one : floorIn K₁ ≡ receive F m t c
-  one = received-is S (over .S₁) C (over .C₁) M W T m i₀ t c lh₀ (X .lengths) (X .laid) (over .received) (is-queued .due) refl none₀
+  one = received-is S (over .S₁) C (over .C₁) M W T m i₀ t c lh₀ (X .lengths) (X .laid) (over .received) (is-queued .due) refl
 
   two : Lengths K₂ × Laid K₂ × (floorIn K₂ ≡ sendAcksIfAll (floorIn K₁) m t) × (w ≡ cond (allAcked (floorIn K₁) m t) 1 0)
   two =
@@ -312,21 +285,9 @@ module _ {P : Product} (S S′ C C′ M W W′ T : List ℕ) (m t c p w : ℕ) (
       let fit = X .sized .copies .copy m t lh₀ lp₀ in
       let e = few-carts K₀ X in
       acks-are (over .S₁) (over .S₂) (over .C₁) M W W′ T m t w lh₀ lp₀
-      (lengths₁ S (over .S₁) C (over .C₁) M W T m i₀ t c lh₀ (X .lengths) (X .laid) (over .received) (is-queued .due) refl none₀)
-      (laid₁ S (over .S₁) C (over .C₁) M W T m i₀ t c lh₀ (X .lengths) (X .laid) (over .received) (is-queued .due) refl none₀)
+      (lengths₁ S (over .S₁) C (over .C₁) M W T m i₀ t c lh₀ (X .lengths) (X .laid) (over .received) (is-queued .due) refl)
+      (laid₁ S (over .S₁) C (over .C₁) M W T m i₀ t c lh₀ (X .lengths) (X .laid) (over .received) (is-queued .due) refl)
       (r .1) (omega arith) (r .3) (rw (copy, many) fit) (is-queued .held .some) (over .acks)
-
-  none₁ : (i j : ℕ) → NoRegister (handoffs c (floorIn K₁ .lines i j))
-  none₁ i j = subst (λ (f : ℕ → ℕ → List Record). NoRegister (handoffs c (f i j))) (sym (lines₁ S (over .S₁) C (over .C₁) M W T m i₀ t c lh₀ (X .lengths) (X .laid) (over .received) (is-queued .due) refl none₀)) (none₀ i j)
-
-  none₂ : (i j : ℕ) → NoRegister (handoffs c (floorIn K₂ .lines i j))
-  unfolding sendAcks
-  none₂ i j =
-      subst (λ (G : Floor). NoRegister (handoffs c (G .lines i j))) (sym (two .2))
-      (on-cond (λ (G : Floor). NoRegister (handoffs c (G .lines i j))) (allAcked (floorIn K₁) m t)
-      (λ e. on-cond (λ (l : List Record). NoRegister (handoffs c l)) (between t (floorIn K₁ .initiator m) i j)
-      (λ f. no-register-behind c (floorIn K₁ .number m) (floorIn K₁ .acks m t) (floorIn K₁ .lines i j) (none₁ i j)) (λ f. none₁ i j))
-      (λ e. none₁ i j))
 
   next₁ : cartsIn (over .C₁) .next c i₀ ≡ n₀ + 1
   next₁ = ap (λ (k : Carts). k .next c i₀) (over .received .carts) ∙ update2-at (cartsIn C .next) c i₀ (cartsIn C .next c i₀ + 1) ∙ ap (λ (y : ℕ). y + 1) (is-queued .due)
@@ -335,7 +296,7 @@ module _ {P : Product} (S S′ C C′ M W W′ T : List ℕ) (m t c p w : ℕ) (
   pub over-is : floorIn (lent P S′ C′ M W′ T) ≡ handOver (limitsOf P) F m t c .floor
   unfolding handOver
   over-is =
-      caught-is (over .S₂) S′ (over .C₁) C′ M W′ T i₀ t c (n₀ + 1) p lp₀ (two .0) (two .1) (over .caught) next₁ none₂
+      caught-is (over .S₂) S′ (over .C₁) C′ M W′ T i₀ t c (n₀ + 1) p lp₀ (two .0) (two .1) (over .caught) next₁
       ∙ ap (λ (G : Floor). catchUp (limitsOf P) G t c i₀) (two .2 ∙ ap (λ (G : Floor). sendAcksIfAll G m t) one)
 
   -- what it reports
