@@ -297,7 +297,3 @@ module _ {P : Product} (S S′ C C′ M W T : List ℕ) (X : Laid (lent P S C M 
       (λ d ld. ap (λ (f : ℕ → Bool). f d) (there .canonical) ∙ on-update (λ (b : Bool). b ≡ true) (canonicalIn C) c true d (λ q. refl) (λ q. X .canonical d ld))
       locals
       few′
-
-  -- the other carts keep their next numbers
-  pub others-next : (d s : ℕ) → (d ≡ c → ⊥) → cartsIn C′ .next d s ≡ cartsIn C .next d s
-  others-next d s h = ap (λ (Z : Carts). Z .next d s) (there .carts) ∙ rw (ne-eqb d c h)

@@ -23,14 +23,15 @@ use Rattle.carts.specs.Words.{HasRow}
 use Rattle.carts.specs.View.{cartsIn, canonicalIn}
 use Rattle.messages.specs.View.{roomsIn}
 use Rattle.lines.specs.Form.{form}
-use Rattle.lines.specs.Lines.{used}
+use Rattle.lines.specs.Lines.{used, registersIn}
 use Rattle.lines.specs.Words.{capacity}
 use Rattle.lines.specs.Post.{Popped}
 use Rattle.view.specs.Records.{linesIn, wordsOf}
 use Rattle.view.specs.View.{Lent, lent, textsIn, floorOf, floorIn}
 use Rattle.view.proofs.LinesView.{push-view, pop-view}
 use Rattle.view.proofs.Lengths.{Lengths, lengths-right, nothing-beyond}
-use Rattle.view.proofs.Laid.{Laid, words-right, local-stays, local-leaves, laid-carts, laid-push, laid-pop}
+use Rattle.view.proofs.Laid.{Laid, words-right, local-stays, local-leaves, laid-carts, laid-push, laid-pop, laid-carry}
+use Rattle.view.proofs.Registers.{NoRegister, none-unless-travelling, none-beheaded, carry-view, carried-row}
 use Rattle.view.proofs.RecordWords.{register-is, register-right}
 use Rattle.view.proofs.Standing.{Standing, rooms-in-pool, used-on-floor, few-stations, few-carts}
 use Rattle.handoff.specs.Left.{Left}
@@ -92,7 +93,7 @@ module _ {P : Product} (S S′ C C′ M W W₁ W′ T : List ℕ) (c i t : ℕ) 
         stations = gone .table ∙ X .lengths .stations;
         carts = gone .length ∙ X .lengths .carts;
         messages = X .lengths .messages;
-        lines = gone .lines .words ∙ (pop .words ∙ X .lengths .lines);
+        lines = gone .lines .words ∙ (gone .row .words ∙ (pop .words ∙ X .lengths .lines));
         texts = X .lengths .texts;
       }
 
@@ -116,7 +117,8 @@ module _ {P : Product} (S S′ C C′ M W W₁ W′ T : List ℕ) (c i t : ℕ) 
 
   pub laid : Laid L′
   laid =
-      laid-push S′ C′ M W₁ T
+      laid-push S′ C′ M (gone .carrying) T
+      (laid-carry S′ C′ M W₁ T
       (laid-carts S C M W₁ T (laid-pop S C M W T (X .laid) W₁ i t li lt pop) S′ C′
       (λ d ld. ap (λ (f : ℕ → Bool). f d) (gone .canonical) ∙ on-update (λ (b : Bool). b ≡ true) (canonicalIn C) c true d (λ q. refl) (λ q. X .laid .canonical d ld))
       locals
@@ -124,13 +126,24 @@ module _ {P : Product} (S S′ C C′ M W W₁ W′ T : List ℕ) (c i t : ℕ) 
         ap (λ (Z : Stations). Z .copy m u) (gone .stations) ∙ was .0,
         ap (λ (Z : Stations). Z .queue m u) (gone .stations) ∙ rw (was .1) (none-either-way (eqb u t) (without 0 c) (let z = without-lt 0 0 c (omega arith) in omega arith)),
       )))
+      (gone .carrying) c (listOf 16 (cartsIn C .next c)) (gone .row))
       W′ t i (wordsOf 5 c 0 0) lt li (gone .lines) (register-right (roomsIn M) t i c (omega (arith, lc)))
 
-  lines : linesIn (cartsIn C′ .next) W′ ≡ put (between t i) (register c (listOf 16 (cartsIn C .next c))) (behead i t (linesIn (cartsIn C .next) W))
+  -- a leaving cart has no register on a line, also where its deregister is taken off
+  no-register : (a b : ℕ) → NoRegister (handoffs c (linesIn W₁ a b))
+  no-register a b =
+      rw (ap (λ (l : ℕ → ℕ → List Record). handoffs c (l a b)) (pop-view W W₁ i t li lt pop))
+      (none-beheaded c i t (linesIn W) a b
+      (rw (X .facts .handoffs-right c a b, is-leaving L X c i t rest may)
+      (none-unless-travelling (leaving t i) a b (rowOf (limitsOf P) (cartsIn C .next c)) (λ s u e. (let z : _≡_ {A = ℕ} 0 1 = cc e in omega arith)))))
+
+  -- "the register record carries the cart's whole row of next numbers"
+  lines : linesIn W′ ≡ put (between t i) (register c (listOf 16 (cartsIn C .next c))) (behead i t (linesIn W))
   lines =
-      ap (λ (K : Carts). linesIn (K .next) W′) (gone .carts)
-      ∙ push-view (cartsIn C .next) W₁ W′ t i (wordsOf 5 c 0 0) lt li (gone .lines)
-      ∙ ap₂ (λ (r : Record) (l : ℕ → ℕ → List Record). put (between t i) r l) (register-is (cartsIn C .next) c (omega (arith, lc))) (pop-view (cartsIn C .next) W W₁ i t li lt pop)
+      push-view (gone .carrying) W′ t i (wordsOf 5 c 0 0) lt li (gone .lines)
+      ∙ ap₂ (λ (r : Record) (l : ℕ → ℕ → List Record). put (between t i) r l)
+      (register-is (registersIn (gone .carrying)) c (omega (arith, lc)) ∙ ap (register c) (carried-row W₁ (gone .carrying) c _ (gone .row) (cartsIn C .next c) refl))
+      (carry-view W₁ (gone .carrying) c _ (gone .row) no-register ∙ pop-view W W₁ i t li lt pop)
 
   -- the head of the line is handled
   handled : onWire (limitsOf (L .product)) (floorIn L) i t ≡ onDeregister (limitsOf (L .product)) (unlined (floorIn L) i t) i t c

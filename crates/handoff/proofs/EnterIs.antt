@@ -6,7 +6,7 @@ use Prim.Native.Nat.{ℕ, _<_, _≤_}
 use native.Mathlib.Omega.{arith}
 use lib.ListN.{getD}
 use Rattle.protocol.specs.Floor.{Floor, Place, outside, localTo, limitsOf, Product}
-use Rattle.protocol.specs.Handoff.{onEnter, rowOf}
+use Rattle.protocol.specs.Handoff.{onEnter}
 use Rattle.protocol.proofs.Tests.{by-lt, listOf-at, listOf-past}
 use Rattle.protocol.proofs.FloorLaws.{outside-is}
 use Rattle.protocol.proofs.Accepted.{MayEnter}
@@ -19,11 +19,10 @@ use Rattle.view.specs.Records.{linesIn}
 use Rattle.view.specs.View.{Lent, lent, lengthsIn, wordsIn, textsIn, floorOf, floorIn}
 use Rattle.view.proofs.Lengths.{Lengths, lengths-right}
 use Rattle.view.proofs.Laid.{Laid, words-right}
-use Rattle.view.proofs.Registers.{none-unless-travelling, lines-kept}
 use Rattle.view.proofs.Standing.{Standing, few-stations, few-carts}
 use Rattle.queue.specs.Rooms.{roomCount, HasRooms}
 use Rattle.handoff.specs.Arrived.{allZero, Arrived}
-use Rattle.handoff.proofs.ArriveIs.{expected-fits, parts-ready, none-beyond, rooms-there, expects-none, arrived-is, passed-is, laid-there, others-next}
+use Rattle.handoff.proofs.ArriveIs.{expected-fits, parts-ready, none-beyond, rooms-there, expects-none, arrived-is, passed-is, laid-there}
 
 -- WHAT THE ENTER REQUIRES of the parts
 module _ (L : Lent) (X : Standing L) (t c : ℕ) (may : MayEnter (floorIn L) t c) where
@@ -78,13 +77,6 @@ module _ {P : Product} (S S′ C C′ M W T : List ℕ) (t c p : ℕ) (X : Stand
   pub laid : Laid L′
   laid = laid-there S S′ C C′ M W T (X .laid) t c lt′ lc allZero p (λ u. ap (λ (q : Place). localTo q u) out) there
 
-  -- no line has a register of a cart that is outside
-  lines : linesIn (cartsIn C′ .next) W ≡ linesIn (cartsIn C .next) W
-  lines =
-      lines-kept (cartsIn C .next) (cartsIn C′ .next) c
-      (others-next S S′ C C′ M W T (X .laid) t c lt′ lc allZero p (λ u. ap (λ (q : Place). localTo q u) out) there) W
-      (λ i j. rw (X .facts .handoffs-right c i j) (none-unless-travelling (F .place c) i j (rowOf (limitsOf (L .product)) (F .next c)) (λ s u e. (let z : _≡_ {A = ℕ} 0 1 = cc out in omega arith))))
-
   zeros : (s : ℕ) → getD allZero s 0 ≡ 0
   zeros s = let none : ℕ → ℕ = λ _. 0 in by-lt s 16 (λ l. listOf-at 16 none 0 s l) (λ l. listOf-past 16 none 0 s l)
 
@@ -93,8 +85,8 @@ module _ {P : Product} (S S′ C C′ M W T : List ℕ) (t c p : ℕ) (X : Stand
   unfolding onEnter
   enter-is =
       (λ i. floorOf ((lengths-right L′ lengths ∙ sym (lengths-right L (X .lengths))) i) ((words-right L′ laid ∙ sym (words-right L (X .laid))) i)
-      (headIn S′) (stationsIn S′) (cartsIn C′) (roomsIn M) (textsIn T (roomsIn M)) (lines i))
-      ∙ arrived-is (limitsOf P) S S′ C C′ M T (lengthsIn L) (wordsIn L) (linesIn (cartsIn C .next) W) t c allZero (λ s. 0) p
+      (headIn S′) (stationsIn S′) (cartsIn C′) (roomsIn M) (textsIn T (roomsIn M)) (linesIn W))
+      ∙ arrived-is (limitsOf P) S S′ C C′ M T (lengthsIn L) (wordsIn L) (linesIn W) t c allZero (λ s. 0) p
       zeros (λ s l. refl) (P .held-fit, none-beyond L X t (may .station)) (few-stations L X) (expects-none L X t (may .station)) there
 
   pub enter-reports : onEnter (limitsOf (L .product)) F t c .report ≡ record { kind = 1; a = t; b = c; p = p; w = 0; text = [] }
@@ -104,7 +96,7 @@ module _ {P : Product} (S S′ C C′ M W T : List ℕ) (t c p : ℕ) (X : Stand
         kind = 1;
         a = t;
         b = c;
-        p = sym (passed-is (limitsOf P) S S′ C C′ M T (lengthsIn L) (wordsIn L) (linesIn (cartsIn C .next) W) t c allZero (λ s. 0) p
+        p = sym (passed-is (limitsOf P) S S′ C C′ M T (lengthsIn L) (wordsIn L) (linesIn W) t c allZero (λ s. 0) p
             zeros (λ s l. refl) (P .held-fit, none-beyond L X t (may .station)) (few-stations L X) (expects-none L X t (may .station)) there) i;
         w = 0;
         text = [];

@@ -20,7 +20,7 @@ use Rattle.carts.specs.Words.{HasRow}
 use Rattle.carts.specs.View.{cartsIn, canonicalIn}
 use Rattle.messages.specs.View.{roomsIn}
 use Rattle.lines.specs.Form.{form}
-use Rattle.lines.specs.Lines.{used}
+use Rattle.lines.specs.Lines.{used, registersIn}
 use Rattle.lines.specs.Words.{capacity}
 use Rattle.view.specs.Records.{linesIn, wordsOf}
 use Rattle.view.specs.View.{Lent, lent, textsIn, floorOf, floorIn}
@@ -106,11 +106,10 @@ module _ {P : Product} (S C C′ M W W′ T : List ℕ) (c old to : ℕ) (X : St
       (X .laid .few))
       W′ to old (wordsOf 4 c 0 0) lt lo (moved .lines) (deregister-right (roomsIn M) to old c (omega arith))
 
-  lines : linesIn (cartsIn C′ .next) W′ ≡ put (between to old) (deregister c) (linesIn (cartsIn C .next) W)
+  lines : linesIn W′ ≡ put (between to old) (deregister c) (linesIn W)
   lines =
-      ap (λ (K : Carts). linesIn (K .next) W′) (moved .carts)
-      ∙ push-view (cartsIn C .next) W W′ to old (wordsOf 4 c 0 0) lt lo (moved .lines)
-      ∙ ap (λ (r : Record). put (between to old) r (linesIn (cartsIn C .next) W)) (deregister-is (cartsIn C .next) c (omega arith))
+      push-view W W′ to old (wordsOf 4 c 0 0) lt lo (moved .lines)
+      ∙ ap (λ (r : Record). put (between to old) r (linesIn W)) (deregister-is (registersIn W) c (omega arith))
 
   -- "a deregister goes from to to the old station; the cart is leaving"
   pub move-is : floorIn L′ ≡ onMove (floorIn L) c to .floor

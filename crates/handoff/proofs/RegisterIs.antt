@@ -1,18 +1,17 @@
 -- A REGISTER OVER THE LENT PARTS IS THE WRITTEN REGISTER: the floor that they then say is the floor of the written step.
-use mathlib.Core.Path.{_≡_, sym, ap, ap₂, _∙_}
-use mathlib.Core.Bool.{true, false, _&&_}
+use mathlib.Core.Path.{_≡_, refl, sym, ap, _∙_}
+use mathlib.Core.Bool.{true, false}
 use mathlib.Core.List.{List, [], _∷_}
 use Prim.Native.Nat.{ℕ, _+_, _*_, _<_, _≤_}
 use native.Mathlib.Omega.{arith}
-use lib.Dec.{eqb}
 use lib.ListN.{getD}
 use Rattle.protocol.specs.Folds.{listOf}
-use Rattle.protocol.specs.Floor.{Floor, Place, travelling, Record, register, tail, behead, localTo, limitsOf, Product}
+use Rattle.protocol.specs.Floor.{Floor, Place, travelling, Record, register, behead, localTo, limitsOf, Product}
 use Rattle.protocol.specs.Events.{Done}
 use Rattle.protocol.specs.Handoff.{entryOf, rowOf, onRegister}
 use Rattle.protocol.specs.Wired.{handle, onWire}
 use Rattle.protocol.specs.Form.{registering, handoffs, handoffOf}
-use Rattle.protocol.proofs.Tests.{by-test, both-equal, eqb-self, listOf-past}
+use Rattle.protocol.proofs.Tests.{eqb-self, listOf-past}
 use Rattle.protocol.proofs.Accepted.{MayWire, unlined}
 use Rattle.protocol.proofs.HandoffSteps.{registering-is}
 use Rattle.protocol.specs.CartSets.{has}
@@ -26,18 +25,17 @@ use Rattle.view.specs.View.{Lent, lent, lengthsIn, wordsIn, textsIn, floorOf, f
 use Rattle.view.proofs.LinesView.{pop-view}
 use Rattle.view.proofs.Lengths.{Lengths, lengths-right}
 use Rattle.view.proofs.Laid.{Laid, words-right, laid-pop}
-use Rattle.view.proofs.Registers.{lines-kept}
 use Rattle.view.proofs.Standing.{Standing, few-stations, few-carts}
 use Rattle.queue.specs.Rooms.{roomCount, HasRooms}
 use Rattle.handoff.specs.Arrived.{Arrived}
-use Rattle.handoff.proofs.ArriveIs.{expected-fits, parts-ready, none-beyond, rooms-there, expects-none, arrived-is, passed-is, laid-there, others-next}
+use Rattle.handoff.proofs.ArriveIs.{expected-fits, parts-ready, none-beyond, rooms-there, expects-none, arrived-is, passed-is, laid-there}
 
 -- WHAT IS KNOWN where the register of cart c is the head of the line from i to t
 module _ (L : Lent) (X : Standing L) (c i t : ℕ) (row : List ℕ) (rest : List Record) (may : MayWire (floorIn L) i t (register c row) rest) where
   abbrev F : Floor
   F = floorIn L
 
-  -- the cart travels from i to t, its row is that of its next numbers, and the line has no other hand-off of it
+  -- the cart travels from i to t, and its row is that of its next numbers
   said : (F .place c ≡ travelling i t) × ((row ≡ rowOf (limitsOf (L .product)) (F .next c)) × (handoffs c rest ≡ []))
   said =
       let z : registering row ∷ handoffs c rest ≡ handoffOf (F .place c) i t (rowOf (limitsOf (L .product)) (F .next c)) = rw (may .line, eqb-self c) at (X .facts .handoffs-right c i t) in
@@ -68,17 +66,9 @@ module _ (L : Lent) (X : Standing L) (c i t : ℕ) (row : List ℕ) (rest : List
   pub register-fits : (s : ℕ) → s < 16 → stationsIn (L .stations) .expected t s ≤ 4294967295
   register-fits = expected-fits L X t (may .to)
 
-  -- without it, no line has a hand-off of the cart
-  pub none-left : (a b : ℕ) → handoffs c (behead i t (F .lines) a b) ≡ []
-  none-left a b =
-      by-test (eqb i a && eqb t b)
-      (λ q. rw q (let z = both-equal i a t b q in
-      ap (λ (l : List Record). handoffs c (tail l)) (ap₂ (λ (x y : ℕ). F .lines x y) (sym (z .0)) (sym (z .1)) ∙ may .line) ∙ said .1 .1))
-      (λ q. rw q (X .facts .handoffs-right c a b ∙ rw (is-travelling, q)))
-
 module _ {P : Product} (S S′ C C′ M W W₁ T : List ℕ) (c i t p : ℕ) (row : List ℕ) (rest : List Record) (X : Standing (lent P S C M W T))
     (may : MayWire (floorIn (lent P S C M W T)) i t (register c row) rest) (pop : Popped W W₁ (i * 16 + t))
-    (there : Arrived S S′ C C′ M t c (listOf 16 (cartsIn C .next c)) p) where
+    (there : Arrived S S′ C C′ M t c row p) where
   abbrev L : Lent
   L = lent P S C M W T
 
@@ -115,20 +105,14 @@ module _ {P : Product} (S S′ C C′ M W W₁ T : List ℕ) (c i t p : ℕ) (ro
   nowhere u = ap (λ (q : Place). localTo q u) (is-travelling L X c i t row rest may)
 
   pub laid : Laid L′
-  laid = laid-there S S′ C C′ M W₁ T popped t c lt′ lc (listOf 16 (cartsIn C .next c)) p nowhere there
+  laid = laid-there S S′ C C′ M W₁ T popped t c lt′ lc row p nowhere there
 
-  lines : linesIn (cartsIn C′ .next) W₁ ≡ behead i t (linesIn (cartsIn C .next) W)
-  lines =
-      lines-kept (cartsIn C .next) (cartsIn C′ .next) c (others-next S S′ C C′ M W₁ T popped t c lt′ lc (listOf 16 (cartsIn C .next c)) p nowhere there) W₁
-      (λ a b. rw (ap (λ (l : ℕ → ℕ → List Record). handoffs c (l a b)) (pop-view (cartsIn C .next) W W₁ i t li lt pop) ∙ none-left L X c i t row rest may a b) tt)
-      ∙ pop-view (cartsIn C .next) W W₁ i t li lt pop
+  lines : linesIn W₁ ≡ behead i t (linesIn W)
+  lines = pop-view W W₁ i t li lt pop
 
-  -- its row is that of the record
-  is-row : (s : ℕ) → getD (listOf 16 (cartsIn C .next c)) s 0 ≡ entryOf row s
-  is-row s = ap (λ (l : List ℕ). getD l s 0) (sym (its-row L X c i t row rest may))
-
+  -- its row is that of the cart, which has sixteen numbers
   no-more : (s : ℕ) → 16 ≤ s → entryOf row s ≡ 0
-  no-more s l = sym (is-row s) ∙ listOf-past 16 (cartsIn C .next c) 0 s l
+  no-more s l = ap (λ (l : List ℕ). getD l s 0) (its-row L X c i t row rest may) ∙ listOf-past 16 (cartsIn C .next c) 0 s l
 
   -- the head of the line is handled
   handled : onWire (limitsOf (L .product)) (floorIn L) i t ≡ onRegister (limitsOf (L .product)) (unlined (floorIn L) i t) t c row
@@ -140,8 +124,8 @@ module _ {P : Product} (S S′ C C′ M W W₁ T : List ℕ) (c i t p : ℕ) (ro
   arrived =
       (λ k. floorOf ((lengths-right L′ lengths ∙ sym (lengths-right L (X .lengths))) k) ((words-right L′ laid ∙ sym (words-right L (X .laid))) k)
       (headIn S′) (stationsIn S′) (cartsIn C′) (roomsIn M) (textsIn T (roomsIn M)) (lines k))
-      ∙ arrived-is (limitsOf P) S S′ C C′ M T (lengthsIn L) (wordsIn L) (behead i t (linesIn (cartsIn C .next) W)) t c (listOf 16 (cartsIn C .next c)) (entryOf row) p
-      is-row no-more (P .held-fit, none-beyond L X t (may .to)) (few-stations L X) (expects-none L X t (may .to)) there
+      ∙ arrived-is (limitsOf P) S S′ C C′ M T (lengthsIn L) (wordsIn L) (behead i t (linesIn W)) t c row (entryOf row) p
+      (λ s. refl) no-more (P .held-fit, none-beyond L X t (may .to)) (few-stations L X) (expects-none L X t (may .to)) there
 
   -- "Register": the cart is struck, catches up, and is at this station
   pub register-is : floorIn L′ ≡ onWire (limitsOf (L .product)) (floorIn L) i t .floor
@@ -154,8 +138,8 @@ module _ {P : Product} (S S′ C C′ M W W₁ T : List ℕ) (c i t p : ℕ) (ro
         kind = 3;
         a = 5;
         b = c;
-        p = sym (passed-is (limitsOf P) S S′ C C′ M T (lengthsIn L) (wordsIn L) (behead i t (linesIn (cartsIn C .next) W)) t c (listOf 16 (cartsIn C .next c)) (entryOf row) p
-            is-row no-more (P .held-fit, none-beyond L X t (may .to)) (few-stations L X) (expects-none L X t (may .to)) there) k;
+        p = sym (passed-is (limitsOf P) S S′ C C′ M T (lengthsIn L) (wordsIn L) (behead i t (linesIn W)) t c row (entryOf row) p
+            (λ s. refl) no-more (P .held-fit, none-beyond L X t (may .to)) (few-stations L X) (expects-none L X t (may .to)) there) k;
         w = 0;
         text = [];
       }

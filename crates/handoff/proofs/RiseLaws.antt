@@ -1,5 +1,5 @@
 -- WHAT AN ARRIVAL LEAVES of the expected numbers, the queues and the local list.
-use mathlib.Core.Path.{_≡_, ap, _∙_, subst}
+use mathlib.Core.Path.{_≡_, ap, _∙_}
 use mathlib.Core.List.{List}
 use Prim.Native.Nat.{ℕ, _<_, _≤_}
 use native.Mathlib.Omega.{arith}
@@ -8,7 +8,7 @@ use Rattle.stations.specs.View.{Stations, withLocal}
 use Rattle.messages.specs.View.{Rooms}
 use Rattle.catchup.specs.Arrival.{occurs, queuedFor}
 use Rattle.handoff.specs.Struck.{struckFrom}
-use Rattle.handoff.specs.Arrived.{joined, Arrived}
+use Rattle.handoff.specs.Arrived.{joined}
 
 -- the strike leaves the expected numbers
 pub few-still : (S : Stations) (R : Rooms) (t c : ℕ) (row : List ℕ) {T : Stations} → T ≡ struckFrom S R t c row
@@ -20,7 +20,3 @@ pub joins : (S : Stations) (t c l k : ℕ) (nearest : List ℕ) {T U : Stations}
 joins S t c l k nearest e el ek f =
     f ∙ ap (λ (X : Stations). withLocal X t k) e
     ∙ ap (λ (x : ℕ). withLocal (queuedFor S t c (occurs nearest 16)) t x) (ek ∙ ap (λ (x : ℕ). with x c) (el ∙ ap (λ (X : Stations). X .local t) e))
-
--- an arrival with another writing of its row
-pub with-row : {S S′ C C′ M : List ℕ} {t c : ℕ} {row row′ : List ℕ} {p : ℕ} → row ≡ row′ → Arrived S S′ C C′ M t c row p → Arrived S S′ C C′ M t c row′ p
-with-row {S} {S′} {C} {C′} {M} {t} {c} {row} {row′} {p} e h = subst (λ (r : List ℕ). Arrived S S′ C C′ M t c r p) e h

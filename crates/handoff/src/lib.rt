@@ -6,7 +6,6 @@ ghost use mathlib.Core.Bool.{true};
 ghost use Prim.Native.Nat.{ℕ, _<_, _≤_};
 ghost use lib.ListN.{length};
 ghost use Rattle.protocol.specs.CartSets.{has};
-ghost use Rattle.protocol.specs.Folds.{listOf};
 ghost use Rattle.protocol.specs.Floor.{at, leaving};
 ghost use Rattle.stations.specs.View.{initiators, HasStation, stationsIn, headIn, namingIn};
 ghost use Rattle.carts.specs.View.{cartsIn};
@@ -76,8 +75,8 @@ fn leave(stations: &mut [u64], number: CartNumber, station: Station)
     stations::put_local(stations, station, local);
 }
 
-// "Deregister: the cart leaves every queue entry here (emptied entries go) and the local list. A register goes to the new station": come
-// from the new station, handled at the old one.
+// "Deregister: the cart leaves every queue entry here (emptied entries go) and the local list. A register goes to the new station; the
+// register record carries the cart's whole row of next numbers": come from the new station, handled at the old one.
 pub fn on_deregister(
     stations: &mut [u64],
     carts: &mut [u64],
@@ -92,7 +91,9 @@ pub fn on_deregister(
 {
     leave(stations, number, station);
     let cart = carts::cart_at(carts, number);
+    let row = cart.next;
     carts::put_cart(carts, number, cart.depart());
+    lines::put_register(lines, number.0 as usize, row);
     lines::push_back(
         lines,
         station.0 as usize,
@@ -262,9 +263,9 @@ fn dock(
     }
 }
 
-// "the cart is struck. Then catch-up for every initiator in rising order, and the cart is at this station": with that row of next numbers.
-// Answers how many numbers were passed over.
-fn on_arrive(
+// "Register": of a cart, handled at the station that it greeted. "the cart is struck. Then catch-up for every initiator in rising order, and the
+// cart is at this station": with the row of next numbers that its register carried. Answers how many numbers were passed over.
+pub fn on_register(
     stations: &mut [u64],
     carts: &mut [u64],
     messages: &[u64],
@@ -284,23 +285,6 @@ fn on_arrive(
     caught.passed
 }
 
-// "Register": of a cart, handled at the station that it greeted. Its row of next numbers is in the carts' table.
-pub fn on_register(
-    stations: &mut [u64],
-    carts: &mut [u64],
-    messages: &[u64],
-    station: Station,
-    number: CartNumber,
-) -> u64
-    requires { ⌜ HasStation (now stations) (station .0) × HasRow (now carts) (number .0) × HasRooms (now messages) × (station .0 < 16) × (number .0 < 64) ⌝ }
-    requires { ⌜ ((s : ℕ) → s < initiators → stationsIn (now stations) .expected (station .0) s ≤ 4294967295) ⌝ }
-    requires { ⌜ ((m : ℕ) → has (namingIn (stationsIn (now stations)) (station .0) (number .0)) m ≡ true → m < roomCount (now messages)) ⌝ }
-    ensures { λ r. ⌜ Arrived (now (stations .entry)) (now (stations .exit)) (now (carts .entry)) (now (carts .exit)) (now (messages .entry)) (station .0) (number .0) (listOf 16 (cartsIn (now (carts .entry)) .next (number .0))) r ⌝ }
-{
-    let row = carts::row_of(carts, number);
-    on_arrive(stations, carts, messages, station, number, row)
-}
-
 // "Enter (station, cart): as a register with all next numbers 0, handled at once"
 pub fn on_enter(
     stations: &mut [u64],
@@ -315,5 +299,5 @@ pub fn on_enter(
     ensures { λ r. ⌜ Arrived (now (stations .entry)) (now (stations .exit)) (now (carts .entry)) (now (carts .exit)) (now (messages .entry)) (station .0) (number .0) allZero r ⌝ }
 {
     let row = [0u64; 16];
-    on_arrive(stations, carts, messages, station, number, row)
+    on_register(stations, carts, messages, station, number, row)
 }

@@ -1,9 +1,11 @@
 -- `handoff::on_deregister` meets its contract.
 use mathlib.Core.Path.{_∙_, subst}
-use Prim.Native.Nat.{_+_, _*_}
+use mathlib.Core.List.{List}
+use Prim.Native.Nat.{ℕ, _+_, _*_}
+use native.Mathlib.Omega.{arith}
 use denote.Ref.{now}
 use Rattle.lines.specs.declared.Record as word
-use Rattle.lines.specs.Post.{Pushed}
+use Rattle.lines.specs.Post.{Pushed, Carried}
 use Rattle.carts.specs.View.{cartsIn}
 use Rattle.carts.proofs.TableLaws.{next-beyond}
 use Rattle.carts.proofs.StepLaws.{depart-step}
@@ -23,11 +25,17 @@ depart-requires c κs = search needs
 put-cart-requires : tie.Need-put-cart-requires
 put-cart-requires c κs = search needs
 
+put-register-requires : tie.Need-put-register-requires
+put-register-requires c κs = search needs
+
 register-requires : tie.Need-register-requires
 register-requires c κs = search needs
 
 push-back-requires : tie.Need-push-back-requires
-push-back-requires c κs = search needs
+push-back-requires c κs =
+    let s = c .before .before .before .before .before .before .before .before .before .before .before .before .before .before .before .before .before .before .before .before .before in
+    let r = c .before .before .before .before .put-register .ensures in
+    (s .pre .1 .2, s .pre .1 .3, r .formed, omega (arith, s .pre .1 .1, r .same, r .room))
 
 same-length : tie.Need-same-length
 same-length c = search needs
@@ -40,20 +48,26 @@ same-length-3 c = search needs
 
 returns : tie.Need-returns
 returns c =
-    let a = c .before .before .before .before .before .before .before .before .before .before .before .before .before .before .before .before .before .before .before .args in
+    let s = c .before .before .before .before .before .before .before .before .before .before .before .before .before .before .before .before .before .before .before .before .before .before .before .before in
+    let a = s .args in
     let C = cartsIn (now (a .carts)) in
-    let gone = c .before .before .before .before .before .before .before .before .before .before .before .before .before .before .leave .ensures in
-    let k = c .before .before .before .before .before .before .before .before .before .before .cart-at in
-    let d = c .before .before .before .before .before .before .before .before .depart in
-    let kept = c .before .before .before .before .before .before .before .put-cart .ensures in
+    let gone = c .before .before .before .before .before .before .before .before .before .before .before .before .before .before .before .before .before .before .before .leave .ensures in
+    let k = c .before .before .before .before .before .before .before .before .before .before .before .before .before .before .before .cart-at in
+    let d = c .before .before .before .before .before .before .before .before .before .before .before .before .depart in
+    let kept = c .before .before .before .before .before .before .before .before .before .before .before .put-cart .ensures in
+    let r = c .before .before .before .before .before .before .before .put-register in
+    let q = c .before .before .before .register in
+    let p = c .before .before .push-back in
     record {
       stations = gone .0;
       head = gone .1 .0;
       table = gone .1 .1;
-      carts = kept .0 ∙ depart-step C (next-beyond (now (a .carts))) (a .number .0) (k .result) (k .ensures) (a .station .0) (a .from .0) (d .result) (c .before .before .before .before .before .before .before .before .before .before .before .before .before .before .before .before .before .before .before .pre .0 .3) (d .ensures);
+      carts = kept .0 ∙ depart-step C (next-beyond (now (a .carts))) (a .number .0) (k .result) (k .ensures) (a .station .0) (a .from .0) (d .result) (s .pre .0 .3) (d .ensures);
       canonical = kept .1 .0;
       length = kept .1 .1;
-      lines = subst (λ (r : word.Record). Pushed (now (a .lines)) (c .before .before .push-back .last .0) (a .station .0 * 16 + a .from .0) r) (c .before .before .before .register .ensures) (c .before .before .push-back .ensures);
+      carrying = r .last .0;
+      row = subst (λ (row : List ℕ). Carried (now (a .lines)) (r .last .0) (a .number .0) row) (k .ensures .next) (r .ensures);
+      lines = subst (λ (r′ : word.Record). Pushed (r .last .0) (p .last .0) (a .station .0 * 16 + a .from .0) r′) (q .ensures) (p .ensures);
     }
 
 pub on-deregister-spec : {M : Type 1} → statement M
@@ -64,6 +78,7 @@ on-deregister-spec =
     cart-at-requires
     depart-requires
     put-cart-requires
+    put-register-requires
     register-requires
     push-back-requires
     same-length

@@ -4,8 +4,8 @@ use borrow.Author.Needs.{needs}
 use Rattle.handoff.proofs.on_enter.Statement.{statement}
 use Rattle.handoff.proofs.on_enter.Tie as tie
 
-on-arrive-requires : tie.Need-on-arrive-requires
-on-arrive-requires c κs = search needs
+on-register-requires : tie.Need-on-register-requires
+on-register-requires c κs = search needs
 
 same-length : tie.Need-same-length
 same-length c = search needs
@@ -15,7 +15,7 @@ same-length-2 c = search needs
 
 returns : tie.Need-returns
 unfolding listOf
-returns c = c .before .before .before .before .on-arrive .ensures
+returns c = c .before .before .before .before .on-register .ensures
 
 pub on-enter-spec : {M : Type 1} → statement M
-on-enter-spec = tie.close (tie.spec on-arrive-requires same-length same-length-2 returns)
+on-enter-spec = tie.close (tie.spec on-register-requires same-length same-length-2 returns)

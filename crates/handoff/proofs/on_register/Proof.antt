@@ -1,14 +1,22 @@
 -- `handoff::on_register` meets its contract.
-use Rattle.handoff.proofs.RiseLaws.{with-row}
+use mathlib.Core.Path.{ap, _∙_}
+use Rattle.carts.specs.declared.Cart.{Cart}
+use Rattle.carts.specs.View.{cartsIn, withCart}
 use borrow.Author.Needs.{needs}
 use Rattle.handoff.proofs.on_register.Statement.{statement}
 use Rattle.handoff.proofs.on_register.Tie as tie
 
-row-of-requires : tie.Need-row-of-requires
-row-of-requires c κs = search needs
+dock-requires : tie.Need-dock-requires
+dock-requires c κs = search needs
 
-on-arrive-requires : tie.Need-on-arrive-requires
-on-arrive-requires c κs = search needs
+cart-at-requires : tie.Need-cart-at-requires
+cart-at-requires c κs = search needs
+
+arrive-requires : tie.Need-arrive-requires
+arrive-requires c κs = search needs
+
+put-cart-requires : tie.Need-put-cart-requires
+put-cart-requires c κs = search needs
 
 same-length : tie.Need-same-length
 same-length c = search needs
@@ -17,8 +25,27 @@ same-length-2 : tie.Need-same-length-2
 same-length-2 c = search needs
 
 returns : tie.Need-returns
-returns c = with-row (c .before .before .before .before .before .before .before .row-of .ensures) (c .before .before .before .before .on-arrive .ensures)
+returns c =
+    let a = c .before .before .before .before .before .before .before .before .before .before .before .before .before .before .before .args in
+    let d = c .before .before .before .before .before .before .before .before .before .before .dock in
+    let k = c .before .before .before .arrive in
+    let kept = c .before .before .put-cart .ensures in
+    record {
+      upto = d .result .row;
+      docked = d .ensures;
+      carts = kept .0 ∙ ap (λ (x : Cart). withCart (cartsIn (a .carts .now)) (a .number .0) x) (k .ensures);
+      canonical = kept .1 .0;
+      length = kept .1 .1;
+    }
 
 pub on-register-spec : {M : Type 1} → statement M
 on-register-spec =
-    tie.close (tie.spec row-of-requires on-arrive-requires same-length same-length-2 returns)
+    tie.close
+    (tie.spec
+    dock-requires
+    cart-at-requires
+    arrive-requires
+    put-cart-requires
+    same-length
+    same-length-2
+    returns)
