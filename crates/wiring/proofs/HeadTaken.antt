@@ -13,10 +13,9 @@ use Rattle.protocol.specs.Refusals.{refusalIf}
 use Rattle.protocol.proofs.Tests.{clash}
 use Rattle.protocol.proofs.Accepted.{MayWire, may-wire}
 use Rattle.stations.specs.View.{HasHead, headIn}
-use Rattle.carts.specs.View.{cartsIn}
 use Rattle.lines.specs.declared.Record as word
 use Rattle.lines.specs.Form.{form}
-use Rattle.lines.specs.Lines.{lineOf}
+use Rattle.lines.specs.Lines.{lineOf, registersIn}
 use Rattle.lines.specs.Post.{Popped}
 use Rattle.view.specs.Records.{recordIn}
 use Rattle.view.specs.View.{Lent, lent, floorIn}
@@ -25,9 +24,9 @@ use Rattle.view.proofs.Standing.{Standing, standing, few-stations}
 use Rattle.wiring.specs.Off.{TakenOff, IsOff}
 
 -- a line that says a record has one
-some-words : (next : ℕ → ℕ → ℕ) (l : List word.Record) (r : Record) (k : List Record) → map (recordIn next) l ≡ r ∷ k → 0 < length l
-some-words next [] r k e = clash true refl (ap isEmpty e)
-some-words next (x ∷ l) r k e = omega arith
+some-words : (rows : ℕ → ℕ → ℕ) (l : List word.Record) (r : Record) (k : List Record) → map (recordIn rows) l ≡ r ∷ k → 0 < length l
+some-words rows [] r k e = clash true refl (ap isEmpty e)
+some-words rows (x ∷ l) r k e = omega arith
 
 module _ (P : Product) (S C M W T : List ℕ) (i j : ℕ) (p : passesForm (limitsOf P) (floorIn (lent P S C M W T)) ≡ true) where
   abbrev L : Lent
@@ -51,7 +50,7 @@ module _ (P : Product) (S C M W T : List ℕ) (i j : ℕ) (p : passesForm (limit
         let few = few-stations L X in
         let li : i < 16 = (let a = z .from in omega arith) in
         let lj : j < 16 = (let a = z .to in omega arith) in
-        (li, lj, X .laid .chains, some-words (cartsIn C .next) (lineOf W (i * 16 + j)) (may .0) (may .1) (sym (line-in (cartsIn C .next) W i j li lj) ∙ z .line))
+        (li, lj, X .laid .chains, some-words (registersIn W) (lineOf W (i * 16 + j)) (may .0) (may .1) (sym (line-in W i j li lj) ∙ z .line))
 
     module _ (W₁ : List ℕ) (said : word.Record) (top : lineOf W (i * 16 + j) ≡ said ∷ drop 1 (lineOf W (i * 16 + j))) (popped : Popped W W₁ (i * 16 + j)) where
       pub taken-off : TakenOff P S C M W W₁ T i j said

@@ -12,17 +12,16 @@ use Rattle.protocol.specs.Floor.{Product, limitsOf, Floor, Record}
 use Rattle.protocol.specs.Events.{wire}
 use Rattle.protocol.specs.Refusals.{refusalIf}
 use Rattle.lines.specs.declared.Record as word
-use Rattle.lines.specs.Lines.{lineOf}
+use Rattle.lines.specs.Lines.{lineOf, registersIn}
 use Rattle.stations.specs.View.{headIn}
-use Rattle.carts.specs.View.{cartsIn}
 use Rattle.view.specs.Records.{recordIn}
 use Rattle.view.specs.View.{lent, floorIn}
 use Rattle.view.proofs.LinesView.{line-in}
 
 -- a line of the floor is empty exactly where the line of words is
-empty-in : (next : ℕ → ℕ → ℕ) (l : List word.Record) → isEmpty (map (recordIn next) l) ≡ eqb (length l) 0
-empty-in next [] = refl
-empty-in next (r ∷ l) = sym (eqb·suc-zero (length l))
+empty-in : (rows : ℕ → ℕ → ℕ) (l : List word.Record) → isEmpty (map (recordIn rows) l) ≡ eqb (length l) 0
+empty-in rows [] = refl
+empty-in rows (r ∷ l) = sym (eqb·suc-zero (length l))
 
 module _ (S W : List ℕ) (i j : ℕ) (P : Product) (C M T : List ℕ) where
   abbrev F : Floor
@@ -42,7 +41,7 @@ module _ (S W : List ℕ) (i j : ℕ) (P : Product) (C M T : List ℕ) where
       line =
           let li : i < 16 = omega arith in
           let lj : j < 16 = omega arith in
-          ap isEmpty (line-in (cartsIn C .next) W i j li lj) ∙ empty-in (cartsIn C .next) (lineOf W (i * 16 + j))
+          ap isEmpty (line-in W i j li lj) ∙ empty-in (registersIn W) (lineOf W (i * 16 + j))
 
       -- where the code saw that the line is empty, and where it is not
       pub wire-empty : true ≡ eqb (length (lineOf W (i * 16 + j))) 0 → 15 ≡ refusalIf (limitsOf P) F false (wire i j)

@@ -21,7 +21,7 @@ use Rattle.carts.specs.View.{cartsIn}
 use Rattle.messages.specs.View.{HasRoom, roomsIn}
 use Rattle.lines.specs.declared.Record as word
 use Rattle.lines.specs.Form.{form}
-use Rattle.lines.specs.Lines.{lineOf, used}
+use Rattle.lines.specs.Lines.{lineOf, used, registersIn}
 use Rattle.lines.specs.Words.{capacity}
 use Rattle.view.specs.Records.{kindOf, indexOf, numberOf, recordIn}
 use Rattle.view.specs.View.{Lent, lent, floorIn}
@@ -66,7 +66,7 @@ module _ (P : Product) (S C M W W₁ T : List ℕ) (i j : ℕ) (said : word.Reco
   pub has-head : HasHead S
   has-head = let a = X .lengths .stations in omega arith
 
-  on-line : F .lines i j ≡ recordIn (F .next) said ∷ map (recordIn (F .next)) rest
+  on-line : F .lines i j ≡ recordIn (registersIn W) said ∷ map (recordIn (registersIn W)) rest
   on-line = line-head L X i j (off .from) (off .to) said rest (off .top)
 
   passes : refusal (limitsOf P) F (wire i j) ≡ 0
@@ -120,10 +120,10 @@ module _ (P : Product) (S C M W W₁ T : List ℕ) (i j : ℕ) (said : word.Reco
   -- a record of a cart that the code read as x
   module _ (x : ℕ) (is : x ≡ m) where
     abbrev left : List Record
-    left = map (recordIn (F .next)) rest
+    left = map (recordIn (registersIn W)) rest
 
     -- A DEREGISTER
-    says-deregister : kindOf (said .0) ≡ 4 → recordIn (F .next) said ≡ deregister x
+    says-deregister : kindOf (said .0) ≡ 4 → recordIn (registersIn W) said ≡ deregister x
     unfolding recordIn
     says-deregister k = rw (k, is) refl
 
@@ -145,10 +145,11 @@ module _ (P : Product) (S C M W W₁ T : List ℕ) (i j : ℕ) (said : word.Reco
       differs : (t : ℕ) → (kindOf (said .0) ≡ t → ⊥) → eqb (kindOf (said .0)) t ≡ false
       differs t q = ne-eqb (kindOf (said .0)) t q
 
+      -- the row that it carries
       abbrev row : List ℕ
-      row = listOf 16 (F .next x)
+      row = listOf 16 (registersIn W x)
 
-      says-register : recordIn (F .next) said ≡ register x row
+      says-register : recordIn (registersIn W) said ≡ register x row
       unfolding recordIn
       says-register = rw (differs 1 n1, differs 2 n2, differs 3 n3, differs 4 n4, is) refl
 
@@ -158,7 +159,14 @@ module _ (P : Product) (S C M W W₁ T : List ℕ) (i j : ℕ) (said : word.Reco
       pub register-asks : (HasStation S j × HasRow C x × HasRooms M × (j < 16) × (x < 64)) × (((s : ℕ) → s < 16 → stationsIn S .expected j s ≤ 4294967295) × ((m : ℕ) → has (namingIn (stationsIn S) j x) m ≡ true → m < roomCount M))
       register-asks = (register-ready L X x i j row left may-register, (register-fits L X x i j row left may-register, register-rooms L X x i j row left may-register))
 
-      pub meets-register : (S′ C′ : List ℕ) (p : ℕ) → Arrived S S′ C C′ M j x row p → Met L (lent P S′ C′ M W₁ T) (wire i j) (says 3 5 x p 0 [])
-      meets-register S′ C′ p b =
-          meets (lent P S′ C′ M W₁ T) _ refl (register-is S S′ C C′ M W W₁ T x i j p row left X may-register (off .popped) b)
-          (register-reports S S′ C C′ M W W₁ T x i j p row left X may-register (off .popped) b)
+      -- what is asked to read it
+      pub row-asks : (x < 64) × (1842 ≤ length W₁)
+      row-asks = (register-asks .0 .4, let a = X .lengths .lines in let b = off .popped .words in omega arith)
+
+      -- where the code read it, once the record is off its line
+      pub meets-register : (S′ C′ r : List ℕ) (p : ℕ) → r ≡ listOf 16 (registersIn W₁ x) → Arrived S S′ C C′ M j x r p → Met L (lent P S′ C′ M W₁ T) (wire i j) (says 3 5 x p 0 [])
+      meets-register S′ C′ r p e b =
+          let same : r ≡ row = e ∙ ap (λ (f : ℕ → ℕ → ℕ). listOf 16 (f x)) (off .popped .registers) in
+          let b′ : Arrived S S′ C C′ M j x row p = subst (λ (z : List ℕ). Arrived S S′ C C′ M j x z p) same b in
+          meets (lent P S′ C′ M W₁ T) _ refl (register-is S S′ C C′ M W W₁ T x i j p row left X may-register (off .popped) b′)
+          (register-reports S S′ C C′ M W W₁ T x i j p row left X may-register (off .popped) b′)

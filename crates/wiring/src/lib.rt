@@ -39,7 +39,8 @@ fn wire_refusal(stations: &[u64], lines: &[u64], from: Station, to: Station) -> 
 
 // A record that came from one station is handled at the other, by its kind: "multicast (1)", "ack list (2)", "delete (3)", "deregister (4)",
 // "register (5)". There is no other kind on a line of a floor that passes. Kinds are asked for one after the other, as in a frame: a table of
-// jumps has to be read before it is known that the guess was wrong.
+// jumps has to be read before it is known that the guess was wrong. The first three are of a message, which has a number; the last two of a
+// cart, and a register carries the cart's row of next numbers.
 fn handle(
     stations: &mut [u64],
     carts: &mut [u64],
@@ -53,9 +54,8 @@ fn handle(
     ensures { λ a. ⌜ ((P : Product) (W T : List ℕ) → TakenOff P (now (stations .entry)) (now (carts .entry)) (now (messages .entry)) W (now (lines .entry)) T (from .0) (to .0) said → Met (lent P (now (stations .entry)) (now (carts .entry)) (now (messages .entry)) W T) (lent P (now (stations .exit)) (now (carts .exit)) (now (messages .exit)) (now (lines .exit)) T) (wire (from .0) (to .0)) (answerIn a [])) ⌝ }
 {
     let kind = view::kind_of(said);
-    let number = MessageNumber(view::number_of(said));
-    let cart = CartNumber(view::index_of(said));
     if kind <= 3 {
+        let number = MessageNumber(view::number_of(said));
         if kind == 2 {
             let n = stations::station_count(stations);
             let put = wired::on_ack_list(messages, lines, said, to, n);
@@ -68,11 +68,13 @@ fn handle(
         let passed = wired::on_multicast(stations, carts, messages, said, from, to);
         return Answer::Buffered(number, passed);
     }
+    let cart = CartNumber(view::index_of(said));
     if kind == 4 {
         handoff::on_deregister(stations, carts, lines, cart, to, from);
         return Answer::Deregistered(cart);
     }
-    let passed = handoff::on_register(stations, carts, messages, to, cart);
+    let row = lines::register_of(lines, cart.0 as usize);
+    let passed = handoff::on_register(stations, carts, messages, to, cart, row);
     Answer::Registered(cart, passed)
 }
 
