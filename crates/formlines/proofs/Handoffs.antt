@@ -5,26 +5,39 @@ use mathlib.Core.List.{List, [], _∷_, _++_, map}
 use Prim.Native.Nat.{ℕ, zero, suc, _≤_, _<_}
 use native.Mathlib.Omega.{arith}
 use lib.Dec.{eqb, ltb}
-use lib.ListN.{length}
-use borrow.Author.Tests.{eqb-true}
+use lib.ListN.{length, getD}
+use lib.Seq.{ext-getD}
+use borrow.Author.Tests.{eqb-true, eq-eqb}
 use Rattle.protocol.specs.Folds.{sum, listOf}
 use Rattle.protocol.specs.Floor.{Place, outside, at, leaving, travelling, Carts, Record, multicast, ackList, delete, deregister, register, moving}
 use Rattle.protocol.specs.Claims.{True}
 use Rattle.protocol.specs.Form.{HandoffRecord, deregistering, registering, bit, countLine, handoffs, handoffOf, sameHandoffs}
 use Rattle.protocol.specs.Ranges.{PlaceInRange}
-use Rattle.protocol.proofs.Tests.{by-test, clash, and-left, and-right, and-intro, both-equal, eqb-self, on-cond}
+use Rattle.protocol.proofs.Tests.{by-test, clash, and-left, and-right, and-intro, both-equal, eqb-self, on-cond, every-at, every-all, length-listOf, listOf-at}
 use Rattle.protocol.proofs.Counting.{sum-nil, sum-term, sum2-only}
 use Rattle.protocol.proofs.LineFacts.{isHandoffOf}
 use Rattle.protocol.proofs.FormTest.{handoffs-same}
 use Rattle.messages.specs.View.{Rooms}
 use Rattle.formlines.specs.Said.{Said, aMulticast, anAckList, aDelete, aDeregister, aRegister, unknown}
-use Rattle.formlines.specs.Pass.{isLeaving, isTravelling, right}
+use Rattle.formlines.specs.Pass.{isLeaving, isTravelling, sameNumbers, right}
 use Rattle.formlines.proofs.Walks.{Each, each-map2}
 use Rattle.formlines.proofs.Split.{Right}
 use Rattle.formlines.proofs.Reading.{read}
 
 pub are-same-handoffs : (l k : List HandoffRecord) → l ≡ k → True (sameHandoffs l k)
 are-same-handoffs l k e = rw e (handoffs-same k)
+
+-- two rows of the same sixteen numbers are one
+pub same-numbers : (f g : ℕ → ℕ) → sameNumbers f g ≡ true → listOf 16 f ≡ listOf 16 g
+same-numbers f g e =
+    ext-getD 0 (listOf 16 f) (listOf 16 g) (length-listOf 16 f ∙ sym (length-listOf 16 g))
+    (λ s l. let h : s < 16 = (let z = length-listOf 16 f in omega arith) in
+    listOf-at 16 f 0 s h ∙ eqb-true (f s) (g s) (every-at 16 (λ s. eqb (f s) (g s)) e s h) ∙ sym (listOf-at 16 g 0 s h))
+
+pub numbers-same : (f g : ℕ → ℕ) → listOf 16 f ≡ listOf 16 g → sameNumbers f g ≡ true
+numbers-same f g e =
+    every-all 16 (λ s. eqb (f s) (g s))
+    (λ s h. eq-eqb (f s) (g s) (sym (listOf-at 16 f 0 s h) ∙ ap (λ (l : List ℕ). getD l s 0) e ∙ listOf-at 16 g 0 s h))
 
 -- how many hand-offs of a cart are on a line
 pub count-handoffs : (c : ℕ) (l : List Record) → countLine (isHandoffOf c) l ≡ length (handoffs c l)
@@ -102,7 +115,7 @@ due-total n (leaving s u) row h = one-due n (leaving s u) row u s (h .1) (h .0) 
 due-total n (travelling s u) row h = one-due n (travelling s u) row s u (h .0) (h .1) (rw (eqb-self s, eqb-self u) refl)
 
 -- FROM THE COUNTS TO THE RECORDS
-module _ (n k : ℕ) (C : Carts) (R : Rooms) (c : ℕ) where
+module _ (n k : ℕ) (C : Carts) (R : Rooms) (carried : ℕ → ℕ → ℕ) (c : ℕ) where
   abbrev p : Place
   p = C .place c
 
@@ -110,23 +123,23 @@ module _ (n k : ℕ) (C : Carts) (R : Rooms) (c : ℕ) where
   row = listOf 16 (C .next c)
 
   abbrev of : List Said → List HandoffRecord
-  of l = handoffs c (map (read (C .next)) l)
+  of l = handoffs c (map (read carried) l)
 
   abbrev times : List Said → ℕ
-  times l = countLine (isHandoffOf c) (map (read (C .next)) l)
+  times l = countLine (isHandoffOf c) (map (read carried) l)
 
   abbrev much : List Said → ℕ
   much l = length (of l)
 
   times-is : (l : List Said) → times l ≡ much l
-  times-is l = count-handoffs c (map (read (C .next)) l)
+  times-is l = count-handoffs c (map (read carried) l)
 
   abbrev again : ℕ → List HandoffRecord → List HandoffRecord
   again zero h = []
   again (suc t) h = h ++ again t h
 
   -- right records of a cart are what is due, as often as they stand there
-  due-again : (i j : ℕ) (l : List Said) → Each (Right n k C R i j) l → of l ≡ again (much l) (handoffOf p i j row)
+  due-again : (i j : ℕ) (l : List Said) → Each (Right n k C R carried i j) l → of l ≡ again (much l) (handoffOf p i j row)
   unfolding right
   due-again i j [] e = refl
   due-again i j (aMulticast m x ∷ l) e = due-again i j l (e .1)
@@ -143,16 +156,19 @@ module _ (n k : ℕ) (C : Carts) (R : Rooms) (c : ℕ) where
   due-again i j (aRegister d ∷ l) e =
       by-test (eqb d c)
       (λ q. let z = eqb-true d c q in
-      let y : isTravelling p i j ≡ true = ap (λ (x : ℕ). isTravelling (C .place x) i j) (sym z) ∙ and-right (ltb d k) (isTravelling (C .place d) i j) (e .0 .1) in
+      let t = isTravelling (C .place d) i j in
+      let o = sameNumbers (carried d) (C .next d) in
+      let a = and-right (ltb d k) (t && o) (e .0 .1) in
+      let y : isTravelling p i j ≡ true = ap (λ (x : ℕ). isTravelling (C .place x) i j) (sym z) ∙ and-left t o a in
       let w = travelling-due p i j row y in
-      let u : listOf 16 (C .next d) ≡ row = ap (λ (x : ℕ). listOf 16 (C .next x)) z in
+      let u : listOf 16 (carried d) ≡ row = same-numbers (carried d) (C .next d) (and-right t o a) ∙ ap (λ (x : ℕ). listOf 16 (C .next x)) z in
       let v : of l ≡ again (much l) (registering row ∷ []) = rw (← w) (due-again i j l (e .1)) in
       rw (q, w, u) (ap (λ (x : List HandoffRecord). registering row ∷ x) v))
       (λ q. rw q (due-again i j l (e .1)))
   due-again i j (unknown d ∷ l) e = clash false (e .0 .1) refl
 
   -- some stand there only where they are due
-  none-due : (i j : ℕ) (l : List Said) → Each (Right n k C R i j) l → due p row i j ≡ 0 → times l ≡ 0
+  none-due : (i j : ℕ) (l : List Said) → Each (Right n k C R carried i j) l → due p row i j ≡ 0 → times l ≡ 0
   none-due i j l e h =
       times-is l ∙ ap (λ (x : List HandoffRecord). length x) (due-again i j l e) ∙ nothing (much l) (handoffOf p i j row) h
     where
@@ -161,7 +177,7 @@ module _ (n k : ℕ) (C : Carts) (R : Rooms) (c : ℕ) where
       nothing (suc t) [] q = nothing t [] q
       nothing (suc t) (x ∷ h) q = absurd (omega arith)
 
-  module _ (line : ℕ → ℕ → List Said) (e : (i j : ℕ) → i < n → j < n → Each (Right n k C R i j) (line i j))
+  module _ (line : ℕ → ℕ → List Said) (e : (i j : ℕ) → i < n → j < n → Each (Right n k C R carried i j) (line i j))
       (total : sum n (λ i. sum n (λ j. times (line i j))) ≡ bit (moving p)) where
     pub handoffs-due : (i j : ℕ) → i < n → j < n → of (line i j) ≡ handoffOf p i j row
     handoffs-due i j li lj =
@@ -203,58 +219,58 @@ module _ (n k : ℕ) (C : Carts) (R : Rooms) (c : ℕ) where
 
 -- FROM THE RECORDS TO THE PLACES
 
--- where a record's cart is on this way
-abbrev pub Placed : Carts → ℕ → ℕ → Said → Type 0
-Placed C i j (aMulticast m x) = Unit {0}
-Placed C i j (anAckList m x y) = Unit {0}
-Placed C i j (aDelete m x) = Unit {0}
-Placed C i j (aDeregister c) = isLeaving (C .place c) j i ≡ true
-Placed C i j (aRegister c) = isTravelling (C .place c) i j ≡ true
-Placed C i j (unknown c) = Unit {0}
+-- where a record's cart is on this way, and the row that its register carries
+abbrev pub Placed : (ℕ → ℕ → ℕ) → Carts → ℕ → ℕ → Said → Type 0
+Placed carried C i j (aMulticast m x) = Unit {0}
+Placed carried C i j (anAckList m x y) = Unit {0}
+Placed carried C i j (aDelete m x) = Unit {0}
+Placed carried C i j (aDeregister c) = isLeaving (C .place c) j i ≡ true
+Placed carried C i j (aRegister c) = (isTravelling (C .place c) i j ≡ true) × (listOf 16 (carried c) ≡ listOf 16 (C .next c))
+Placed carried C i j (unknown c) = Unit {0}
 
--- what a hand-off record of a cart in that place says of it
-abbrev Says : Place → ℕ → ℕ → HandoffRecord → Type 0
-Says p i j deregistering = isLeaving p j i ≡ true
-Says p i j (registering row) = isTravelling p i j ≡ true
+-- what a hand-off record of a cart in that place, with that row, says of it
+abbrev Says : Place → List ℕ → ℕ → ℕ → HandoffRecord → Type 0
+Says p own i j deregistering = isLeaving p j i ≡ true
+Says p own i j (registering row) = (isTravelling p i j ≡ true) × (row ≡ own)
 
 abbrev EachHandoff : (HandoffRecord → Type 0) → List HandoffRecord → Type 0
 EachHandoff P [] = Unit {0}
 EachHandoff P (x ∷ l) = P x × EachHandoff P l
 
-due-says : (p : Place) (i j : ℕ) (row : List ℕ) → EachHandoff (Says p i j) (handoffOf p i j row)
+due-says : (p : Place) (i j : ℕ) (row : List ℕ) → EachHandoff (Says p row i j) (handoffOf p i j row)
 due-says outside i j row = tt
 due-says (at s) i j row = tt
 due-says (leaving s u) i j row =
-    on-cond (EachHandoff (Says (leaving s u) i j)) (eqb u i && eqb s j)
+    on-cond (EachHandoff (Says (leaving s u) row i j)) (eqb u i && eqb s j)
     (λ e. (and-intro (eqb s j) (eqb u i) (and-right (eqb u i) (eqb s j) e) (and-left (eqb u i) (eqb s j) e), tt)) (λ e. tt)
-due-says (travelling s u) i j row = on-cond (EachHandoff (Says (travelling s u) i j)) (eqb s i && eqb u j) (λ e. (e, tt)) (λ e. tt)
+due-says (travelling s u) i j row = on-cond (EachHandoff (Says (travelling s u) row i j)) (eqb s i && eqb u j) (λ e. ((e, refl), tt)) (λ e. tt)
 
 -- a hand-off of cart c has it so
-abbrev Own : Carts → ℕ → ℕ → ℕ → Said → Type 0
-Own C i j c (aMulticast m x) = Unit {0}
-Own C i j c (anAckList m x y) = Unit {0}
-Own C i j c (aDelete m x) = Unit {0}
-Own C i j c (aDeregister d) = eqb d c ≡ true → isLeaving (C .place c) j i ≡ true
-Own C i j c (aRegister d) = eqb d c ≡ true → isTravelling (C .place c) i j ≡ true
-Own C i j c (unknown d) = Unit {0}
+abbrev Own : (ℕ → ℕ → ℕ) → Carts → ℕ → ℕ → ℕ → Said → Type 0
+Own carried C i j c (aMulticast m x) = Unit {0}
+Own carried C i j c (anAckList m x y) = Unit {0}
+Own carried C i j c (aDelete m x) = Unit {0}
+Own carried C i j c (aDeregister d) = eqb d c ≡ true → isLeaving (C .place c) j i ≡ true
+Own carried C i j c (aRegister d) = eqb d c ≡ true → (isTravelling (C .place c) i j ≡ true) × (listOf 16 (carried d) ≡ listOf 16 (C .next c))
+Own carried C i j c (unknown d) = Unit {0}
 
-own-each : (C : Carts) (i j c : ℕ) (l : List Said) → EachHandoff (Says (C .place c) i j) (handoffs c (map (read (C .next)) l)) → Each (Own C i j c) l
-own-each C i j c [] h = tt
-own-each C i j c (aMulticast m x ∷ l) h = (tt, own-each C i j c l h)
-own-each C i j c (anAckList m x y ∷ l) h = (tt, own-each C i j c l h)
-own-each C i j c (aDelete m x ∷ l) h = (tt, own-each C i j c l h)
-own-each C i j c (aDeregister d ∷ l) h =
+own-each : (carried : ℕ → ℕ → ℕ) (C : Carts) (i j c : ℕ) (l : List Said) → EachHandoff (Says (C .place c) (listOf 16 (C .next c)) i j) (handoffs c (map (read carried) l)) → Each (Own carried C i j c) l
+own-each carried C i j c [] h = tt
+own-each carried C i j c (aMulticast m x ∷ l) h = (tt, own-each carried C i j c l h)
+own-each carried C i j c (anAckList m x y ∷ l) h = (tt, own-each carried C i j c l h)
+own-each carried C i j c (aDelete m x ∷ l) h = (tt, own-each carried C i j c l h)
+own-each carried C i j c (aDeregister d ∷ l) h =
     by-test (eqb d c)
-    (λ e. let z : EachHandoff (Says (C .place c) i j) (deregistering ∷ handoffs c (map (read (C .next)) l)) = rw e at h in ((λ q. z .0), own-each C i j c l (z .1)))
-    (λ e. let z : EachHandoff (Says (C .place c) i j) (handoffs c (map (read (C .next)) l)) = rw e at h in ((λ q. clash (eqb d c) q e), own-each C i j c l z))
-own-each C i j c (aRegister d ∷ l) h =
+    (λ e. let z : EachHandoff (Says (C .place c) (listOf 16 (C .next c)) i j) (deregistering ∷ handoffs c (map (read carried) l)) = rw e at h in ((λ q. z .0), own-each carried C i j c l (z .1)))
+    (λ e. let z : EachHandoff (Says (C .place c) (listOf 16 (C .next c)) i j) (handoffs c (map (read carried) l)) = rw e at h in ((λ q. clash (eqb d c) q e), own-each carried C i j c l z))
+own-each carried C i j c (aRegister d ∷ l) h =
     by-test (eqb d c)
-    (λ e. let z : EachHandoff (Says (C .place c) i j) (registering (listOf 16 (C .next d)) ∷ handoffs c (map (read (C .next)) l)) = rw e at h in ((λ q. z .0), own-each C i j c l (z .1)))
-    (λ e. let z : EachHandoff (Says (C .place c) i j) (handoffs c (map (read (C .next)) l)) = rw e at h in ((λ q. clash (eqb d c) q e), own-each C i j c l z))
-own-each C i j c (unknown d ∷ l) h =
+    (λ e. let z : EachHandoff (Says (C .place c) (listOf 16 (C .next c)) i j) (registering (listOf 16 (carried d)) ∷ handoffs c (map (read carried) l)) = rw e at h in ((λ q. z .0), own-each carried C i j c l (z .1)))
+    (λ e. let z : EachHandoff (Says (C .place c) (listOf 16 (C .next c)) i j) (handoffs c (map (read carried) l)) = rw e at h in ((λ q. clash (eqb d c) q e), own-each carried C i j c l z))
+own-each carried C i j c (unknown d ∷ l) h =
     by-test (eqb d c)
-    (λ e. let z : EachHandoff (Says (C .place c) i j) (registering (listOf 16 (C .next d)) ∷ handoffs c (map (read (C .next)) l)) = rw e at h in (tt, own-each C i j c l (z .1)))
-    (λ e. let z : EachHandoff (Says (C .place c) i j) (handoffs c (map (read (C .next)) l)) = rw e at h in (tt, own-each C i j c l z))
+    (λ e. let z : EachHandoff (Says (C .place c) (listOf 16 (C .next c)) i j) (registering (listOf 16 (carried d)) ∷ handoffs c (map (read carried) l)) = rw e at h in (tt, own-each carried C i j c l (z .1)))
+    (λ e. let z : EachHandoff (Says (C .place c) (listOf 16 (C .next c)) i j) (handoffs c (map (read carried) l)) = rw e at h in (tt, own-each carried C i j c l z))
 
 -- the cart of a hand-off is below k
 abbrev pub CartBelow : ℕ → Said → Type 0
@@ -269,16 +285,16 @@ each-any : (P : ℕ → Said → Type 0) (k : ℕ) (l : List Said) → ((c : ℕ
 each-any P k [] h = tt
 each-any P k (r ∷ l) h = ((λ c q. h c q .0), each-any P k l (λ c q. h c q .1))
 
-own-placed : (C : Carts) (i j k : ℕ) (r : Said) → ((c : ℕ) → c < k → Own C i j c r) → CartBelow k r → Placed C i j r
-own-placed C i j k (aMulticast m x) h b = tt
-own-placed C i j k (anAckList m x y) h b = tt
-own-placed C i j k (aDelete m x) h b = tt
-own-placed C i j k (aDeregister c) h b = h c b (eqb-self c)
-own-placed C i j k (aRegister c) h b = h c b (eqb-self c)
-own-placed C i j k (unknown c) h b = tt
+own-placed : (carried : ℕ → ℕ → ℕ) (C : Carts) (i j k : ℕ) (r : Said) → ((c : ℕ) → c < k → Own carried C i j c r) → CartBelow k r → Placed carried C i j r
+own-placed carried C i j k (aMulticast m x) h b = tt
+own-placed carried C i j k (anAckList m x y) h b = tt
+own-placed carried C i j k (aDelete m x) h b = tt
+own-placed carried C i j k (aDeregister c) h b = h c b (eqb-self c)
+own-placed carried C i j k (aRegister c) h b = h c b (eqb-self c)
+own-placed carried C i j k (unknown c) h b = tt
 
-pub placed-of : (C : Carts) (i j k : ℕ) (l : List Said) → ((c : ℕ) → c < k → handoffs c (map (read (C .next)) l) ≡ handoffOf (C .place c) i j (listOf 16 (C .next c)))
-    → Each (CartBelow k) l → Each (Placed C i j) l
-placed-of C i j k l h b =
-    each-map2 (λ r. (c : ℕ) → c < k → Own C i j c r) (CartBelow k) (Placed C i j) l (own-placed C i j k)
-    (each-any (Own C i j) k l (λ c q. own-each C i j c l (rw (h c q) (due-says (C .place c) i j (listOf 16 (C .next c)))))) b
+pub placed-of : (carried : ℕ → ℕ → ℕ) (C : Carts) (i j k : ℕ) (l : List Said) → ((c : ℕ) → c < k → handoffs c (map (read carried) l) ≡ handoffOf (C .place c) i j (listOf 16 (C .next c)))
+    → Each (CartBelow k) l → Each (Placed carried C i j) l
+placed-of carried C i j k l h b =
+    each-map2 (λ r. (c : ℕ) → c < k → Own carried C i j c r) (CartBelow k) (Placed carried C i j) l (own-placed carried C i j k)
+    (each-any (Own carried C i j) k l (λ c q. own-each carried C i j c l (rw (h c q) (due-says (C .place c) i j (listOf 16 (C .next c)))))) b

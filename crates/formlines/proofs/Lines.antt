@@ -10,6 +10,7 @@ use Rattle.protocol.specs.Floor.{Carts}
 use Rattle.protocol.proofs.Tests.{by-eq, by-test, clash, and-left, and-right, and-intro}
 use Rattle.stations.specs.View.{Stations}
 use Rattle.messages.specs.View.{Rooms}
+use Rattle.lines.specs.Lines.{registersIn}
 use Rattle.formlines.specs.Said.{saidOn}
 use Rattle.formlines.specs.Pass.{Met, metSo, along, onLine, fromStation, fromEach}
 use Rattle.formlines.proofs.Walks.{Each, goAll, GoodAll}
@@ -65,33 +66,36 @@ module _ (words : List ℕ) where
   AllSeen x k = GoodAll (List ℕ) (λ i y. RowSeen i y 16) (λ i y. rowSeen i y 16) x k
 
 module _ (n k : ℕ) (C : Carts) (R : Rooms) (S : Stations) (words : List ℕ) where
+  abbrev carried : ℕ → ℕ → ℕ
+  carried = registersIn words
+
   -- ONE LINE, by itself
   pub record Alone (i j : ℕ) : Type 0 where
-    pub rights : Each (Right n k C R i j) (saidOn words i j)
+    pub rights : Each (Right n k C R carried i j) (saidOn words i j)
     pub next : GoodNext (S .expected j i) (saidOn words i j)
     pub upto : ltb j n ≡ true → walkNext (S .expected j i) (saidOn words i j) ≡ S .sent i
     pub gone : GoodGone 0 (saidOn words i j)
 
   module _ (s : Met) (i j : ℕ) where
     abbrev A : Type 0
-    A = Along n k C R i j (S .expected j i) 0 (s .found) (s .seen) (saidOn words i j)
+    A = Along n k C R carried i j (S .expected j i) 0 (s .found) (s .seen) (saidOn words i j)
 
     abbrev e : Met
-    e = along n k C R (metSo (s .ok) (S .expected j i) 0 (s .found) (s .seen)) i j (saidOn words i j)
+    e = along n k C R carried (metSo (s .ok) (S .expected j i) 0 (s .found) (s .seen)) i j (saidOn words i j)
 
     abbrev after : Met
     after = metSo true (walkNext (S .expected j i) (saidOn words i j)) (walkGone 0 (saidOn words i j)) (walkFound (s .found) (saidOn words i j)) (walkSeen (s .seen) (saidOn words i j))
 
     e-is : s .ok ≡ true → A → e ≡ after
     e-is o a =
-        ap (λ (b : Bool). along n k C R (metSo b (S .expected j i) 0 (s .found) (s .seen)) i j (saidOn words i j)) o
-        ∙ along-is n k C R i j (S .expected j i) 0 (s .found) (s .seen) (saidOn words i j) a
+        ap (λ (b : Bool). along n k C R carried (metSo b (S .expected j i) 0 (s .found) (s .seen)) i j (saidOn words i j)) o
+        ∙ along-is n k C R carried i j (S .expected j i) 0 (s .found) (s .seen) (saidOn words i j) a
 
     pub line-ok : onLine n k C R S words s i j .ok ≡ true → (s .ok ≡ true) × (Alone i j × (goodFound words i j (s .found) × goodSeen words i j (s .seen)))
     unfolding onLine
     line-ok h =
         let b = not (ltb j n) || eqb (e .next) (S .sent i) in
-        let z = along-ok n k C R i j (metSo (s .ok) (S .expected j i) 0 (s .found) (s .seen)) (saidOn words i j) (and-left (e .ok) b h) in
+        let z = along-ok n k C R carried i j (metSo (s .ok) (S .expected j i) 0 (s .found) (s .seen)) (saidOn words i j) (and-left (e .ok) b h) in
         let a = z .1 in
         let same : e .next ≡ walkNext (S .expected j i) (saidOn words i j) = ap (λ (t : Met). t .next) (e-is (z .0) a) in (
           z .0,

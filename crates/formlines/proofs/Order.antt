@@ -9,8 +9,8 @@ use Rattle.formlines.specs.Said.{Said, aMulticast, anAckList, aDelete, a
 use Rattle.formlines.proofs.Split.{walkNext, GoodNext}
 use Rattle.formlines.proofs.Reading.{read}
 
-module _ (next : ℕ → ℕ → ℕ) where
-  pub order-of : (e t : ℕ) (l : List Said) → GoodNext e l → walkNext e l ≡ t → True (countsUp e (multicastNumbers (map (read next) l)) t) × True (deletesFollow e (map (read next) l))
+module _ (carried : ℕ → ℕ → ℕ) where
+  pub order-of : (e t : ℕ) (l : List Said) → GoodNext e l → walkNext e l ≡ t → True (countsUp e (multicastNumbers (map (read carried) l)) t) × True (deletesFollow e (map (read carried) l))
   order-of e t [] g h = (h, refl)
   order-of e t (aMulticast m n ∷ l) g h = let z = order-of (suc e) t l (g .1) h in ((eqb-true n e (g .0), z .0), z .1)
   order-of e t (anAckList m n x ∷ l) g h = order-of e t l (g .1) h
@@ -19,7 +19,7 @@ module _ (next : ℕ → ℕ → ℕ) where
   order-of e t (aRegister c ∷ l) g h = order-of e t l (g .1) h
   order-of e t (unknown c ∷ l) g h = order-of e t l (g .1) h
 
-  pub of-order : (e t : ℕ) (l : List Said) → True (countsUp e (multicastNumbers (map (read next) l)) t) → True (deletesFollow e (map (read next) l)) → GoodNext e l × (walkNext e l ≡ t)
+  pub of-order : (e t : ℕ) (l : List Said) → True (countsUp e (multicastNumbers (map (read carried) l)) t) → True (deletesFollow e (map (read carried) l)) → GoodNext e l × (walkNext e l ≡ t)
   of-order e t [] u d = (tt, u)
   of-order e t (aMulticast m n ∷ l) u d = let z = of-order (suc e) t l (u .1) d in ((eq-eqb n e (u .0), z .0), z .1)
   of-order e t (anAckList m n x ∷ l) u d = let z = of-order e t l u d in ((refl, z .0), z .1)

@@ -15,6 +15,7 @@ use Rattle.protocol.proofs.SetLaws.{setOf-suc}
 use Rattle.stations.specs.View.{Stations, stationsIn, headIn}
 use Rattle.carts.specs.View.{cartsIn}
 use Rattle.messages.specs.View.{Rooms, roomsIn}
+use Rattle.lines.specs.Lines.{registersIn}
 use Rattle.view.specs.View.{Lent}
 use Rattle.formlines.specs.declared.Way.{Way}
 use Rattle.formlines.specs.Said.{saidOn}
@@ -52,12 +53,12 @@ gathered-next S R m t x y r p q h = rw (add-one t) (h ∙ ap₂ (λ (u v : ℕ).
 -- THE LINES
 module _ (n k : ℕ) (C : Carts) (R : Rooms) (S : Stations) (words : List ℕ) where
   pub lined : (s : Met) (i j x sent : ℕ) (met : Way) (masks : List ℕ) (d b : Bool) → x ≡ S .expected j i → sent ≡ S .sent i
-      → metOf met masks ≡ along n k C R (metSo (s .ok) x 0 (s .found) (s .seen)) i j (saidOn words i j)
+      → metOf met masks ≡ along n k C R (registersIn words) (metSo (s .ok) x 0 (s .found) (s .seen)) i j (saidOn words i j)
       → d ≡ (leb n j || eqb (met .next) sent) → b ≡ (met .ok && d)
       → metSo b (met .next) (met .gone) (met .found) masks ≡ onLine n k C R S words s i j
   unfolding onLine
   lined s i j x sent met masks d b p q h ed eb =
-      let z = h ∙ ap (λ (y : ℕ). along n k C R (metSo (s .ok) y 0 (s .found) (s .seen)) i j (saidOn words i j)) p in
+      let z = h ∙ ap (λ (y : ℕ). along n k C R (registersIn words) (metSo (s .ok) y 0 (s .found) (s .seen)) i j (saidOn words i j)) p in
       let w : b ≡ (met .ok && (not (ltb j n) || eqb (met .next) (S .sent i))) =
       eb ∙ ap (λ (y : Bool). met .ok && y) (ed ∙ ap₂ (λ (u : Bool) (v : ℕ). u || eqb (met .next) v) (far n j) q) in
       ap (λ (y : Bool). metSo y (met .next) (met .gone) (met .found) masks) w

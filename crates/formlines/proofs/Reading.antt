@@ -8,8 +8,7 @@ use Rattle.protocol.specs.Folds.{listOf}
 use Rattle.protocol.specs.Floor.{Record, multicast, ackList, delete, deregister, register}
 use Rattle.protocol.proofs.Tests.{by-test, and-left, and-right, and-intro}
 use Rattle.lines.specs.declared.Record as word
-use Rattle.lines.specs.Lines.{lineOf}
-use Rattle.carts.specs.View.{cartsIn}
+use Rattle.lines.specs.Lines.{lineOf, registersIn}
 use Rattle.messages.specs.View.{Rooms, roomsIn}
 use Rattle.view.specs.Records.{kindOf, recordIn, isIn, roomRight}
 use Rattle.view.specs.View.{Lent, everyWord, lineRight, floorIn}
@@ -17,14 +16,14 @@ use Rattle.view.proofs.LinesView.{line-in}
 use Rattle.formlines.specs.Said.{Said, aMulticast, anAckList, aDelete, aDeregister, aRegister, unknown, said, saidOn}
 use Rattle.formlines.proofs.Walks.{Each}
 
--- the written record
+-- the written record, where the register of each cart carries that row
 abbrev pub read : (ℕ → ℕ → ℕ) → Said → Record
-read next (aMulticast m n) = multicast n
-read next (anAckList m n x) = ackList n x
-read next (aDelete m n) = delete n
-read next (aDeregister c) = deregister c
-read next (aRegister c) = register c (listOf 16 (next c))
-read next (unknown c) = register c (listOf 16 (next c))
+read carried (aMulticast m n) = multicast n
+read carried (anAckList m n x) = ackList n x
+read carried (aDelete m n) = delete n
+read carried (aDeregister c) = deregister c
+read carried (aRegister c) = register c (listOf 16 (carried c))
+read carried (unknown c) = register c (listOf 16 (carried c))
 
 -- by cases on the kind
 by-kind : {P : Type 0} (r : word.Record)
@@ -38,20 +37,20 @@ by-kind r f g h o p =
     let k = kindOf (r .0) in
     by-test (eqb k 1) f (λ a. by-test (eqb k 2) (g a) (λ b. by-test (eqb k 3) (h a b) (λ c. by-test (eqb k 4) (o a b c) (λ d. p a b c d (eqb k 5) refl))))
 
-pub read-said : (next : ℕ → ℕ → ℕ) (r : word.Record) → recordIn next r ≡ read next (said r)
+pub read-said : (carried : ℕ → ℕ → ℕ) (r : word.Record) → recordIn carried r ≡ read carried (said r)
 unfolding recordIn said
-read-said next r =
+read-said carried r =
     by-kind r (λ a. rw a refl) (λ a b. rw (a, b) refl) (λ a b c. rw (a, b, c) refl) (λ a b c d. rw (a, b, c, d) refl)
     (λ a b c d x e. by-test (eqb (kindOf (r .0)) 5) (λ f. rw (a, b, c, d, f) refl) (λ f. rw (a, b, c, d, f) refl))
 
-pub map-read : (next : ℕ → ℕ → ℕ) (l : List word.Record) → map (recordIn next) l ≡ map (read next) (map said l)
-map-read next [] = refl
-map-read next (r ∷ l) = ap₂ (λ (x : Record) (y : List Record). x ∷ y) (read-said next r) (map-read next l)
+pub map-read : (carried : ℕ → ℕ → ℕ) (l : List word.Record) → map (recordIn carried) l ≡ map (read carried) (map said l)
+map-read carried [] = refl
+map-read carried (r ∷ l) = ap₂ (λ (x : Record) (y : List Record). x ∷ y) (read-said carried r) (map-read carried l)
 
 -- the lines of the floor
-pub lines-read : (L : Lent) (i j : ℕ) → i < 16 → j < 16 → floorIn L .lines i j ≡ map (read (cartsIn (L .carts) .next)) (saidOn (L .lines) i j)
+pub lines-read : (L : Lent) (i j : ℕ) → i < 16 → j < 16 → floorIn L .lines i j ≡ map (read (registersIn (L .lines))) (saidOn (L .lines) i j)
 unfolding saidOn
-lines-read L i j hi hj = let next = cartsIn (L .carts) .next in line-in next (L .lines) i j hi hj ∙ map-read next (lineOf (L .lines) (i * 16 + j))
+lines-read L i j hi hj = line-in (L .lines) i j hi hj ∙ map-read (registersIn (L .lines)) (lineOf (L .lines) (i * 16 + j))
 
 -- the room is right
 abbrev pub roomSaid : Rooms → ℕ → ℕ → Said → Bool

@@ -16,25 +16,26 @@ use Rattle.protocol.proofs.Tests.{by-lt, clash, and-left, and-right, and-intro,
 use Rattle.carts.specs.View.{cartsIn}
 use Rattle.messages.specs.View.{Rooms, roomsIn}
 use Rattle.messages.proofs.RoomLaws.{waiting-past}
+use Rattle.lines.specs.Lines.{registersIn}
 use Rattle.view.specs.Records.{isIn}
 use Rattle.view.specs.View.{Lent, floorIn}
 use Rattle.formlines.specs.Said.{Said, aMulticast, anAckList, aDelete, aDeregister, aRegister, unknown}
-use Rattle.formlines.specs.Pass.{isTaken, inRoom, right, isLeaving, isTravelling}
+use Rattle.formlines.specs.Pass.{isTaken, inRoom, right, isLeaving, isTravelling, sameNumbers}
 use Rattle.formlines.proofs.Walks.{Each}
 use Rattle.formlines.proofs.Split.{Right}
 use Rattle.formlines.proofs.Reading.{read, roomSaid}
 use Rattle.formlines.proofs.Tallies.{OneRoom, in-room}
-use Rattle.formlines.proofs.Handoffs.{Placed, CartBelow}
+use Rattle.formlines.proofs.Handoffs.{numbers-same, Placed, CartBelow}
 use Rattle.formlines.proofs.Clauses.{TableClauses}
 
 -- the written records of a line
-pub all-read : (next : ℕ → ℕ → ℕ) (P : Said → Type 0) (Q : Record → Type 0) (l : List Said) → ((r : Said) → P r → Q (read next r)) → Each P l → All Q (map (read next) l)
-all-read next P Q [] f e = tt
-all-read next P Q (r ∷ l) f e = (f r (e .0), all-read next P Q l f (e .1))
+pub all-read : (carried : ℕ → ℕ → ℕ) (P : Said → Type 0) (Q : Record → Type 0) (l : List Said) → ((r : Said) → P r → Q (read carried r)) → Each P l → All Q (map (read carried) l)
+all-read carried P Q [] f e = tt
+all-read carried P Q (r ∷ l) f e = (f r (e .0), all-read carried P Q l f (e .1))
 
-pub each-read : (next : ℕ → ℕ → ℕ) (Q : Record → Type 0) (l : List Said) → All Q (map (read next) l) → Each (λ r. Q (read next r)) l
-each-read next Q [] a = tt
-each-read next Q (r ∷ l) a = (a .0, each-read next Q l (a .1))
+pub each-read : (carried : ℕ → ℕ → ℕ) (Q : Record → Type 0) (l : List Said) → All Q (map (read carried) l) → Each (λ r. Q (read carried r)) l
+each-read carried Q [] a = tt
+each-read carried Q (r ∷ l) a = (a .0, each-read carried Q l (a .1))
 
 module _ (L : Lent) (T : TableClauses L) where
   abbrev F : Floor
@@ -46,11 +47,14 @@ module _ (L : Lent) (T : TableClauses L) where
   abbrev R : Rooms
   R = roomsIn (L .messages)
 
+  abbrev carried : ℕ → ℕ → ℕ
+  carried = registersIn (L .lines)
+
   abbrev here : ℕ → ℕ → ℕ → Bool
-  here = inRoom (F .stations) (F .carts) C R
+  here = inRoom R
 
   abbrev Fits : ℕ → ℕ → Said → Type 0
-  Fits = Right (F .stations) (F .carts) C R
+  Fits = Right (F .stations) (F .carts) C R carried
 
   -- a taken room is one of the table's
   pub slot : (m : ℕ) → isTaken R m ≡ true → m < L .product .held
@@ -88,7 +92,7 @@ module _ (L : Lent) (T : TableClauses L) where
   fits-room i j (aRegister c) h = refl
   fits-room i j (unknown c) h = clash false (h .1) refl
 
-  pub fits-rule : (i j : ℕ) (r : Said) → Fits i j r → True (recordRule (limitsOf (L .product)) F i j (read (C .next) r))
+  pub fits-rule : (i j : ℕ) (r : Said) → Fits i j r → True (recordRule (limitsOf (L .product)) F i j (read carried r))
   unfolding right
   fits-rule i j (aMulticast m x) h =
       let a = here i x m in
@@ -107,11 +111,11 @@ module _ (L : Lent) (T : TableClauses L) where
       let q = and-right a (b && d) (h .1) in
       rw (room-found i x m (and-left a (b && d) (h .1))) (and-left b d q, eqb-true (R .acked m) (R .named m) (and-right b d q))
   fits-rule i j (aDeregister c) h = ltb-true c (F .carts) (and-left (ltb c (F .carts)) (isLeaving (C .place c) j i) (h .1))
-  fits-rule i j (aRegister c) h = ltb-true c (F .carts) (and-left (ltb c (F .carts)) (isTravelling (C .place c) i j) (h .1))
+  fits-rule i j (aRegister c) h = ltb-true c (F .carts) (and-left (ltb c (F .carts)) (isTravelling (C .place c) i j && sameNumbers (carried c) (C .next c)) (h .1))
   fits-rule i j (unknown c) h = clash false (h .1) refl
 
   -- TO THE PASS
-  pub rule-below : (i j : ℕ) (r : Said) → True (recordRule (limitsOf (L .product)) F i j (read (C .next) r)) → CartBelow (F .carts) r
+  pub rule-below : (i j : ℕ) (r : Said) → True (recordRule (limitsOf (L .product)) F i j (read carried r)) → CartBelow (F .carts) r
   rule-below i j (aMulticast m x) h = tt
   rule-below i j (anAckList m x y) h = tt
   rule-below i j (aDelete m x) h = tt
@@ -119,7 +123,7 @@ module _ (L : Lent) (T : TableClauses L) where
   rule-below i j (aRegister c) h = h
   rule-below i j (unknown c) h = tt
 
-  rule-right : (i j : ℕ) (r : Said) → roomSaid R i j r ≡ true → True (recordRule (limitsOf (L .product)) F i j (read (C .next) r)) → Placed C i j r → right (F .stations) (F .carts) C R i j r ≡ true
+  rule-right : (i j : ℕ) (r : Said) → roomSaid R i j r ≡ true → True (recordRule (limitsOf (L .product)) F i j (read carried r)) → Placed carried C i j r → right (F .stations) (F .carts) C R carried i j r ≡ true
   unfolding right
   rule-right i j (aMulticast m x) e h p =
       let a = slot-of i x m e in
@@ -134,9 +138,11 @@ module _ (L : Lent) (T : TableClauses L) where
       and-intro (here i x m) (has (R .waiting m) j && eqb (R .acked m) (R .named m)) a
       (and-intro (has (R .waiting m) j) (eqb (R .acked m) (R .named m)) (q .0) (eq-eqb (R .acked m) (R .named m) (q .1)))
   rule-right i j (aDeregister c) e h p = and-intro (ltb c (F .carts)) (isLeaving (C .place c) j i) (lt-ltb c (F .carts) h) p
-  rule-right i j (aRegister c) e h p = and-intro (ltb c (F .carts)) (isTravelling (C .place c) i j) (lt-ltb c (F .carts) h) p
+  rule-right i j (aRegister c) e h p =
+      and-intro (ltb c (F .carts)) (isTravelling (C .place c) i j && sameNumbers (carried c) (C .next c)) (lt-ltb c (F .carts) h)
+      (and-intro (isTravelling (C .place c) i j) (sameNumbers (carried c) (C .next c)) (p .0) (numbers-same (carried c) (C .next c) (p .1)))
   rule-right i j (unknown c) e h p = clash false e refl
 
-  pub rule-fits : (i j : ℕ) (r : Said) → roomSaid R i j r ≡ true → i < F .stations → j < F .stations → True (recordRule (limitsOf (L .product)) F i j (read (C .next) r)) → Placed C i j r → Fits i j r
+  pub rule-fits : (i j : ℕ) (r : Said) → roomSaid R i j r ≡ true → i < F .stations → j < F .stations → True (recordRule (limitsOf (L .product)) F i j (read carried r)) → Placed carried C i j r → Fits i j r
   rule-fits i j r e li lj h p =
       (and-intro (ltb i (F .stations)) (ltb j (F .stations)) (lt-ltb i (F .stations) li) (lt-ltb j (F .stations) lj), rule-right i j r e h p)

@@ -17,7 +17,7 @@ use Rattle.messages.specs.View.{Rooms}
 use Rattle.view.specs.Records.{kindOf, indexOf, numberOf, isIn}
 use Rattle.formlines.specs.declared.Way.{Way}
 use Rattle.formlines.specs.Said.{Said, aMulticast, anAckList, aDelete, aDeregister, aRegister, unknown, said, saidOn}
-use Rattle.formlines.specs.Pass.{Met, metSo, fresh, note, provided, isLeaving, isTravelling, right, fits, meet, along}
+use Rattle.formlines.specs.Pass.{Met, metSo, fresh, note, provided, isLeaving, isTravelling, sameNumbers, right, fits, meet, along}
 use Rattle.formlines.specs.Ways.{metOf, outcome, Inside}
 
 -- ONE TEST AFTER THE OTHER
@@ -89,9 +89,9 @@ four true b c d = three b c d
     three false c d = refl
 four false b c d = refl
 
-module _ (n k : ℕ) (C : Carts) (R : Rooms) (i j : ℕ) where
+module _ (n k : ℕ) (C : Carts) (R : Rooms) (carried : ℕ → ℕ → ℕ) (i j : ℕ) where
   -- the room, or the cart, of a right record is one of the floor's
-  pub right-inside : (q : Said) → k ≤ 64 → right n k C R i j q ≡ true → Inside q
+  pub right-inside : (q : Said) → k ≤ 64 → right n k C R carried i j q ≡ true → Inside q
   unfolding right
   right-inside (aMulticast m x) l e = tt
   right-inside (anAckList m x y) l e =
@@ -99,33 +99,33 @@ module _ (n k : ℕ) (C : Carts) (R : Rooms) (i j : ℕ) where
   right-inside (aDelete m x) l e =
       ltb-true m 32 (and-left (ltb m 32) (isIn R i x m) (and-left (ltb m 32 && isIn R i x m) (has (R .waiting m) j && eqb (R .acked m) (R .named m)) e))
   right-inside (aDeregister d) l e = let z = ltb-true d k (and-left (ltb d k) (isLeaving (C .place d) j i) e) in omega arith
-  right-inside (aRegister d) l e = let z = ltb-true d k (and-left (ltb d k) (isTravelling (C .place d) i j) e) in omega arith
+  right-inside (aRegister d) l e = let z = ltb-true d k (and-left (ltb d k) (isTravelling (C .place d) i j && sameNumbers (carried d) (C .next d)) e) in omega arith
   right-inside (unknown x) l e = tt
 
   -- ONE RECORD
-  pub meets : (s t : Met) (q : Said) (f o r b : Bool) → f ≡ (ltb i n && ltb j n) → o ≡ (s .ok && f) → r ≡ right n k C R i j q → b ≡ (o && r)
-      → t ≡ outcome (b && fresh s q) s q → t ≡ meet n k C R s i j q
+  pub meets : (s t : Met) (q : Said) (f o r b : Bool) → f ≡ (ltb i n && ltb j n) → o ≡ (s .ok && f) → r ≡ right n k C R carried i j q → b ≡ (o && r)
+      → t ≡ outcome (b && fresh s q) s q → t ≡ meet n k C R carried s i j q
   unfolding meet fits
   meets s t q f o r b ef eo er eb et =
       let l = ltb i n && ltb j n in
-      let w : b ≡ ((s .ok && l) && right n k C R i j q) = eb ∙ ap₂ (λ (x y : Bool). x && y) (eo ∙ ap (λ (x : Bool). s .ok && x) ef) er in
-      et ∙ ap (λ (x : Bool). outcome x s q) (ap (λ (x : Bool). x && fresh s q) w ∙ four (s .ok) l (right n k C R i j q) (fresh s q))
+      let w : b ≡ ((s .ok && l) && right n k C R carried i j q) = eb ∙ ap₂ (λ (x y : Bool). x && y) (eo ∙ ap (λ (x : Bool). s .ok && x) ef) er in
+      et ∙ ap (λ (x : Bool). outcome x s q) (ap (λ (x : Bool). x && fresh s q) w ∙ four (s .ok) l (right n k C R carried i j q) (fresh s q))
 
   -- ONE LINE
   pub walk-start : (words : List ℕ) (left row : ℕ) (s : Met) → left ≡ lengthOf words (i * 16 + j) → row ≡ headOf words (i * 16 + j)
-      → along n k C R s i j (map said (recordsFrom words row left)) ≡ along n k C R s i j (saidOn words i j)
+      → along n k C R carried s i j (map said (recordsFrom words row left)) ≡ along n k C R carried s i j (saidOn words i j)
   unfolding saidOn
   walk-start words left row s a b =
-      ap (λ (l : List word.Record). along n k C R s i j (map said l)) (ap₂ (λ (x y : ℕ). recordsFrom words x y) b a ∙ sym (line-from words (i * 16 + j)))
+      ap (λ (l : List word.Record). along n k C R carried s i j (map said l)) (ap₂ (λ (x y : ℕ). recordsFrom words x y) b a ∙ sym (line-from words (i * 16 + j)))
 
-  pub walk-step : (words : List ℕ) (row left : ℕ) (s t : Met) (r : word.Record) (next : ℕ) → 0 < left → r ≡ recordOf words row → next ≡ nextOf words row → t ≡ meet n k C R s i j (said r)
-      → along n k C R t i j (map said (recordsFrom words next (left - 1))) ≡ along n k C R s i j (map said (recordsFrom words row left))
+  pub walk-step : (words : List ℕ) (row left : ℕ) (s t : Met) (r : word.Record) (next : ℕ) → 0 < left → r ≡ recordOf words row → next ≡ nextOf words row → t ≡ meet n k C R carried s i j (said r)
+      → along n k C R carried t i j (map said (recordsFrom words next (left - 1))) ≡ along n k C R carried s i j (map said (recordsFrom words row left))
   unfolding along
   walk-step words row left s t r next l a b h =
-      ap₂ (λ (x : Met) (y : ℕ). along n k C R x i j (map said (recordsFrom words y (left - 1)))) (h ∙ ap (λ (x : word.Record). meet n k C R s i j (said x)) a) b
-      ∙ sym (ap (λ (l : List word.Record). along n k C R s i j (map said l)) (from-some words row left l))
+      ap₂ (λ (x : Met) (y : ℕ). along n k C R carried x i j (map said (recordsFrom words y (left - 1)))) (h ∙ ap (λ (x : word.Record). meet n k C R carried s i j (said x)) a) b
+      ∙ sym (ap (λ (l : List word.Record). along n k C R carried s i j (map said l)) (from-some words row left l))
 
-  pub walk-end : (words : List ℕ) (row left : ℕ) (s t : Met) → left ≡ 0 → along n k C R s i j (map said (recordsFrom words row left)) ≡ t → s ≡ t
+  pub walk-end : (words : List ℕ) (row left : ℕ) (s t : Met) → left ≡ 0 → along n k C R carried s i j (map said (recordsFrom words row left)) ≡ t → s ≡ t
   unfolding along
   walk-end words row left s t z e =
-      sym (ap (λ (x : ℕ). along n k C R s i j (map said (recordsFrom words row x))) z ∙ ap (λ (l : List word.Record). along n k C R s i j (map said l)) (from-none words row)) ∙ e
+      sym (ap (λ (x : ℕ). along n k C R carried s i j (map said (recordsFrom words row x))) z ∙ ap (λ (l : List word.Record). along n k C R carried s i j (map said l)) (from-none words row)) ∙ e

@@ -73,7 +73,7 @@ pub record InRoom (R : Rooms) (s x m : ℕ) : Type 0 where
   pub number : R .number m ≡ x
 
 module _ (n k : ℕ) (C : Carts) (R : Rooms) where
-  pub in-room : (s x m : ℕ) → inRoom n k C R s x m ≡ true → InRoom R s x m
+  pub in-room : (s x m : ℕ) → inRoom R s x m ≡ true → InRoom R s x m
   in-room s x m e =
       let a = eqb (R .initiator m) s in
       let b = eqb (R .number m) x in
@@ -87,7 +87,7 @@ module _ (n k : ℕ) (C : Carts) (R : Rooms) where
 
   module _ (one : OneRoom R) where
     -- it is the room that has the message
-    same-room : (s x m h : ℕ) → inRoom n k C R s x m ≡ true → Taken R h → eqb m h ≡ (eqb s (R .initiator h) && eqb x (R .number h))
+    same-room : (s x m h : ℕ) → inRoom R s x m ≡ true → Taken R h → eqb m h ≡ (eqb s (R .initiator h) && eqb x (R .number h))
     same-room s x m h e t =
         let g = in-room s x m e in
         let a = eqb s (R .initiator h) in
@@ -97,9 +97,9 @@ module _ (n k : ℕ) (C : Carts) (R : Rooms) where
         and-intro a b (eq-eqb s (R .initiator h) (sym (g .initiator) ∙ ap (R .initiator) p)) (eq-eqb x (R .number h) (sym (g .number) ∙ ap (R .number) p)))
         (λ q. eq-eqb m h (one m h (g .taken) t (g .initiator ∙ eqb-true s (R .initiator h) (and-left a b q)) (g .number ∙ eqb-true x (R .number h) (and-right a b q))))
 
-    module _ (next : ℕ → ℕ → ℕ) (i j : ℕ) where
+    module _ (carried : ℕ → ℕ → ℕ) (i j : ℕ) where
       -- HAND-OFFS
-      pub found-yes : (x : ℕ) (r : Said) → Unit {0} → Right n k C R i j r → freshFound x r ≡ true → (c : ℕ) → bit (has (noteFound x r) c) ≡ bit (has x c) + bit (isHandoffOf c (read next r))
+      pub found-yes : (x : ℕ) (r : Said) → Unit {0} → Right n k C R carried i j r → freshFound x r ≡ true → (c : ℕ) → bit (has (noteFound x r) c) ≡ bit (has x c) + bit (isHandoffOf c (read carried r))
       unfolding right
       found-yes x (aMulticast m y) u g h c = omega arith
       found-yes x (anAckList m y z) u g h c = omega arith
@@ -108,7 +108,7 @@ module _ (n k : ℕ) (C : Carts) (R : Rooms) where
       found-yes x (aRegister d) u g h c = with-tally x d c h
       found-yes x (unknown d) u g h c = clash false (g .1) refl
 
-      pub found-no : (x : ℕ) (r : Said) → Unit {0} → Right n k C R i j r → ((c : ℕ) → bit (has x c) + bit (isHandoffOf c (read next r)) ≤ 1) → freshFound x r ≡ true
+      pub found-no : (x : ℕ) (r : Said) → Unit {0} → Right n k C R carried i j r → ((c : ℕ) → bit (has x c) + bit (isHandoffOf c (read carried r)) ≤ 1) → freshFound x r ≡ true
       found-no x (aMulticast m y) u g h = refl
       found-no x (anAckList m y z) u g h = refl
       found-no x (aDelete m y) u g h = refl
@@ -124,23 +124,23 @@ module _ (n k : ℕ) (C : Carts) (R : Rooms) where
       no-tally b true = omega arith
       no-tally b false = omega arith
 
-      pub gone-yes : (x : ℕ) (r : Said) → Unit {0} → Right n k C R i j r → freshGone x r ≡ true → (a : (m : ℕ) × Taken R m) → bit (has (noteGone x r) (a .0)) ≡ bit (has x (a .0)) + bit (deletesAt a (read next r))
+      pub gone-yes : (x : ℕ) (r : Said) → Unit {0} → Right n k C R carried i j r → freshGone x r ≡ true → (a : (m : ℕ) × Taken R m) → bit (has (noteGone x r) (a .0)) ≡ bit (has x (a .0)) + bit (deletesAt a (read carried r))
       unfolding right
       gone-yes x (aMulticast m y) u g h a = no-tally (has x (a .0)) (eqb i (R .initiator (a .0)))
       gone-yes x (anAckList m y z) u g h a = no-tally (has x (a .0)) (eqb i (R .initiator (a .0)))
       gone-yes x (aDelete m y) u g h a =
-          let w = same-room i y m (a .0) (and-left (inRoom n k C R i y m) (has (R .waiting m) j && eqb (R .acked m) (R .named m)) (g .1)) (a .1) in
+          let w = same-room i y m (a .0) (and-left (inRoom R i y m) (has (R .waiting m) j && eqb (R .acked m) (R .named m)) (g .1)) (a .1) in
           with-tally x m (a .0) h ∙ ap (λ (b : Bool). bit (has x (a .0)) + bit b) w
       gone-yes x (aDeregister d) u g h a = no-tally (has x (a .0)) (eqb i (R .initiator (a .0)))
       gone-yes x (aRegister d) u g h a = no-tally (has x (a .0)) (eqb i (R .initiator (a .0)))
       gone-yes x (unknown d) u g h a = no-tally (has x (a .0)) (eqb i (R .initiator (a .0)))
 
-      pub gone-no : (x : ℕ) (r : Said) → Unit {0} → Right n k C R i j r → ((a : (m : ℕ) × Taken R m) → bit (has x (a .0)) + bit (deletesAt a (read next r)) ≤ 1) → freshGone x r ≡ true
+      pub gone-no : (x : ℕ) (r : Said) → Unit {0} → Right n k C R carried i j r → ((a : (m : ℕ) × Taken R m) → bit (has x (a .0)) + bit (deletesAt a (read carried r)) ≤ 1) → freshGone x r ≡ true
       unfolding right
       gone-no x (aMulticast m y) u g h = refl
       gone-no x (anAckList m y z) u g h = refl
       gone-no x (aDelete m y) u g h =
-          let e = and-left (inRoom n k C R i y m) (has (R .waiting m) j && eqb (R .acked m) (R .named m)) (g .1) in
+          let e = and-left (inRoom R i y m) (has (R .waiting m) j && eqb (R .acked m) (R .named m)) (g .1) in
           let t = in-room i y m e .taken in
           let w = same-room i y m m e t in
           with-once x m (let z = h (m, t) in rw (← w) at z)
@@ -173,11 +173,11 @@ module _ (n k : ℕ) (C : Carts) (R : Rooms) where
       three-false true b d e = rw e refl
       three-false false b d e = refl
 
-      pub seen-yes : (x : List ℕ) (r : Said) → Rows x → Right n k C R i j r → freshSeen x r ≡ true → (a : Spot R) → seenAt (noteSeen x r) a ≡ seenAt x a + bit (acksAt a (read next r))
+      pub seen-yes : (x : List ℕ) (r : Said) → Rows x → Right n k C R carried i j r → freshSeen x r ≡ true → (a : Spot R) → seenAt (noteSeen x r) a ≡ seenAt x a + bit (acksAt a (read carried r))
       unfolding right
       seen-yes x (aMulticast m y) l g h a = no-tally (has (seenIn x (a .room)) (a .cart)) (eqb j (R .initiator (a .room)))
       seen-yes x (anAckList m y z) l g h a =
-          let e = and-left (inRoom n k C R j y m) (ltb 0 z && ltb z (2 ^ k)) (g .1) in
+          let e = and-left (inRoom R j y m) (ltb 0 z && ltb z (2 ^ k)) (g .1) in
           let t = in-room j y m e .taken in
           let w = same-room j y m (a .room) e (a .taken) in
           let new = union (seenIn x m) z in
@@ -195,11 +195,11 @@ module _ (n k : ℕ) (C : Carts) (R : Rooms) where
       seen-yes x (aRegister d) l g h a = no-tally (has (seenIn x (a .room)) (a .cart)) (eqb j (R .initiator (a .room)))
       seen-yes x (unknown d) l g h a = no-tally (has (seenIn x (a .room)) (a .cart)) (eqb j (R .initiator (a .room)))
 
-      pub seen-no : (x : List ℕ) (r : Said) → Rows x → Right n k C R i j r → ((a : Spot R) → seenAt x a + bit (acksAt a (read next r)) ≤ 1) → freshSeen x r ≡ true
+      pub seen-no : (x : List ℕ) (r : Said) → Rows x → Right n k C R carried i j r → ((a : Spot R) → seenAt x a + bit (acksAt a (read carried r)) ≤ 1) → freshSeen x r ≡ true
       unfolding right
       seen-no x (aMulticast m y) l g h = refl
       seen-no x (anAckList m y z) l g h =
-          let e = and-left (inRoom n k C R j y m) (ltb 0 z && ltb z (2 ^ k)) (g .1) in
+          let e = and-left (inRoom R j y m) (ltb 0 z && ltb z (2 ^ k)) (g .1) in
           let t = in-room j y m e .taken in
           let w = same-room j y m m e t in
           union-once (seenIn x m) z

@@ -25,6 +25,7 @@ use Rattle.cartset.proofs.MaskLaws.{within-has, has-within}
 use Rattle.stations.specs.View.{Stations, stationsIn}
 use Rattle.carts.specs.View.{cartsIn}
 use Rattle.messages.specs.View.{Rooms, roomsIn}
+use Rattle.lines.specs.Lines.{registersIn}
 use Rattle.view.specs.View.{Lent, floorIn}
 use Rattle.view.proofs.LinesView.{line-beyond}
 use Rattle.formlines.specs.Said.{Said, saidOn}
@@ -105,14 +106,17 @@ module _ (L : Lent) (T : TableClauses L) where
   abbrev words : List ℕ
   words = L .lines
 
+  abbrev carried : ℕ → ℕ → ℕ
+  carried = registersIn words
+
   abbrev said : ℕ → ℕ → List Said
   said i j = saidOn words i j
 
   abbrev line : ℕ → ℕ → List Record
-  line i j = map (read (C .next)) (said i j)
+  line i j = map (read carried) (said i j)
 
   abbrev Fits : ℕ → ℕ → Said → Type 0
-  Fits = Right n k C R
+  Fits = Right n k C R carried
 
   one : OneRoom R
   one = one-room L T
@@ -121,7 +125,7 @@ module _ (L : Lent) (T : TableClauses L) where
   is = lines-read L
 
   beyond : (i j : ℕ) → (i < 16 → j < 16 → ⊥) → F .lines i j ≡ []
-  beyond = line-beyond (C .next) words
+  beyond = line-beyond words
 
   place-fits : (p : Place) → True (placeInside (limitsOf (L .product)) F p) → PlaceInRange n p
   place-fits outside h = tt
@@ -148,10 +152,10 @@ module _ (L : Lent) (T : TableClauses L) where
   -- WITH RIGHT RECORDS ON THE LINES
   module _ (rights : (i j : ℕ) → i < 16 → j < 16 → Each (Fits i j) (said i j)) where
     handoff-total : (c : ℕ) → sum 16 (λ i. sum 16 (λ j. countLine (isHandoffOf c) (line i j))) ≡ countLines n (λ i j. isHandoffOf c) (F .lines)
-    handoff-total c = total-is n k C R one (C .next) words rights (F .lines) is beyond (T .stations) (λ i j. isHandoffOf c)
+    handoff-total c = total-is n k C R one carried words rights (F .lines) is beyond (T .stations) (λ i j. isHandoffOf c)
 
     ack-total : (m c : ℕ) → sum 16 (λ i. sum 16 (λ j. countLine (acksTo (F .initiator m) (F .number m) c i j) (line i j))) ≡ countLines n (acksTo (F .initiator m) (F .number m) c) (F .lines)
-    ack-total m c = total-is n k C R one (C .next) words rights (F .lines) is beyond (T .stations) (acksTo (F .initiator m) (F .number m) c)
+    ack-total m c = total-is n k C R one carried words rights (F .lines) is beyond (T .stations) (acksTo (F .initiator m) (F .number m) c)
 
     -- the acknowledgements before the lines
     start-is : (m : ℕ) → m < 32 → (c : ℕ) → c < 64 → (apart : bit (has (gathered S R m n) c) ≡ bit (has (R .acked m) c) + count n (λ t. has (S .acks m t) c))
@@ -173,7 +177,7 @@ module _ (L : Lent) (T : TableClauses L) where
     the-line i li j lj =
         let Q : Record → Type 0 = λ r. (i < n) × ((j < n) × True (recordRule (limitsOf (L .product)) F i j r)) in
         subst (λ (l : List Record). All Q l) (sym (is i j li lj))
-        (all-read (C .next) (Fits i j) Q (said i j)
+        (all-read carried (Fits i j) Q (said i j)
         (λ r h. (ltb-true i n (and-left (ltb i n) (ltb j n) (h .0)), (ltb-true j n (and-right (ltb i n) (ltb j n) (h .0)), fits-rule L T i j r h)))
         (rights i j li lj))
 
@@ -181,11 +185,11 @@ module _ (L : Lent) (T : TableClauses L) where
     the-order i li j lj =
         let A = M .alone i j li (near j lj) in
         subst (λ (l : List Record). True (countsUp (F .expected j i) (multicastNumbers l) (F .sent i)) × True (deletesFollow (F .expected j i) l)) (sym (is i j li (near j lj)))
-        (order-of (C .next) (F .expected j i) (F .sent i) (said i j) (A .next) (A .upto (lt-ltb j n lj)))
+        (order-of carried (F .expected j i) (F .sent i) (said i j) (A .next) (A .upto (lt-ltb j n lj)))
 
     moving-total : (c : ℕ) → c < L .product .carts → sum n (λ i. sum n (λ j. countLine (isHandoffOf c) (line i j))) ≡ bit (moving (C .place c))
     moving-total c lc =
-        let a = found-all-yes n k C R one (C .next) words rights 0 (M .found) c in
+        let a = found-all-yes n k C R one carried words rights 0 (M .found) c in
         let b = handoff-total rights c in
         let d : bit (has 0 c) ≡ 0 = rw (has-zero c) refl in
         let f : bit (has (allFound words 0 16) c) ≡ bit (moving (C .place c)) = ap (λ (x : ℕ). bit (has x c)) (M .handed) ∙ ap bit (movers-bit c lc) in
@@ -197,11 +201,11 @@ module _ (L : Lent) (T : TableClauses L) where
     the-handoffs : (c : ℕ) → c < L .product .carts → (i : ℕ) → i < n → (j : ℕ) → j < n → handoffs c (F .lines i j) ≡ handoffOf (C .place c) i j (listOf 16 (C .next c))
     the-handoffs c lc i li j lj =
         ap (handoffs c) (is i j (near i li) (near j lj))
-        ∙ handoffs-due n k C R c said (λ i j li lj. rights i j (near i li) (near j lj)) (moving-total c lc) i j li lj
+        ∙ handoffs-due n k C R carried c said (λ i j li lj. rights i j (near i li) (near j lj)) (moving-total c lc) i j li lj
 
     seen-is : (m : ℕ) → m < 32 → isHeld F m ≡ true → (c : ℕ) → c < 64 → bit (has (seenLast n k S C R words m) c) ≡ acksOf (limitsOf (L .product)) F m c
     seen-is m lm h c lc =
-        let a = seen-all-yes n k C R one (C .next) words rights (start n k S C R words) (length-listOf 32 (λ m. gathered S R m n)) (M .seen) (spot m c lm h lc) in
+        let a = seen-all-yes n k C R one carried words rights (start n k S C R words) (length-listOf 32 (λ m. gathered S R m n)) (M .seen) (spot m c lm h lc) in
         let b = ack-total rights m c in
         let d = start-is rights m lm c lc (gathered-yes S R m n (M .begins m lm h) c lc) in
         omega arith
@@ -228,7 +232,7 @@ module _ (L : Lent) (T : TableClauses L) where
     the-deletes m lm h t lt =
         let i = F .initiator m in
         by-lt i 16
-        (λ li. let a = gone-line-yes n k C R one (C .next) words rights i t li (near t lt) 0 (M .alone i t li (near t lt) .gone) (m, record { slot = lm; held = h }) in
+        (λ li. let a = gone-line-yes n k C R one carried words rights i t li (near t lt) 0 (M .alone i t li (near t lt) .gone) (m, record { slot = lm; held = h }) in
         let b = bit-le (has (walkGone 0 (said i t)) m) in
         let d = and-count (eqb i (R .initiator m)) (isDeleteOf (R .number m)) (line i t) (eqb-self i) in
         let e = ap (countLine (isDeleteOf (F .number m))) (is i t li (near t lt)) in
@@ -253,12 +257,12 @@ module _ (L : Lent) (T : TableClauses L) where
 
     -- what the form rule says of a record
     abbrev Ruled : ℕ → ℕ → Said → Type 0
-    Ruled i j r = (i < n) × ((j < n) × True (recordRule (limitsOf (L .product)) F i j (read (C .next) r)))
+    Ruled i j r = (i < n) × ((j < n) × True (recordRule (limitsOf (L .product)) F i j (read carried r)))
 
     ruled : (i j : ℕ) → i < 16 → j < 16 → Each (Ruled i j) (said i j)
     ruled i j li lj =
         let Q : Record → Type 0 = λ r. (i < n) × ((j < n) × True (recordRule (limitsOf (L .product)) F i j r)) in
-        each-read (C .next) Q (said i j) (subst (λ (l : List Record). All Q l) (is i j li lj) (X .line i li j lj))
+        each-read carried Q (said i j) (subst (λ (l : List Record). All Q l) (is i j li lj) (X .line i li j lj))
 
     -- only lines between stations of the floor have records
     on-floor : (P : Said → Type 0) (i j : ℕ) (l : List Said) → Each (Ruled i j) l → (i < n → j < n → Each P l) → Each P l
@@ -271,10 +275,10 @@ module _ (L : Lent) (T : TableClauses L) where
     fit : (i j : ℕ) → i < 16 → j < 16 → Each (Fits i j) (said i j)
     fit i j li lj =
         on-floor (Fits i j) i j (said i j) (ruled i j li lj)
-        (λ a b. let placed = placed-of C i j k (said i j)
+        (λ a b. let placed = placed-of carried C i j k (said i j)
         (λ c lc. ap (handoffs c) (sym (is i j li lj)) ∙ handed-off c (let z = T .on-carts in omega arith) i a j b)
         (each-map (Ruled i j) (CartBelow k) (said i j) (λ r h. rule-below L T i j r (h .1 .1)) (ruled i j li lj)) in
-        each-map2 (λ r. (roomSaid R i j r ≡ true) × Ruled i j r) (Placed C i j) (Fits i j) (said i j) (λ r h p. rule-fits L T i j r (h .0) (h .1 .0) (h .1 .1 .0) (h .1 .1 .1) p)
+        each-map2 (λ r. (roomSaid R i j r ≡ true) × Ruled i j r) (Placed carried C i j) (Fits i j) (said i j) (λ r h p. rule-fits L T i j r (h .0) (h .1 .0) (h .1 .1 .0) (h .1 .1 .1) p)
         (each-map2 (λ r. roomSaid R i j r ≡ true) (Ruled i j) (λ r. (roomSaid R i j r ≡ true) × Ruled i j r) (said i j) (λ r a b. (a, b)) (right-rooms L i j (X .rooms i li j lj)) (ruled i j li lj))
         placed)
 
@@ -284,7 +288,7 @@ module _ (L : Lent) (T : TableClauses L) where
     none-next i j e (x ∷ l) r h = absurd (let z = r .0 .1 .0 in omega arith)
 
     none-on : (i j : ℕ) → n ≤ j → (f : Record → Bool) → countLine f (F .lines i j) ≡ 0
-    none-on i j h f = ap (countLine f) (no-line n k C R one (C .next) words fit (F .lines) is beyond (T .stations) i j (λ x y. omega arith))
+    none-on i j h f = ap (countLine f) (no-line n k C R one carried words fit (F .lines) is beyond (T .stations) i j (λ x y. omega arith))
 
     one-delete : (i j : ℕ) → i < 16 → j < 16 → (m : ℕ) → Taken R m → countLine (λ r. eqb i (R .initiator m) && isDeleteOf (R .number m) r) (line i j) ≤ 1
     one-delete i j li lj m t =
@@ -304,12 +308,12 @@ module _ (L : Lent) (T : TableClauses L) where
     lonely i j li lj =
         let ordered : j < n → GoodNext (S .expected j i) (said i j) × (walkNext (S .expected j i) (said i j) ≡ S .sent i) = λ l.
         let o = subst (λ (x : List Record). True (countsUp (F .expected j i) (multicastNumbers x) (F .sent i)) × True (deletesFollow (F .expected j i) x)) (is i j li lj) (X .order i li j l) in
-        of-order (C .next) (F .expected j i) (F .sent i) (said i j) (o .0) (o .1) in
+        of-order carried (F .expected j i) (F .sent i) (said i j) (o .0) (o .1) in
         record {
           rights = fit i j li lj;
           next = by-lt j n (λ l. ordered l .0) (λ l. none-next i j (S .expected j i) (said i j) (ruled i j li lj) l);
           upto = λ l. ordered (ltb-true j n l) .1;
-          gone = gone-line-no n k C R one (C .next) words fit i j li lj 0
+          gone = gone-line-no n k C R one carried words fit i j li lj 0
               (λ a. let z : bit (has 0 (a .0)) ≡ 0 = rw (has-zero (a .0)) refl in let y = one-delete i j li lj (a .0) (a .1) in omega arith);
         }
 
@@ -337,7 +341,7 @@ module _ (L : Lent) (T : TableClauses L) where
     all-handoffs c = let z : bit (has 0 c) ≡ 0 = rw (has-zero c) refl in let y = handoff-total fit c in let w = movers-count c in omega arith
 
     each-found : AllFound words 0 16
-    each-found = found-all-no n k C R one (C .next) words fit 0 (λ c. let z = all-handoffs c in let y = bit-le (has (movers k C) c) in omega arith)
+    each-found = found-all-no n k C R one carried words fit 0 (λ c. let z = all-handoffs c in let y = bit-le (has (movers k C) c) in omega arith)
 
     -- ACKNOWLEDGEMENTS
     not-acked : (m c : ℕ) → k ≤ c → (i j : ℕ) (r : Record) → True (recordRule (limitsOf (L .product)) F i j r) → acksTo (F .initiator m) (F .number m) c i j r ≡ false
@@ -371,12 +375,12 @@ module _ (L : Lent) (T : TableClauses L) where
 
     each-seen : AllSeen words (start n k S C R words) 16
     each-seen =
-        seen-all-no n k C R one (C .next) words fit (start n k S C R words) (length-listOf 32 (λ m. gathered S R m n))
+        seen-all-no n k C R one carried words fit (start n k S C R words) (length-listOf 32 (λ m. gathered S R m n))
         (λ a. let z = all-acks a in let y = one-ack (a .room) (a .taken .slot) (a .taken .held) (a .cart) in omega arith)
 
     last-is : (m : ℕ) → m < 32 → isHeld F m ≡ true → (c : ℕ) → c < 64 → bit (has (seenLast n k S C R words m) c) ≡ acksOf (limitsOf (L .product)) F m c
     last-is m lm h c lc =
-        seen-all-yes n k C R one (C .next) words fit (start n k S C R words) (length-listOf 32 (λ m. gathered S R m n)) each-seen (spot m c lm h lc) ∙ all-acks (spot m c lm h lc)
+        seen-all-yes n k C R one carried words fit (start n k S C R words) (length-listOf 32 (λ m. gathered S R m n)) each-seen (spot m c lm h lc) ∙ all-acks (spot m c lm h lc)
 
     met-ack : (m : ℕ) → m < 32 → isHeld F m ≡ true → (c : ℕ) → c < 64 → has (seenLast n k S C R words m) c ≡ true → 0 < acksOf (limitsOf (L .product)) F m c
     met-ack m lm h c lc e = let z = last-is m lm h c lc in let y : bit (has (seenLast n k S C R words m) c) ≡ 1 = rw e refl in omega arith
@@ -390,7 +394,7 @@ module _ (L : Lent) (T : TableClauses L) where
           found = each-found;
           seen = each-seen;
           handed = same-sets (allFound words 0 16) (movers k C)
-              (λ c. same-bits (has (allFound words 0 16) c) (has (movers k C) c) (found-all-yes n k C R one (C .next) words fit 0 each-found c ∙ all-handoffs c));
+              (λ c. same-bits (has (allFound words 0 16) c) (has (movers k C) c) (found-all-yes n k C R one carried words fit 0 each-found c ∙ all-handoffs c));
           named = λ m lm h. let x = seenLast n k S C R words m in
               has-within 64 x (F .named m)
               (λ c lc e. let p = met-ack m lm h c lc e in by-lt c k (λ l. X .acks m (slot L T m h) h c l .1 p .0) (λ l. absurd (let z = none-acked m h c l in omega arith)));

@@ -21,11 +21,11 @@ use Rattle.formlines.proofs.Reading.{read}
 use Rattle.formlines.proofs.Tallies.{Taken, Spot, OneRoom, found-yes, found-no, deletesAt, gone-yes, gone-no, seenAt, acksAt, Rows, seen-kept, seen-yes, seen-no}
 use Rattle.formlines.proofs.Lines.{goFound, goodFound, rowFound, RowFound, goSeen, goodSeen, rowSeen, RowSeen, allFound, AllFound, allSeen, AllSeen}
 
-module _ (n k : ℕ) (C : Carts) (R : Rooms) (one : OneRoom R) (next : ℕ → ℕ → ℕ) (words : List ℕ)
-    (rights : (i j : ℕ) → i < 16 → j < 16 → Each (Right n k C R i j) (saidOn words i j)) where
+module _ (n k : ℕ) (C : Carts) (R : Rooms) (one : OneRoom R) (carried : ℕ → ℕ → ℕ) (words : List ℕ)
+    (rights : (i j : ℕ) → i < 16 → j < 16 → Each (Right n k C R carried i j) (saidOn words i j)) where
   -- the written line
   abbrev line : ℕ → ℕ → List Record
-  line i j = map (read next) (saidOn words i j)
+  line i j = map (read carried) (saidOn words i j)
 
   -- HAND-OFFS
   abbrev handoffCount : ℕ → ℕ → ℕ → ℕ
@@ -37,13 +37,13 @@ module _ (n k : ℕ) (C : Carts) (R : Rooms) (one : OneRoom R) (next : ℕ → �
   module _ (i : ℕ) (li : i < 16) where
     found-line-yes : (j x : ℕ) → Unit {0} → j < 16 → goodFound words i j x → (c : ℕ) → inMask (goFound words i j x) c ≡ inMask x c + handoffCount i j c
     found-line-yes j x u lj =
-        line-yes ℕ freshFound noteFound (λ y. Unit {0}) ℕ inMask (read next) isHandoffOf (Right n k C R i j) (λ y r v. tt)
-        (found-yes n k C R one next i j) (found-no n k C R one next i j) x (saidOn words i j) tt (rights i j li lj)
+        line-yes ℕ freshFound noteFound (λ y. Unit {0}) ℕ inMask (read carried) isHandoffOf (Right n k C R carried i j) (λ y r v. tt)
+        (found-yes n k C R one carried i j) (found-no n k C R one carried i j) x (saidOn words i j) tt (rights i j li lj)
 
     found-line-no : (j x : ℕ) → Unit {0} → j < 16 → ((c : ℕ) → inMask x c + handoffCount i j c ≤ 1) → goodFound words i j x
     found-line-no j x u lj =
-        line-no ℕ freshFound noteFound (λ y. Unit {0}) ℕ inMask (read next) isHandoffOf (Right n k C R i j) (λ y r v. tt)
-        (found-yes n k C R one next i j) (found-no n k C R one next i j) x (saidOn words i j) tt (rights i j li lj)
+        line-no ℕ freshFound noteFound (λ y. Unit {0}) ℕ inMask (read carried) isHandoffOf (Right n k C R carried i j) (λ y r v. tt)
+        (found-yes n k C R one carried i j) (found-no n k C R one carried i j) x (saidOn words i j) tt (rights i j li lj)
 
   found-row-yes : (i x : ℕ) → Unit {0} → i < 16 → RowFound words i x 16 → (c : ℕ) → inMask (rowFound words i x 16) c ≡ inMask x c + sum 16 (λ j. handoffCount i j c)
   found-row-yes i x u li =
@@ -63,13 +63,13 @@ module _ (n k : ℕ) (C : Carts) (R : Rooms) (one : OneRoom R) (next : ℕ → �
 
   -- ACKNOWLEDGEMENTS
   abbrev spotted : List ℕ → Spot R → ℕ
-  spotted = seenAt n k C R one next 0 0
+  spotted = seenAt n k C R one carried 0 0
 
   abbrev ackAt : ℕ → ℕ → Spot R → Record → Bool
-  ackAt i j = acksAt n k C R one next i j
+  ackAt i j = acksAt n k C R one carried i j
 
   abbrev whole : List ℕ → Type 0
-  whole = Rows n k C R one next 0 0
+  whole = Rows n k C R one carried 0 0
 
   abbrev ackCountAt : ℕ → ℕ → Spot R → ℕ
   ackCountAt i j a = countLine (ackAt i j a) (line i j)
@@ -80,18 +80,18 @@ module _ (n k : ℕ) (C : Carts) (R : Rooms) (one : OneRoom R) (next : ℕ → �
       where
         kept : (x : List ℕ) (l : List Said) → whole x → whole (walkSeen x l)
         kept x [] w = w
-        kept x (r ∷ l) w = kept (noteSeen x r) l (seen-kept n k C R one next i j x r w)
+        kept x (r ∷ l) w = kept (noteSeen x r) l (seen-kept n k C R one carried i j x r w)
 
     module _ (li : i < 16) where
       seen-line-yes : (j : ℕ) (x : List ℕ) → whole x → j < 16 → goodSeen words i j x → (a : Spot R) → spotted (goSeen words i j x) a ≡ spotted x a + ackCountAt i j a
       seen-line-yes j x w lj =
-          line-yes (List ℕ) freshSeen noteSeen whole (Spot R) spotted (read next) (ackAt i j) (Right n k C R i j) (seen-kept n k C R one next i j)
-          (seen-yes n k C R one next i j) (seen-no n k C R one next i j) x (saidOn words i j) w (rights i j li lj)
+          line-yes (List ℕ) freshSeen noteSeen whole (Spot R) spotted (read carried) (ackAt i j) (Right n k C R carried i j) (seen-kept n k C R one carried i j)
+          (seen-yes n k C R one carried i j) (seen-no n k C R one carried i j) x (saidOn words i j) w (rights i j li lj)
 
       seen-line-no : (j : ℕ) (x : List ℕ) → whole x → j < 16 → ((a : Spot R) → spotted x a + ackCountAt i j a ≤ 1) → goodSeen words i j x
       seen-line-no j x w lj =
-          line-no (List ℕ) freshSeen noteSeen whole (Spot R) spotted (read next) (ackAt i j) (Right n k C R i j) (seen-kept n k C R one next i j)
-          (seen-yes n k C R one next i j) (seen-no n k C R one next i j) x (saidOn words i j) w (rights i j li lj)
+          line-no (List ℕ) freshSeen noteSeen whole (Spot R) spotted (read carried) (ackAt i j) (Right n k C R carried i j) (seen-kept n k C R one carried i j)
+          (seen-yes n k C R one carried i j) (seen-no n k C R one carried i j) x (saidOn words i j) w (rights i j li lj)
 
   seen-row-kept : (i : ℕ) (x : List ℕ) → whole x → whole (rowSeen words i x 16)
   seen-row-kept i x = kept x 16
@@ -121,20 +121,20 @@ module _ (n k : ℕ) (C : Carts) (R : Rooms) (one : OneRoom R) (next : ℕ → �
   goneIn x a = bit (has x (a .0))
 
   module _ (i j : ℕ) (li : i < 16) (lj : j < 16) where
-    pub gone-line-yes : (x : ℕ) → GoodGone x (saidOn words i j) → (a : (m : ℕ) × Taken R m) → goneIn (walkGone x (saidOn words i j)) a ≡ goneIn x a + countLine (deletesAt n k C R one next i j a) (line i j)
+    pub gone-line-yes : (x : ℕ) → GoodGone x (saidOn words i j) → (a : (m : ℕ) × Taken R m) → goneIn (walkGone x (saidOn words i j)) a ≡ goneIn x a + countLine (deletesAt n k C R one carried i j a) (line i j)
     gone-line-yes x =
-        line-yes ℕ freshGone noteGone (λ y. Unit {0}) ((m : ℕ) × Taken R m) goneIn (read next) (deletesAt n k C R one next i j) (Right n k C R i j) (λ y r v. tt)
-        (gone-yes n k C R one next i j) (gone-no n k C R one next i j) x (saidOn words i j) tt (rights i j li lj)
+        line-yes ℕ freshGone noteGone (λ y. Unit {0}) ((m : ℕ) × Taken R m) goneIn (read carried) (deletesAt n k C R one carried i j) (Right n k C R carried i j) (λ y r v. tt)
+        (gone-yes n k C R one carried i j) (gone-no n k C R one carried i j) x (saidOn words i j) tt (rights i j li lj)
 
-    pub gone-line-no : (x : ℕ) → ((a : (m : ℕ) × Taken R m) → goneIn x a + countLine (deletesAt n k C R one next i j a) (line i j) ≤ 1) → GoodGone x (saidOn words i j)
+    pub gone-line-no : (x : ℕ) → ((a : (m : ℕ) × Taken R m) → goneIn x a + countLine (deletesAt n k C R one carried i j a) (line i j) ≤ 1) → GoodGone x (saidOn words i j)
     gone-line-no x =
-        line-no ℕ freshGone noteGone (λ y. Unit {0}) ((m : ℕ) × Taken R m) goneIn (read next) (deletesAt n k C R one next i j) (Right n k C R i j) (λ y r v. tt)
-        (gone-yes n k C R one next i j) (gone-no n k C R one next i j) x (saidOn words i j) tt (rights i j li lj)
+        line-no ℕ freshGone noteGone (λ y. Unit {0}) ((m : ℕ) × Taken R m) goneIn (read carried) (deletesAt n k C R one carried i j) (Right n k C R carried i j) (λ y r v. tt)
+        (gone-yes n k C R one carried i j) (gone-no n k C R one carried i j) x (saidOn words i j) tt (rights i j li lj)
 
   -- THE LINES OF THE FLOOR
   module _ (lines : ℕ → ℕ → List Record) (is : (i j : ℕ) → i < 16 → j < 16 → lines i j ≡ line i j) (beyond : (i j : ℕ) → (i < 16 → j < 16 → ⊥) → lines i j ≡ []) (few : n ≤ 16) where
     -- only lines between stations of the floor have records
-    none-said : (i j : ℕ) (l : List Said) → Each (Right n k C R i j) l → (i < n → j < n → ⊥) → map (read next) l ≡ []
+    none-said : (i j : ℕ) (l : List Said) → Each (Right n k C R carried i j) l → (i < n → j < n → ⊥) → map (read carried) l ≡ []
     none-said i j [] e h = refl
     none-said i j (r ∷ l) e h =
         absurd (h (ltb-true i n (and-left (ltb i n) (ltb j n) (e .0 .0))) (ltb-true j n (and-right (ltb i n) (ltb j n) (e .0 .0))))

@@ -11,6 +11,7 @@ use Rattle.cartset.specs.Masks.{within, disjoint}
 use Rattle.stations.specs.View.{Stations, stationsIn, headIn}
 use Rattle.carts.specs.View.{cartsIn}
 use Rattle.messages.specs.View.{Rooms, roomsIn}
+use Rattle.lines.specs.Lines.{registersIn}
 use Rattle.view.specs.Records.{isIn}
 use Rattle.view.specs.View.{Lent}
 use Rattle.formlines.specs.Said.{Said, aMulticast, anAckList, aDelete, aDeregister, aRegister, unknown, saidOn}
@@ -71,20 +72,25 @@ isTravelling (at t) s u = false
 isTravelling (leaving t v) s u = false
 isTravelling (travelling t v) s u = eqb t s && eqb v u
 
--- ONE RECORD, on a floor of n stations and k carts
-module _ (n k : ℕ) (C : Carts) (R : Rooms) where
-  -- message number x of s is in room m, which is one of the rooms
-  abbrev pub inRoom : ℕ → ℕ → ℕ → Bool
-  inRoom s x m = ltb m 32 && isIn R s x m
+-- two rows have the same sixteen numbers
+abbrev pub sameNumbers : (ℕ → ℕ) → (ℕ → ℕ) → Bool
+sameNumbers f g = every 16 (λ s. eqb (f s) (g s))
 
+-- message number x of s is in room m, which is one of the rooms
+abbrev pub inRoom : Rooms → ℕ → ℕ → ℕ → Bool
+inRoom R s x m = ltb m 32 && isIn R s x m
+
+-- ONE RECORD, on a floor of n stations and k carts, where `carried c` is the row that the register of cart c carries
+module _ (n k : ℕ) (C : Carts) (R : Rooms) (carried : ℕ → ℕ → ℕ) where
   -- a record on the line from i to j against the tables: its message is in its room, and j has yet to handle its delete; an ack list is of
-  -- some carts of the floor; a delete is of a message that the whole set has acknowledged; a hand-off is that of a cart on this way
+  -- some carts of the floor; a delete is of a message that the whole set has acknowledged; a hand-off is that of a cart on this way, and a
+  -- register carries the cart's next numbers
   unfoldable pub right : ℕ → ℕ → Said → Bool
-  right i j (aMulticast m x) = inRoom i x m && has (R .waiting m) j
-  right i j (anAckList m x y) = inRoom j x m && (ltb 0 y && ltb y (2 ^ k))
-  right i j (aDelete m x) = inRoom i x m && (has (R .waiting m) j && eqb (R .acked m) (R .named m))
+  right i j (aMulticast m x) = inRoom R i x m && has (R .waiting m) j
+  right i j (anAckList m x y) = inRoom R j x m && (ltb 0 y && ltb y (2 ^ k))
+  right i j (aDelete m x) = inRoom R i x m && (has (R .waiting m) j && eqb (R .acked m) (R .named m))
   right i j (aDeregister c) = ltb c k && isLeaving (C .place c) j i
-  right i j (aRegister c) = ltb c k && isTravelling (C .place c) i j
+  right i j (aRegister c) = ltb c k && (isTravelling (C .place c) i j && sameNumbers (carried c) (C .next c))
   right i j (unknown x) = false
 
   -- only lines between stations of the floor have records
@@ -100,23 +106,23 @@ module _ (n k : ℕ) (C : Carts) (R : Rooms) where
   along s i j [] = s
   along s i j (r ∷ l) = along (meet s i j r) i j l
 
-  -- ALL LINES in the pool
-  module _ (S : Stations) (words : List ℕ) where
-    -- the line from i to j: its multicasts run from the number that j expects up to what i has sent
-    unfoldable pub onLine : Met → ℕ → ℕ → Met
-    onLine s i j =
-        let e = along (metSo (s .ok) (S .expected j i) 0 (s .found) (s .seen)) i j (saidOn words i j) in
-        provided (not (ltb j n) || eqb (e .next) (S .sent i)) e
+-- ALL LINES in the pool, whose words have the rows of the registers too
+module _ (n k : ℕ) (C : Carts) (R : Rooms) (S : Stations) (words : List ℕ) where
+  -- the line from i to j: its multicasts run from the number that j expects up to what i has sent
+  unfoldable pub onLine : Met → ℕ → ℕ → Met
+  onLine s i j =
+      let e = along n k C R (registersIn words) (metSo (s .ok) (S .expected j i) 0 (s .found) (s .seen)) i j (saidOn words i j) in
+      provided (not (ltb j n) || eqb (e .next) (S .sent i)) e
 
-    -- the lines from i to the first stations
-    unfoldable pub fromStation : Met → ℕ → ℕ → Met
-    fromStation s i zero = s
-    fromStation s i (suc j) = onLine (fromStation s i j) i j
+  -- the lines from i to the first stations
+  unfoldable pub fromStation : Met → ℕ → ℕ → Met
+  fromStation s i zero = s
+  fromStation s i (suc j) = onLine (fromStation s i j) i j
 
-    -- the lines from the first stations
-    unfoldable pub fromEach : Met → ℕ → Met
-    fromEach s zero = s
-    fromEach s (suc i) = fromStation (fromEach s i) i 16
+  -- the lines from the first stations
+  unfoldable pub fromEach : Met → ℕ → Met
+  fromEach s zero = s
+  fromEach s (suc i) = fromStation (fromEach s i) i 16
 
 -- BEFORE THE LINES: an acknowledgement at the initiator, and in the ack lists of the stations, of room m
 unfoldable pub gathered : Stations → Rooms → ℕ → ℕ → ℕ

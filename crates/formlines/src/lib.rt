@@ -18,12 +18,15 @@ ghost use Rattle.protocol.specs.Floor.{Product};
 ghost use Rattle.view.specs.View.{lent};
 ghost use Rattle.carts.specs.Records.{seen};
 ghost use Rattle.carts.specs.View.{cartsIn};
+ghost use Rattle.carts.specs.Words.{HasRow};
 ghost use Rattle.messages.specs.View.{roomsIn};
 ghost use Rattle.view.specs.Records.{isIn};
 ghost use Rattle.lines.specs.Form.{form, sized};
+ghost use Rattle.lines.specs.Words.{rowsAt};
+ghost use Rattle.lines.specs.Lines.{registersIn};
 ghost use Rattle.lines.specs.Parts.{Walked};
 ghost use Rattle.formlines.specs.Said.{aMulticast, anAckList, aDelete, aDeregister, said, saidOn};
-ghost use Rattle.formlines.specs.Pass.{isLeaving, isTravelling, right, provided, fresh, meet, along, onLine, fromStation, fromEach, gathered, apart, isTaken, passed, ended, movers, passes, linesPass};
+ghost use Rattle.formlines.specs.Pass.{isLeaving, isTravelling, sameNumbers, right, provided, fresh, meet, along, onLine, fromStation, fromEach, gathered, apart, isTaken, passed, ended, movers, passes, linesPass};
 ghost use Rattle.formlines.specs.Ways.{metOf, outcome, Inside, WholeRooms, Whole, Checked};
 
 // Both are yes.
@@ -127,21 +130,49 @@ fn deregister_right(carts: &[u64], k: u64, i: u64, j: u64, cart: u64) -> bool
     is_leaving(carts::place_of(carts, CartNumber(cart)), j, i)
 }
 
-// A register from i to j is of one of the k carts, which travels from i to j.
-fn register_right(carts: &[u64], k: u64, i: u64, j: u64, cart: u64) -> bool
-    requires { ⌜ (k * 19 ≤ length (now carts)) × (k ≤ 64) ⌝ }
-    ensures { λ r. ⌜ r ≡ (ltb cart k && isTravelling (cartsIn (now (carts .entry)) .place cart) i j) ⌝ }
+// Does the cart's register carry "the cart's whole row of next numbers"?
+fn carries_row(carts: &[u64], lines: &[u64], cart: CartNumber) -> bool
+    requires { ⌜ HasRow (now carts) (cart .0) × (rowsAt ≤ length (now lines)) × (cart .0 < 64) ⌝ }
+    ensures { λ r. ⌜ r ≡ sameNumbers (registersIn (now (lines .entry)) (cart .0)) (cartsIn (now (carts .entry)) .next (cart .0)) ⌝ }
+{
+    let row = lines::register_of(lines, cart.0 as usize);
+    let mut ok = true;
+    let mut s: usize = 0;
+    while s < 16 {
+        let next = carts::next_of(carts, cart, Station(s as u64));
+        ok = both(ok, row[s] == next);
+        s += 1;
+    }
+    ok
+}
+
+// A register from i to j is of one of the k carts, which travels from i to j, and carries that cart's row.
+fn register_right(carts: &[u64], lines: &[u64], k: u64, i: u64, j: u64, cart: u64) -> bool
+    requires { ⌜ (k * 19 ≤ length (now carts)) × (rowsAt ≤ length (now lines)) × (k ≤ 64) ⌝ }
+    ensures { λ r. ⌜ r ≡ (ltb cart k && (isTravelling (cartsIn (now (carts .entry)) .place cart) i j && sameNumbers (registersIn (now (lines .entry)) cart) (cartsIn (now (carts .entry)) .next cart))) ⌝ }
 {
     if k <= cart {
         return false;
     }
-    is_travelling(carts::place_of(carts, CartNumber(cart)), i, j)
+    let number = CartNumber(cart);
+    if !is_travelling(carts::place_of(carts, number), i, j) {
+        return false;
+    }
+    carries_row(carts, lines, number)
 }
 
 // A record on the line from i to j, on a floor of k carts.
-fn is_right(messages: &[u64], carts: &[u64], k: u64, i: u64, j: u64, r: Record) -> bool
-    requires { ⌜ WholeRooms (now messages) × (k * 19 ≤ length (now carts)) × (k ≤ 64) × (j < 16) ⌝ }
-    ensures { λ x. ⌜ ((n : ℕ) → x ≡ right n k (cartsIn (now (carts .entry))) (roomsIn (now (messages .entry))) i j (said r)) ⌝ }
+fn is_right(
+    messages: &[u64],
+    carts: &[u64],
+    lines: &[u64],
+    k: u64,
+    i: u64,
+    j: u64,
+    r: Record,
+) -> bool
+    requires { ⌜ WholeRooms (now messages) × (k * 19 ≤ length (now carts)) × (rowsAt ≤ length (now lines)) × (k ≤ 64) × (j < 16) ⌝ }
+    ensures { λ x. ⌜ ((n : ℕ) → x ≡ right n k (cartsIn (now (carts .entry))) (roomsIn (now (messages .entry))) (registersIn (now (lines .entry))) i j (said r)) ⌝ }
 {
     let kind = view::kind_of(r);
     let index = view::index_of(r);
@@ -151,7 +182,7 @@ fn is_right(messages: &[u64], carts: &[u64], k: u64, i: u64, j: u64, r: Record) 
         2 => ack_list_right(messages, k, j, index, number, r.1),
         3 => delete_right(messages, i, j, index, number),
         4 => deregister_right(carts, k, i, j, index),
-        5 => register_right(carts, k, i, j, index),
+        5 => register_right(carts, lines, k, i, j, index),
         _ => false,
     }
 }
@@ -277,6 +308,7 @@ fn meet(
     masks: &mut [u64],
     messages: &[u64],
     carts: &[u64],
+    lines: &[u64],
     n: u64,
     k: u64,
     i: u64,
@@ -284,11 +316,11 @@ fn meet(
     way: Way,
     r: Record,
 ) -> Way
-    requires { ⌜ (length (now masks) ≡ 32) × WholeRooms (now messages) × (k * 19 ≤ length (now carts)) × (k ≤ 64) × (j < 16) ⌝ }
-    ensures { λ x. ⌜ metOf x (now (masks .exit)) ≡ meet n k (cartsIn (now (carts .entry))) (roomsIn (now (messages .entry))) (metOf way (now (masks .entry))) i j (said r) ⌝ }
+    requires { ⌜ (length (now masks) ≡ 32) × WholeRooms (now messages) × (k * 19 ≤ length (now carts)) × (rowsAt ≤ length (now lines)) × (k ≤ 64) × (j < 16) ⌝ }
+    ensures { λ x. ⌜ metOf x (now (masks .exit)) ≡ meet n k (cartsIn (now (carts .entry))) (roomsIn (now (messages .entry))) (registersIn (now (lines .entry))) (metOf way (now (masks .entry))) i j (said r) ⌝ }
     ensures { λ _. ⌜ length (now (masks .exit)) ≡ length (now (masks .entry)) ⌝ }
 {
-    let right = is_right(messages, carts, k, i, j, r);
+    let right = is_right(messages, carts, lines, k, i, j, r);
     let open = both(way.ok, both(i < n, j < n));
     take(masks, way, both(open, right), r)
 }
@@ -314,7 +346,7 @@ fn along(
 ) -> Walk
     requires { ⌜ (length (now masks) ≡ 32) × (length (now seen) ≡ 49) × WholeRooms (now messages) × (k * 19 ≤ length (now carts)) × (sized (now lines) ≡ true) × (k ≤ 64) × (i < 16) × (j < 16) ⌝ }
     ensures { λ x. ⌜ Walked (now (lines .entry)) (i * 16 + j) (now (seen .entry)) (now (seen .exit)) (x .whole) ⌝ }
-    ensures { λ x. ⌜ (x .whole ≡ true → metOf (x .met) (now (masks .exit)) ≡ along n k (cartsIn (now (carts .entry))) (roomsIn (now (messages .entry))) (metOf way (now (masks .entry))) i j (saidOn (now (lines .entry)) i j)) × ((length (now (masks .exit)) ≡ length (now (masks .entry))) × (length (now (seen .exit)) ≡ length (now (seen .entry)))) ⌝ }
+    ensures { λ x. ⌜ (x .whole ≡ true → metOf (x .met) (now (masks .exit)) ≡ along n k (cartsIn (now (carts .entry))) (roomsIn (now (messages .entry))) (registersIn (now (lines .entry))) (metOf way (now (masks .entry))) i j (saidOn (now (lines .entry)) i j)) × ((length (now (masks .exit)) ≡ length (now (masks .entry))) × (length (now (seen .exit)) ≡ length (now (seen .entry)))) ⌝ }
 {
     let line = (i * 16 + j) as usize;
     let rows = lines::row_count(lines);
@@ -331,7 +363,7 @@ fn along(
         }
         lines::mark(seen, row);
         let r = lines::record_of(lines, row);
-        met = meet(masks, messages, carts, n, k, i, j, met, r);
+        met = meet(masks, messages, carts, lines, n, k, i, j, met, r);
         last = row;
         row = lines::next_of(lines, row);
         left -= 1;

@@ -7,7 +7,7 @@ use native.Mathlib.Omega.{arith}
 use lib.ListN.{length}
 use Rattle.carts.specs.View.{cartsIn}
 use Rattle.messages.specs.View.{roomsIn}
-use Rattle.lines.specs.Lines.{recordsFrom}
+use Rattle.lines.specs.Lines.{recordsFrom, registersIn}
 use Rattle.lines.proofs.Sums.{false-true}
 use Rattle.lines.proofs.Formed.{sized-of}
 use Rattle.lines.proofs.Test as chains
@@ -22,7 +22,7 @@ abbrev Inv-loop : tie.InvT-loop
 Inv-loop masks₀ seen₀ messages carts lines n k i j line rows left₀ row₀ last₀ met₀ masks seen left row last met =
     (length masks ≡ 32)
     × chains.Walk lines (i * 16 + j) seen₀ rows seen left row last
-    × (along n k (cartsIn carts) (roomsIn messages) (metOf met masks) i j (map said (recordsFrom lines row left)) ≡ along n k (cartsIn carts) (roomsIn messages) (metOf met₀ masks₀) i j (saidOn lines i j))
+    × (along n k (cartsIn carts) (roomsIn messages) (registersIn lines) (metOf met masks) i j (map said (recordsFrom lines row left)) ≡ along n k (cartsIn carts) (roomsIn messages) (registersIn lines) (metOf met₀ masks₀) i j (saidOn lines i j))
 
 abbrev μ-loop : tie.MeasureT-loop
 μ-loop masks₀ seen₀ messages carts lines n k i j line rows left₀ row₀ last₀ met₀ masks seen left row last met = left
@@ -67,7 +67,7 @@ loop-holds c =
     let t = c .tail-of in (
       s .pre .0,
       chains.walk-start w (s .args .i * 16 + s .args .j) (s .args .seen .now) (rows .result) (m .result) (h .result) (t .result) (rows .ensures) (s .pre .1) (m .ensures) (h .ensures) (t .ensures),
-      steps.walk-start (s .args .n) (s .args .k) (cartsIn (s .args .carts .now)) (roomsIn (s .args .messages .now)) (s .args .i) (s .args .j) w (m .result) (h .result) (metOf (s .args .way) (s .args .masks .now)) (m .ensures) (h .ensures),
+      steps.walk-start (s .args .n) (s .args .k) (cartsIn (s .args .carts .now)) (roomsIn (s .args .messages .now)) (registersIn w) (s .args .i) (s .args .j) w (m .result) (h .result) (metOf (s .args .way) (s .args .masks .now)) (m .ensures) (h .ensures),
     )
 
 same-length : tie.Need-same-length Inv-loop μ-loop
@@ -135,7 +135,7 @@ meet-requires c κs =
     let s = c .before .before .before .before .before .before .before .before .before .before .before .before .before .before .before .before .before .before .before .before .before in
     let w : List ℕ = s .args .lines .now in
     let a = c .before .before .before .before .before .before .before .before .before .before .before .loop in
-    (a .inv .0, s .pre .2, s .pre .3, s .pre .5, s .pre .7)
+    (a .inv .0, s .pre .2, s .pre .3, omega (arith, sized-of w (s .pre .4) .0), s .pre .5, s .pre .7)
 
 next-of-requires : tie.Need-next-of-requires Inv-loop μ-loop
 next-of-requires c κs =
@@ -162,7 +162,7 @@ loop-again c =
     let x = c .next-of in (
       e .ensures .1 ∙ a .inv .0,
       chains.walk-on w (s .args .i * 16 + s .args .j) (s .args .seen .now) (c .before .before .before .before .before .before .before .before .before .before .before .before .before .before .before .before .before .before .before .row-count .result) (a .seen) (a .left) (a .row) (a .last) (a .inv .1) (c .before .before .before .before .before .before .before .before .before .before .before .before .before .before .loop-test .taken) (o .last .0) (m .result) (x .result) (m .ensures) (c .before .before .before .before .before .before .before .before .before .before .if2 .left) (c .before .before .before .before .before .before .before .before .before .before .before .before .before .if1 .left) (o .ensures) (o .kept .0) (x .ensures),
-      steps.walk-step (s .args .n) (s .args .k) (cartsIn (s .args .carts .now)) (roomsIn (s .args .messages .now)) (s .args .i) (s .args .j) w (a .row) (a .left) (metOf (a .met) (a .masks)) (metOf (e .result) (e .last .0)) (r .result) (x .result) (c .before .before .before .before .before .before .before .before .before .before .before .before .before .before .loop-test .taken) (r .ensures) (x .ensures) (e .ensures .0) ∙ a .inv .2,
+      steps.walk-step (s .args .n) (s .args .k) (cartsIn (s .args .carts .now)) (roomsIn (s .args .messages .now)) (registersIn w) (s .args .i) (s .args .j) w (a .row) (a .left) (metOf (a .met) (a .masks)) (metOf (e .result) (e .last .0)) (r .result) (x .result) (c .before .before .before .before .before .before .before .before .before .before .before .before .before .before .loop-test .taken) (r .ensures) (x .ensures) (e .ensures .0) ∙ a .inv .2,
     )
 
 tail-of-requires-2 : tie.Need-tail-of-requires-2 Inv-loop μ-loop
@@ -191,7 +191,7 @@ returns-3 c =
     let t = c .tail-of2 in (
       chains.walk-end w (s .args .i * 16 + s .args .j) (s .args .seen .now) (c .before .before .before .before .before .before .row-count .result) (a .seen) (a .left) (a .row) (a .last) (a .inv .1) (t .result) (t .ensures) (omega arith),
       (
-        (λ q. steps.walk-end (s .args .n) (s .args .k) (cartsIn (s .args .carts .now)) (roomsIn (s .args .messages .now)) (s .args .i) (s .args .j) w (a .row) (a .left) (metOf (a .met) (a .masks)) (along (s .args .n) (s .args .k) (cartsIn (s .args .carts .now)) (roomsIn (s .args .messages .now)) (metOf (s .args .way) (s .args .masks .now)) (s .args .i) (s .args .j) (saidOn w (s .args .i) (s .args .j))) (omega arith) (a .inv .2)),
+        (λ q. steps.walk-end (s .args .n) (s .args .k) (cartsIn (s .args .carts .now)) (roomsIn (s .args .messages .now)) (registersIn w) (s .args .i) (s .args .j) w (a .row) (a .left) (metOf (a .met) (a .masks)) (along (s .args .n) (s .args .k) (cartsIn (s .args .carts .now)) (roomsIn (s .args .messages .now)) (registersIn w) (metOf (s .args .way) (s .args .masks .now)) (s .args .i) (s .args .j) (saidOn w (s .args .i) (s .args .j))) (omega arith) (a .inv .2)),
         (a .inv .0 ∙ sym (s .pre .0), a .inv .1 .marks ∙ sym (s .pre .1)),
       ),
     )

@@ -4,6 +4,7 @@ use mathlib.Core.Path.{sym, ap, _∙_}
 use denote.Ref.{now}
 use Rattle.carts.specs.View.{cartsIn}
 use Rattle.messages.specs.View.{roomsIn}
+use Rattle.lines.specs.Lines.{registersIn}
 use Rattle.formlines.specs.Said.{Said}
 use Rattle.formlines.specs.Pass.{right}
 use Rattle.formlines.proofs.StepLaws.{says-multicast, says-ack-list, says-delete, says-deregister, says-register, says-nothing}
@@ -36,27 +37,27 @@ register-right-requires c κs = search needs
 
 returns : tie.Need-returns
 unfolding right
-returns c = λ n. c .multicast-right .ensures ∙ sym (ap (λ (q : Said). right n (c .before .before .before .before .before .before .before .args .k) (cartsIn (now (c .before .before .before .before .before .before .before .args .carts))) (roomsIn (now (c .before .before .before .before .before .before .before .args .messages))) (c .before .before .before .before .before .before .before .args .i) (c .before .before .before .before .before .before .before .args .j) q) (says-multicast (c .before .before .before .before .before .before .before .args .r) (c .before .before .before .before .kind-of .result) (c .before .before .before .index-of .result) (c .before .before .number-of .result) (c .before .before .before .before .kind-of .ensures) (c .before .before .before .index-of .ensures) (c .before .before .number-of .ensures) (c .before .match .keys1)))
+returns c = λ n. c .multicast-right .ensures ∙ sym (ap (λ (q : Said). right n (c .before .before .before .before .before .before .before .before .args .k) (cartsIn (now (c .before .before .before .before .before .before .before .before .args .carts))) (roomsIn (now (c .before .before .before .before .before .before .before .before .args .messages))) (registersIn (now (c .before .before .before .before .before .before .before .before .args .lines))) (c .before .before .before .before .before .before .before .before .args .i) (c .before .before .before .before .before .before .before .before .args .j) q) (says-multicast (c .before .before .before .before .before .before .before .before .args .r) (c .before .before .before .before .kind-of .result) (c .before .before .before .index-of .result) (c .before .before .number-of .result) (c .before .before .before .before .kind-of .ensures) (c .before .before .before .index-of .ensures) (c .before .before .number-of .ensures) (c .before .match .keys1)))
 
 returns-2 : tie.Need-returns-2
 unfolding right
-returns-2 c = λ n. c .ack-list-right .ensures ∙ sym (ap (λ (q : Said). right n (c .before .before .before .before .before .before .before .args .k) (cartsIn (now (c .before .before .before .before .before .before .before .args .carts))) (roomsIn (now (c .before .before .before .before .before .before .before .args .messages))) (c .before .before .before .before .before .before .before .args .i) (c .before .before .before .before .before .before .before .args .j) q) (says-ack-list (c .before .before .before .before .before .before .before .args .r) (c .before .before .before .before .kind-of .result) (c .before .before .before .index-of .result) (c .before .before .number-of .result) (c .before .before .before .before .kind-of .ensures) (c .before .before .before .index-of .ensures) (c .before .before .number-of .ensures) (c .before .match .keys2)))
+returns-2 c = λ n. c .ack-list-right .ensures ∙ sym (ap (λ (q : Said). right n (c .before .before .before .before .before .before .before .before .args .k) (cartsIn (now (c .before .before .before .before .before .before .before .before .args .carts))) (roomsIn (now (c .before .before .before .before .before .before .before .before .args .messages))) (registersIn (now (c .before .before .before .before .before .before .before .before .args .lines))) (c .before .before .before .before .before .before .before .before .args .i) (c .before .before .before .before .before .before .before .before .args .j) q) (says-ack-list (c .before .before .before .before .before .before .before .before .args .r) (c .before .before .before .before .kind-of .result) (c .before .before .before .index-of .result) (c .before .before .number-of .result) (c .before .before .before .before .kind-of .ensures) (c .before .before .before .index-of .ensures) (c .before .before .number-of .ensures) (c .before .match .keys2)))
 
 returns-3 : tie.Need-returns-3
 unfolding right
-returns-3 c = λ n. c .delete-right .ensures ∙ sym (ap (λ (q : Said). right n (c .before .before .before .before .before .before .before .args .k) (cartsIn (now (c .before .before .before .before .before .before .before .args .carts))) (roomsIn (now (c .before .before .before .before .before .before .before .args .messages))) (c .before .before .before .before .before .before .before .args .i) (c .before .before .before .before .before .before .before .args .j) q) (says-delete (c .before .before .before .before .before .before .before .args .r) (c .before .before .before .before .kind-of .result) (c .before .before .before .index-of .result) (c .before .before .number-of .result) (c .before .before .before .before .kind-of .ensures) (c .before .before .before .index-of .ensures) (c .before .before .number-of .ensures) (c .before .match .keys3)))
+returns-3 c = λ n. c .delete-right .ensures ∙ sym (ap (λ (q : Said). right n (c .before .before .before .before .before .before .before .before .args .k) (cartsIn (now (c .before .before .before .before .before .before .before .before .args .carts))) (roomsIn (now (c .before .before .before .before .before .before .before .before .args .messages))) (registersIn (now (c .before .before .before .before .before .before .before .before .args .lines))) (c .before .before .before .before .before .before .before .before .args .i) (c .before .before .before .before .before .before .before .before .args .j) q) (says-delete (c .before .before .before .before .before .before .before .before .args .r) (c .before .before .before .before .kind-of .result) (c .before .before .before .index-of .result) (c .before .before .number-of .result) (c .before .before .before .before .kind-of .ensures) (c .before .before .before .index-of .ensures) (c .before .before .number-of .ensures) (c .before .match .keys3)))
 
 returns-4 : tie.Need-returns-4
 unfolding right
-returns-4 c = λ n. c .deregister-right .ensures ∙ sym (ap (λ (q : Said). right n (c .before .before .before .before .before .before .before .args .k) (cartsIn (now (c .before .before .before .before .before .before .before .args .carts))) (roomsIn (now (c .before .before .before .before .before .before .before .args .messages))) (c .before .before .before .before .before .before .before .args .i) (c .before .before .before .before .before .before .before .args .j) q) (says-deregister (c .before .before .before .before .before .before .before .args .r) (c .before .before .before .before .kind-of .result) (c .before .before .before .index-of .result) (c .before .before .number-of .result) (c .before .before .before .before .kind-of .ensures) (c .before .before .before .index-of .ensures) (c .before .before .number-of .ensures) (c .before .match .keys4)))
+returns-4 c = λ n. c .deregister-right .ensures ∙ sym (ap (λ (q : Said). right n (c .before .before .before .before .before .before .before .before .args .k) (cartsIn (now (c .before .before .before .before .before .before .before .before .args .carts))) (roomsIn (now (c .before .before .before .before .before .before .before .before .args .messages))) (registersIn (now (c .before .before .before .before .before .before .before .before .args .lines))) (c .before .before .before .before .before .before .before .before .args .i) (c .before .before .before .before .before .before .before .before .args .j) q) (says-deregister (c .before .before .before .before .before .before .before .before .args .r) (c .before .before .before .before .kind-of .result) (c .before .before .before .index-of .result) (c .before .before .number-of .result) (c .before .before .before .before .kind-of .ensures) (c .before .before .before .index-of .ensures) (c .before .before .number-of .ensures) (c .before .match .keys4)))
 
 returns-5 : tie.Need-returns-5
 unfolding right
-returns-5 c = λ n. c .register-right .ensures ∙ sym (ap (λ (q : Said). right n (c .before .before .before .before .before .before .before .args .k) (cartsIn (now (c .before .before .before .before .before .before .before .args .carts))) (roomsIn (now (c .before .before .before .before .before .before .before .args .messages))) (c .before .before .before .before .before .before .before .args .i) (c .before .before .before .before .before .before .before .args .j) q) (says-register (c .before .before .before .before .before .before .before .args .r) (c .before .before .before .before .kind-of .result) (c .before .before .before .index-of .result) (c .before .before .number-of .result) (c .before .before .before .before .kind-of .ensures) (c .before .before .before .index-of .ensures) (c .before .before .number-of .ensures) (c .before .match .keys5)))
+returns-5 c = λ n. c .register-right .ensures ∙ sym (ap (λ (q : Said). right n (c .before .before .before .before .before .before .before .before .args .k) (cartsIn (now (c .before .before .before .before .before .before .before .before .args .carts))) (roomsIn (now (c .before .before .before .before .before .before .before .before .args .messages))) (registersIn (now (c .before .before .before .before .before .before .before .before .args .lines))) (c .before .before .before .before .before .before .before .before .args .i) (c .before .before .before .before .before .before .before .before .args .j) q) (says-register (c .before .before .before .before .before .before .before .before .args .r) (c .before .before .before .before .kind-of .result) (c .before .before .before .index-of .result) (c .before .before .number-of .result) (c .before .before .before .before .kind-of .ensures) (c .before .before .before .index-of .ensures) (c .before .before .number-of .ensures) (c .before .match .keys5)))
 
 returns-6 : tie.Need-returns-6
 unfolding right
-returns-6 c = λ n. sym (ap (λ (q : Said). right n (c .before .before .before .before .before .before .args .k) (cartsIn (now (c .before .before .before .before .before .before .args .carts))) (roomsIn (now (c .before .before .before .before .before .before .args .messages))) (c .before .before .before .before .before .before .args .i) (c .before .before .before .before .before .before .args .j) q) (says-nothing (c .before .before .before .before .before .before .args .r) (c .before .before .before .kind-of .result) (c .before .before .index-of .result) (c .before .number-of .result) (c .before .before .before .kind-of .ensures) (c .before .before .index-of .ensures) (c .before .number-of .ensures) (c .match .rest .0 .0 .0 .0 .1) (c .match .rest .0 .0 .0 .1) (c .match .rest .0 .0 .1) (c .match .rest .0 .1) (c .match .rest .1)))
+returns-6 c = λ n. sym (ap (λ (q : Said). right n (c .before .before .before .before .before .before .before .args .k) (cartsIn (now (c .before .before .before .before .before .before .before .args .carts))) (roomsIn (now (c .before .before .before .before .before .before .before .args .messages))) (registersIn (now (c .before .before .before .before .before .before .before .args .lines))) (c .before .before .before .before .before .before .before .args .i) (c .before .before .before .before .before .before .before .args .j) q) (says-nothing (c .before .before .before .before .before .before .before .args .r) (c .before .before .before .kind-of .result) (c .before .before .index-of .result) (c .before .number-of .result) (c .before .before .before .kind-of .ensures) (c .before .before .index-of .ensures) (c .before .number-of .ensures) (c .match .rest .0 .0 .0 .0 .1) (c .match .rest .0 .0 .0 .1) (c .match .rest .0 .0 .1) (c .match .rest .0 .1) (c .match .rest .1)))
 
 pub is-right-spec : {M : Type 1} → statement M
 is-right-spec =

@@ -5,6 +5,7 @@ use denote.Ref.{now}
 use Rattle.protocol.proofs.Tests.{and-right}
 use Rattle.carts.specs.View.{cartsIn}
 use Rattle.messages.specs.View.{roomsIn}
+use Rattle.lines.specs.Lines.{registersIn}
 use Rattle.formlines.specs.Said.{said}
 use Rattle.formlines.specs.Ways.{metOf}
 use Rattle.formlines.proofs.StepLaws.{right-inside, meets}
@@ -24,13 +25,30 @@ both-requires-3 : tie.Need-both-requires-3
 both-requires-3 c κs = search needs
 
 take-requires : tie.Need-take-requires
-take-requires c κs = (c .before .before .before .before .before .before .before .before .pre .0, λ t. right-inside (c .before .before .before .before .before .before .before .before .args .n) (c .before .before .before .before .before .before .before .before .args .k) (cartsIn (now (c .before .before .before .before .before .before .before .before .args .carts))) (roomsIn (now (c .before .before .before .before .before .before .before .before .args .messages))) (c .before .before .before .before .before .before .before .before .args .i) (c .before .before .before .before .before .before .before .before .args .j) (said (c .before .before .before .before .before .before .before .before .args .r)) (c .before .before .before .before .before .before .before .before .pre .3) (sym (c .before .before .before .before .is-right .ensures (c .before .before .before .before .before .before .before .before .args .n)) ∙ and-right (c .before .before .both2 .result) (c .before .before .before .before .is-right .result) (sym (c .both3 .ensures) ∙ t)))
+take-requires c κs =
+    let s = c .before .before .before .before .before .before .before .before .before in
+    let a = s .args in
+    let r = c .before .before .before .before .is-right in (
+      s .pre .0,
+      λ t. right-inside (a .n) (a .k) (cartsIn (now (a .carts))) (roomsIn (now (a .messages))) (registersIn (now (a .lines))) (a .i) (a .j) (said (a .r)) (s .pre .4)
+          (sym (r .ensures (a .n)) ∙ and-right (c .before .before .both2 .result) (r .result) (sym (c .both3 .ensures) ∙ t)),
+    )
 
 same-length : tie.Need-same-length
 same-length c = search needs
 
 returns : tie.Need-returns
-returns c = (meets (c .before .before .before .before .before .before .before .before .before .before .before .args .n) (c .before .before .before .before .before .before .before .before .before .before .before .args .k) (cartsIn (now (c .before .before .before .before .before .before .before .before .before .before .before .args .carts))) (roomsIn (now (c .before .before .before .before .before .before .before .before .before .before .before .args .messages))) (c .before .before .before .before .before .before .before .before .before .before .before .args .i) (c .before .before .before .before .before .before .before .before .before .before .before .args .j) (metOf (c .before .before .before .before .before .before .before .before .before .before .before .args .way) (now (c .before .before .before .before .before .before .before .before .before .before .before .args .masks))) (metOf (c .before .before .take .result) (c .before .before .take .last .0)) (said (c .before .before .before .before .before .before .before .before .before .before .before .args .r)) (c .before .before .before .before .before .before .both .result) (c .before .before .before .before .before .both2 .result) (c .before .before .before .before .before .before .before .is-right .result) (c .before .before .before .both3 .result) (c .before .before .before .before .before .before .both .ensures) (c .before .before .before .before .before .both2 .ensures) (c .before .before .before .before .before .before .before .is-right .ensures (c .before .before .before .before .before .before .before .before .before .before .before .args .n)) (c .before .before .before .both3 .ensures) (c .before .before .take .ensures .0), c .before .before .take .ensures .1)
+returns c =
+    let a = c .before .before .before .before .before .before .before .before .before .before .before .before .args in
+    let r = c .before .before .before .before .before .before .before .is-right in
+    let f = c .before .before .before .before .before .before .both in
+    let o = c .before .before .before .before .before .both2 in
+    let b = c .before .before .before .both3 in
+    let t = c .before .before .take in (
+      meets (a .n) (a .k) (cartsIn (now (a .carts))) (roomsIn (now (a .messages))) (registersIn (now (a .lines))) (a .i) (a .j) (metOf (a .way) (now (a .masks))) (metOf (t .result) (t .last .0)) (said (a .r))
+          (f .result) (o .result) (r .result) (b .result) (f .ensures) (o .ensures) (r .ensures (a .n)) (b .ensures) (t .ensures .0),
+      t .ensures .1,
+    )
 
 pub meet-spec : {M : Type 1} → statement M
 meet-spec =
