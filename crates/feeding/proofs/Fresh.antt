@@ -12,7 +12,7 @@ use Rattle.view.specs.View.{lent, floorIn}
 use Rattle.view.proofs.Lengths.{lengths-right}
 use Rattle.running.specs.Ready.{Ready}
 
-pub fresh-ready : (S C M W T : List ℕ) → (length S ≡ 1972) × (headIn S .mark ≡ 0) → length C ≡ 1216 → length M ≡ 192 → length W ≡ 10226 → length T ≡ 1024 → Ready (lent wholeFloor S C M W T)
+pub fresh-ready : (S C M W T : List ℕ) → (length S ≡ 1972) × (headIn S .mark ≡ 0) → length C ≡ 1216 → length M ≡ 192 → length W ≡ 11250 → length T ≡ 1024 → Ready (lent wholeFloor S C M W T)
 fresh-ready S C M W T s c m w t =
     record {
       whole = refl;

@@ -53,10 +53,10 @@ fn no_messages() -> [u64; 192]
     [0; 192]
 }
 
-fn no_lines() -> [u64; 10226]
-    ensures { λ r. ⌜ length r ≡ 10226 ⌝ }
+fn no_lines() -> [u64; 11250]
+    ensures { λ r. ⌜ length r ≡ 11250 ⌝ }
 {
-    [0; 10226]
+    [0; 11250]
 }
 
 fn no_texts() -> [u8; 1024]

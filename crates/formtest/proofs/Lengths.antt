@@ -37,7 +37,7 @@ right-lengths L r e q = lengths-of L (sym e ∙ q)
 
 -- it rests on the texts, where the others have theirs
 pub rests-on-texts : (L : Lent) (o : ℕ) → L .product .held * 32 ≡ o → length (L .stations) ≡ 116 + L .product .stations * 116 → length (L .carts) ≡ L .product .carts * 19
-    → length (L .messages) ≡ L .product .held * 6 → length (L .lines) ≡ 818 + mostRecords (limitsOf (L .product)) * 3
+    → length (L .messages) ≡ L .product .held * 6 → length (L .lines) ≡ 1842 + mostRecords (limitsOf (L .product)) * 3
     → eqb (length (L .texts)) o ≡ lengthsIn L
 rests-on-texts L o is s c m l =
     same-test (eqb (length (L .texts)) o) (lengthsIn L)

@@ -36,11 +36,11 @@ unfolding textIn
 text-fits T n m h = omega (arith, length-take n (drop (m * 32) T))
 
 -- a pool of whole rows, no more than there are bits for
-all-rows : (W : List ℕ) (m : ℕ) → length W ≡ 818 + m * 3 → capacity W ≡ m
+all-rows : (W : List ℕ) (m : ℕ) → length W ≡ 1842 + m * 3 → capacity W ≡ m
 unfolding capacity
-all-rows W m e = ap (λ (n : ℕ). (n - 818) / 3) e ∙ (let z : (818 + m * 3 - 818) / 3 ≡ m = omega arith in z)
+all-rows W m e = ap (λ (n : ℕ). (n - 1842) / 3) e ∙ (let z : (1842 + m * 3 - 1842) / 3 ≡ m = omega arith in z)
 
-pub pool-sized : (W : List ℕ) (m : ℕ) → length W ≡ 818 + m * 3 → m ≤ 3136 → sized W ≡ true
+pub pool-sized : (W : List ℕ) (m : ℕ) → length W ≡ 1842 + m * 3 → m ≤ 3136 → sized W ≡ true
 pool-sized W m e few = let q = all-rows W m e in of-sized W (omega arith) (omega arith)
 
 module _ (P : Product) (S C M W T : List ℕ) where

@@ -34,7 +34,7 @@ pub fn lengths_ok(
     // a held message has at most n multicasts, n deletes and k carts in ack lists on the lines, and a cart one record of its hand-off
     let each = n + n + k;
     let records = held * each + k;
-    if lines.len() != 818 + records * 3 {
+    if lines.len() != 1842 + records * 3 {
         return false;
     }
     texts.len() == held * 32

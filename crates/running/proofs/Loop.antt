@@ -137,7 +137,7 @@ module _ (L L′ : Lent) (R : Ready L) (R′ : Ready L′) where
   same-messages = a′ .messages ∙ ap (λ (P : Product). P .held * 6) (sym same) ∙ sym (a .messages)
 
   pub same-lines : length (L′ .lines) ≡ length (L .lines)
-  same-lines = a′ .lines ∙ ap (λ (P : Product). 818 + mostRecords (limitsOf P) * 3) (sym same) ∙ sym (a .lines)
+  same-lines = a′ .lines ∙ ap (λ (P : Product). 1842 + mostRecords (limitsOf P) * 3) (sym same) ∙ sym (a .lines)
 
   pub same-texts : length (L′ .texts) ≡ length (L .texts)
   same-texts = a′ .texts ∙ ap (λ (P : Product). P .held * 32) (sym same) ∙ sym (a .texts)
