@@ -2,11 +2,9 @@
 
 use crate::numbers::Numbers;
 use crate::rule;
-use plain::words::{Words, COPIES, ENTRIES, ROOM_WORDS, ROWS, STATION_ROW};
-
-/// Where the lines and the records begin among the words of the lines.
-const LINES: usize = 50;
-const RECORDS: usize = 818;
+use plain::words::{
+    Words, COPIES, ENTRIES, LINES, RECORDS, REGISTERS, ROOM_WORDS, ROWS, STATION_ROW,
+};
 
 /// Another value: any, a small one, one beside it, the neighbour's, or one bit of it changed.
 fn other(numbers: &mut Numbers, words: &[u64], at: usize) -> u64 {
@@ -28,12 +26,20 @@ fn used_row(numbers: &mut Numbers, lines: &[u64]) -> Option<usize> {
     (!used.is_empty()).then(|| used[numbers.below(used.len() as u64) as usize])
 }
 
+/// A travelling cart, if any is.
+fn travelling_cart(numbers: &mut Numbers, carts: &[u64]) -> Option<usize> {
+    let travelling: Vec<usize> = (0..carts.len() / 19).filter(|c| carts[19 * c] == 3).collect();
+    (!travelling.is_empty()).then(|| travelling[numbers.below(travelling.len() as u64) as usize])
+}
+
 /// A word of the lines, more often than not one that means something.
-fn line_word(numbers: &mut Numbers, lines: &[u64]) -> usize {
-    match (numbers.below(4), used_row(numbers, lines)) {
-        (0, _) => numbers.below(LINES as u64) as usize,
-        (1, _) => LINES + numbers.below((RECORDS - LINES) as u64) as usize,
-        (2, Some(row)) => RECORDS + 3 * row + numbers.below(3) as usize,
+fn line_word(numbers: &mut Numbers, lines: &[u64], carts: &[u64]) -> usize {
+    let (row, cart) = (used_row(numbers, lines), travelling_cart(numbers, carts));
+    match (numbers.below(5), row, cart) {
+        (0, _, _) => numbers.below(LINES as u64) as usize,
+        (1, _, _) => LINES + numbers.below((REGISTERS - LINES) as u64) as usize,
+        (2, Some(row), _) => RECORDS + 3 * row + numbers.below(3) as usize,
+        (3, _, Some(cart)) => REGISTERS + 16 * cart + numbers.below(16) as usize,
         _ => numbers.below(lines.len() as u64) as usize,
     }
 }
@@ -74,7 +80,7 @@ fn word(numbers: &mut Numbers, w: &mut Words) {
         5..=6 => replace(numbers, &mut w.messages),
         7 => recount(numbers, w),
         _ => {
-            let at = line_word(numbers, &w.lines);
+            let at = line_word(numbers, &w.lines, &w.carts);
             w.lines[at] = other(numbers, &w.lines, at);
         }
     }
@@ -136,7 +142,7 @@ fn uncounted(numbers: &mut Numbers, stations: &mut [u64]) {
     }
 }
 
-/// What no step looks at: the words of free rooms, of rooms that do not count, of free rows and behind a text.
+/// What no step looks at: the words of free rooms, of rooms that do not count, of free rows, of registers that are on no line and behind a text.
 fn leftovers(numbers: &mut Numbers, w: &mut Words) {
     let all = u64::MAX >> (64 - w.stations[2]);
     for m in 0..32 {
@@ -158,6 +164,11 @@ fn leftovers(numbers: &mut Numbers, w: &mut Words) {
     for r in 0..ROWS {
         if w.lines[r / 64] >> (r % 64) & 1 == 1 {
             w.lines[RECORDS + 3 * r + numbers.below(3) as usize] = numbers.next();
+        }
+    }
+    for (cart, row) in w.carts.chunks_exact(19).zip(w.lines[REGISTERS..].chunks_exact_mut(16)) {
+        if cart[0] != 3 {
+            row[numbers.below(16) as usize] = numbers.next();
         }
     }
 }

@@ -19,7 +19,7 @@ pub enum Event {
 pub const KINDS: [&str; 6] = ["start", "enter", "send", "wire", "radio", "move"];
 
 /// How many words and octets each part has.
-const LENGTHS: [usize; 5] = [1_972, 1_216, 192, 10_226, 1_024];
+const LENGTHS: [usize; 5] = [1_972, 1_216, 192, 11_250, 1_024];
 
 impl Event {
     pub fn kind(&self) -> usize {

@@ -1,11 +1,7 @@
 //! Damage to the words of a floor: a word or two replaced, which rooms count, a record doubled, a length changed.
 
 use crate::numbers::Numbers;
-use plain::words::{Words, COPIES, ROOM_WORDS, ROWS, STATION_ROW};
-
-/// Where the lines and the records begin among the words of the lines.
-const LINES: usize = 50;
-const RECORDS: usize = 818;
+use plain::words::{Words, COPIES, LINES, RECORDS, REGISTERS, ROOM_WORDS, ROWS, STATION_ROW};
 
 /// Another value for a word: any, a small one, one beside it, one bit of it, or another word's.
 fn other_value(numbers: &mut Numbers, words: &[u64], at: usize) -> u64 {
@@ -48,15 +44,28 @@ fn recount(numbers: &mut Numbers, stations: &mut [u64]) {
     }
 }
 
+/// A word of the row that the register of some travelling cart carries; a word of the free rows where no cart travels.
+fn register_word(numbers: &mut Numbers, carts: &[u64]) -> usize {
+    let travelling: Vec<usize> = (0..carts.len() / 19).filter(|c| carts[19 * c] == 3).collect();
+    match travelling.len() {
+        0 => 0,
+        some => {
+            let cart = travelling[numbers.below(some as u64) as usize];
+            REGISTERS + 16 * cart + numbers.below(16) as usize
+        }
+    }
+}
+
 /// More often than not, a word of the lines that means something.
-fn line_word(numbers: &mut Numbers, lines: &[u64]) -> usize {
-    match numbers.below(4) {
+fn line_word(numbers: &mut Numbers, lines: &[u64], carts: &[u64]) -> usize {
+    match numbers.below(5) {
         0 => numbers.below(LINES as u64) as usize,
-        1 => LINES + numbers.below((RECORDS - LINES) as u64) as usize,
+        1 => LINES + numbers.below((REGISTERS - LINES) as u64) as usize,
         2 => match used_row(numbers, lines) {
             Some(row) => RECORDS + 3 * row + numbers.below(3) as usize,
             None => 0,
         },
+        3 => register_word(numbers, carts),
         _ => numbers.below(lines.len() as u64) as usize,
     }
 }
@@ -78,10 +87,11 @@ fn one(numbers: &mut Numbers, w: &mut Words) {
         }
         10..=13 => recount(numbers, &mut w.stations),
         part => {
+            let in_lines = line_word(numbers, &w.lines, &w.carts);
             let words = [&mut w.stations, &mut w.carts, &mut w.messages, &mut w.lines];
             let words = words.into_iter().nth(part as usize % 4).expect("there are four");
             let at = match part % 4 {
-                3 => line_word(numbers, words),
+                3 => in_lines,
                 _ => numbers.below(words.len() as u64) as usize,
             };
             replace(numbers, words, at);

@@ -42,6 +42,7 @@ pub enum Fault {
     FreeRows,
     Acknowledged,
     LostHandOff,
+    RegisterRow,
 }
 
 use Fault::*;
@@ -73,6 +74,8 @@ struct Floor<'a> {
     free: &'a [u64; 49],
     summary: u64,
     ends: &'a [[u64; 3]; STATIONS * STATIONS],
+    /// The row that the register of each cart carries.
+    registers: &'a [[u64; STATIONS]; CARTS],
     rows: &'a [[u64; 3]; ROWS],
     n: usize,
     k: usize,
@@ -103,10 +106,12 @@ pub fn check(
     lines: &[u64],
     texts: &[u8],
 ) -> Result<(), Fault> {
-    if lines.len() != 50 + 3 * STATIONS * STATIONS + 3 * ROWS || texts.len() != TEXTS {
+    let (all_ends, all_registers) = (3 * STATIONS * STATIONS, STATIONS * CARTS);
+    if lines.len() != 50 + all_ends + all_registers + 3 * ROWS || texts.len() != TEXTS {
         return Err(Lengths);
     }
-    let (ends, rows) = lines[50..].split_at(3 * STATIONS * STATIONS);
+    let (ends, rest) = lines[50..].split_at(all_ends);
+    let (registers, rows) = rest.split_at(all_registers);
     let mut floor = Floor {
         stations: rows_of(stations)?,
         carts: rows_of(carts)?,
@@ -114,6 +119,7 @@ pub fn check(
         free: lines.first_chunk().ok_or(Lengths)?,
         summary: lines[49],
         ends: rows_of(ends)?,
+        registers: rows_of(registers)?,
         rows: rows_of(rows)?,
         n: 0,
         k: 0,
@@ -341,6 +347,8 @@ impl Floor<'_> {
             ensure(index < self.k && self.carts[index & 63][..3] == way, HandOff)?;
             ensure(*found >> index & 1 == 0, HandOff)?;
             *found |= 1 << index;
+            let carried = self.registers[index & 63] == self.carts[index & 63][3..];
+            ensure(kind == 4 || carried, RegisterRow)?;
             return Ok(());
         }
         ensure(kind != 0 && kind < 6 && index < ROOMS, RecordRoom)?;

@@ -41,7 +41,7 @@ pub struct Lines {
 
 impl Lines {
     pub fn new() -> Self {
-        let mut pool = vec![0; 10_226];
+        let mut pool = vec![0; 11_250];
         unsafe { linked::mekhturia_clear(pool.as_mut_ptr(), pool.len()) };
         Lines { pool }
     }
@@ -67,7 +67,7 @@ impl Lines {
     /// The word and the carts at the head of a line.
     pub fn head(&self, i: usize, j: usize) -> Option<(u64, u64)> {
         let line = 50 + 3 * (i * 16 + j);
-        let row = 818 + 3 * self.pool[line] as usize;
+        let row = 1_842 + 3 * self.pool[line] as usize;
         (self.pool[line + 2] > 0).then(|| (self.pool[row + 1], self.pool[row + 2]))
     }
 }

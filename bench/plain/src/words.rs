@@ -17,9 +17,11 @@ pub const ROOM_WORDS: usize = 18;
 pub const COPIES: usize = 114;
 pub const ENTRIES: usize = 115;
 
-/// Where the lines and the rows begin among the words of the pool.
-const LINES: usize = 50;
-const RECORDS: usize = 818;
+/// Where the lines, the registers' rows of next numbers, one for each cart, and the rows begin among
+/// the words of the pool.
+pub const LINES: usize = 50;
+pub const REGISTERS: usize = 818;
+pub const RECORDS: usize = REGISTERS + STATIONS * CARTS;
 
 /// The five parts.
 #[derive(Clone, PartialEq, Eq, Debug)]
@@ -141,6 +143,12 @@ impl Floor {
                 let (word, carts) = self.record_words(record);
                 words[RECORDS + 3 * at + 1] = word;
                 words[RECORDS + 3 * at + 2] = carts;
+                if let Record::Register(cart) = record {
+                    let row = &mut words[REGISTERS + STATIONS * cart.0 as usize..][..STATIONS];
+                    for (word, next) in row.iter_mut().zip(self.cart[cart.0 as usize].next) {
+                        *word = next as u64;
+                    }
+                }
             }
         }
         words[LINES - 1] =
