@@ -130,7 +130,6 @@ fn lines() {
             assert_eq!(proved.head(i, j), plain.head(i, j), "the lines from {i} to {j} differ");
         }
     }
-    assert!(proved.is_formed());
     say("a push", pushes);
     say("a pop", pops);
 }

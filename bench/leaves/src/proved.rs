@@ -3,7 +3,6 @@
 mod linked {
     extern "C" {
         pub fn mekhturia_clear(pool: *mut u64, words: usize);
-        pub fn mekhturia_form(pool: *const u64, words: usize) -> bool;
         pub fn mekhturia_push(
             pool: *mut u64,
             words: usize,
@@ -58,10 +57,6 @@ impl Lines {
     #[inline(always)]
     pub unsafe fn pop(&mut self, i: usize, j: usize) {
         linked::mekhturia_pop(self.pool.as_mut_ptr(), self.pool.len(), i, j)
-    }
-
-    pub fn is_formed(&self) -> bool {
-        unsafe { linked::mekhturia_form(self.pool.as_ptr(), self.pool.len()) }
     }
 
     /// The word and the carts at the head of a line.

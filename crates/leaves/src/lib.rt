@@ -34,14 +34,6 @@ pub extern "C" fn mekhturia_clear(pool: &mut [u64])
     lines::clear(pool);
 }
 
-// Are the words of the pool well-formed?
-#[no_mangle]
-pub extern "C" fn mekhturia_form(pool: &[u64]) -> bool
-    ensures { λ r. ⌜ r ≡ form (now (pool .entry)) ⌝ }
-{
-    lines::form_ok(pool)
-}
-
 // A record joins the line from i to j.
 #[no_mangle]
 pub extern "C" fn mekhturia_push(pool: &mut [u64], i: usize, j: usize, word: u64, carts: u64)

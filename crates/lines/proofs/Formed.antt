@@ -9,7 +9,7 @@ use native.Mathlib.Omega.{arith}
 use lib.Dec.{eqb, ltb, leb}
 use lib.ListN.{length, getD, length-map}
 use lib.Count.{trailingZeros}
-use borrow.Author.Tests.{eqb-true, eq-eqb, ltb-true, lt-ltb, le-ltb, leb-true, le-leb}
+use borrow.Author.Tests.{eqb-true, eq-eqb, ltb-true, lt-ltb, leb-true, le-leb}
 use Rattle.protocol.specs.Folds.{every, sum}
 use Rattle.protocol.specs.CartSets.{digit}
 use Rattle.protocol.specs.Form.{bit}
@@ -227,13 +227,6 @@ module _ (l : List ℕ) (w : Formed l) where
     where
       free-at : (v b : ℕ) → v < 49 → b < 64 → digit (getD l v 0) b ≡ 1 → 1 ≤ sum 3136 (bitAt l)
       free-at v b hv hb e = omega (arith, sum-term 3136 (bitAt l) (v * 64 + b) (omega arith), row-bit l v b hb, e)
-
-  pub room-test : ((v : ℕ) → getD l v 0 < 2 ^ 64) → ltb 0 (summaryOf l) ≡ ltb (used l) (capacity l)
-  room-test fit = pick (decLe 1 (summaryOf l))
-    where
-      pick : Dec (1 ≤ summaryOf l) → ltb 0 (summaryOf l) ≡ ltb (used l) (capacity l)
-      pick (yes h) = lt-ltb 0 (summaryOf l) h ∙ sym (lt-ltb (used l) (capacity l) (omega (arith, all-rows, some-free fit h)))
-      pick (no h) = le-ltb 0 (summaryOf l) (omega arith) ∙ sym (le-ltb (used l) (capacity l) (omega (arith, all-rows, none-free (omega arith))))
 
 -- ---- what the functions ask of a well-formed pool
 module _ (l : List ℕ) (e : form l ≡ true) where

@@ -6,9 +6,9 @@ use Prim.Native.Nat.{ℕ, zero, suc, _+_, _-_, _*_, _/_, _%_, _≤_, _<_}
 use native.Mathlib.Numerals.{add-one}
 use native.Mathlib.Decide.{ℕ-discrete, decLe}
 use native.Mathlib.Omega.{arith}
-use lib.Dec.{eqb, ltb, leb}
+use lib.Dec.{eqb, ltb}
 use lib.ListN.{length, getD, replicate}
-use borrow.Author.Tests.{eqb-true, eqb-false, eq-eqb, le-leb, lt-ltb}
+use borrow.Author.Tests.{eqb-true, eqb-false, eq-eqb, lt-ltb}
 use Rattle.protocol.specs.Folds.{every}
 use Rattle.protocol.specs.CartSets.{digit}
 use Rattle.protocol.specs.Form.{bit}
@@ -23,24 +23,7 @@ use Rattle.lines.proofs.Digits.{same-yes, same-no, digit-none}
 use Rattle.lines.proofs.Sums.{false-true, not-true-false, every-more, sum-suc, sum-longer, count-cons, below-head}
 use Rattle.lines.proofs.Bitmap.{summary-of, row-bit}
 use Rattle.lines.proofs.Chains.{chain-none, chain-head}
-use Rattle.lines.proofs.Formed.{Formed, form-formed, standsTo, count-lines, sized-of, of-sized, line-of, of-line, rows-of, of-rows, one-more, at-most-once}
-
-and-yes : (a b : Bool) → b ≡ true → (a && b) ≡ a
-and-yes true b e = e
-and-yes false b e = refl
-
--- ---- the length
-module _ (l : List ℕ) where
-  pub short-fails : length l < 1842 → false ≡ sized l
-  short-fails h = not-true-false (sized l) (λ t. omega (arith, sized-of l t .0))
-
-  pub large-fails : (rows : ℕ) → rows ≡ capacity l → 3136 < rows → false ≡ sized l
-  large-fails rows e h = not-true-false (sized l) (λ t. omega (arith, sized-of l t .1))
-
-  pub sized-end : (rows : ℕ) → rows ≡ capacity l → rows ≤ 3136 → eqb (length l) (1842 + rows * 3) ≡ sized l
-  unfolding sized
-  sized-end rows e h =
-      ap (λ (n : ℕ). eqb (length l) (1842 + n * 3)) e ∙ sym (and-yes (eqb (length l) (1842 + capacity l * 3)) (leb (capacity l) 3136) (le-leb (capacity l) 3136 (omega arith)))
+use Rattle.lines.proofs.Formed.{Formed, form-formed, standsTo, count-lines, line-of, of-line, rows-of, of-rows, one-more, at-most-once}
 
 -- ---- the summary
 abbrev pub summaryTest : List ℕ → ℕ → Bool
@@ -232,13 +215,7 @@ pub none-seen : (n x : ℕ) → bitAt (replicate n 0) x ≡ 0
 unfolding bitAt
 none-seen n x = ap (λ (y : ℕ). digit y (x % 64)) (zeros n (x / 64)) ∙ digit-none (x % 64)
 
-pub form-unsized : (l : List ℕ) (b : Bool) → b ≡ sized l → b ≡ false → false ≡ form l
-form-unsized l b e q = not-true-false (form l) (λ t. let f = form-formed l t in false-true (sym q ∙ e ∙ of-sized l (f .long) (f .most)))
-
 module _ (l s : List ℕ) (r : Bool) (w : Surveyed l s r) where
-  pub form-unwalked : r ≡ false → false ≡ form l
-  form-unwalked e = not-true-false (form l) (w .bad e)
-
   module _ (e : r ≡ true) (b : Bool) (eb : b ≡ rowsOk (bitAt s) l) where
     pub form-unbalanced : b ≡ false → false ≡ form l
     form-unbalanced q = not-true-false (form l) (λ t. false-true (sym q ∙ eb ∙ of-rows (bitAt s) l (λ x h.

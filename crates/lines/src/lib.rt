@@ -10,19 +10,19 @@
 ghost use mathlib.Core.Path.{_≡_};
 ghost use mathlib.Core.Bool.{true};
 ghost use mathlib.Core.List.{_∷_};
-ghost use Prim.Native.Nat.{ℕ, _+_, _-_, _*_, _<_, _≤_};
+ghost use Prim.Native.Nat.{_+_, _-_, _*_, _<_, _≤_};
 ghost use lib.ListN.{length, drop};
 ghost use lib.Dec.{eqb, ltb};
 ghost use Rattle.protocol.specs.Folds.{every, listOf};
 ghost use Rattle.protocol.specs.CartSets.{digit};
 ghost use Rattle.protocol.specs.Form.{bit};
 ghost use Rattle.lines.specs.Bits.{bitAt, lowestOf};
-ghost use Rattle.lines.specs.Words.{freeWords, mostRows, lineCount, mostCarts, linesAt, rowsAt, lineAt, rowAt, headOf, tailOf, lengthOf, nextOf, capacity, summaryOf};
+ghost use Rattle.lines.specs.Words.{freeWords, mostRows, mostCarts, linesAt, rowsAt, lineAt, rowAt, headOf, tailOf, lengthOf, nextOf, capacity, summaryOf};
 ghost use Rattle.lines.specs.Lines.{recordOf, lineOf, used, registersIn};
 ghost use Rattle.lines.specs.Form.{form, sized, rowsOk, summaryOk};
 ghost use Rattle.lines.specs.Post.{Pushed, Popped, Cleared, Carried};
 ghost use Rattle.lines.specs.Holding.{released, Holds};
-ghost use Rattle.lines.specs.Parts.{With, Without, Summed, Full, Freed, Taken, Given, AllFree, Emptied, Link, Fits, joined, left, Marked, Walked, Surveyed};
+ghost use Rattle.lines.specs.Parts.{With, Without, Summed, Full, Freed, Taken, Given, AllFree, Emptied, Link, Fits, joined, left, Marked, Surveyed};
 
 const SUMMARY: usize = 49;
 
@@ -39,8 +39,6 @@ const REGISTER_WORDS: usize = 16;
 const ROWS: usize = 1842;
 
 const ROW_WORDS: usize = 3;
-
-const MOST_ROWS: usize = 3136;
 
 // A word with every bit.
 const ALL_BITS: u64 = 18446744073709551615;
@@ -226,14 +224,6 @@ pub fn is_empty(pool: &[u64], i: usize, j: usize) -> bool
     ensures { λ r. ⌜ r ≡ eqb (length (lineOf (now (pool .entry)) (i * 16 + j))) 0 ⌝ }
 {
     length_of(pool, i * 16 + j) == 0
-}
-
-// A record can be pushed.
-pub fn has_room(pool: &[u64]) -> bool
-    requires { ⌜ form (now pool) ≡ true ⌝ }
-    ensures { λ r. ⌜ r ≡ ltb (used (now (pool .entry))) (capacity (now (pool .entry))) ⌝ }
-{
-    0 < pool[SUMMARY]
 }
 
 // The record at the head of the line from i to j.
@@ -432,8 +422,8 @@ pub fn clear(pool: &mut [u64])
     empty_lines(pool);
 }
 
-// ---- The form test. It walks each line and marks the rows that it sees, so no row is on two lines or twice on one. Then the rows seen
-// and the free rows have to be all the rows of the pool, and none both. It visits the records on the lines, and no other row.
+// ---- The form test's part of the pool. Whoever walks the lines marks the rows that it sees, so no row is on two lines or twice on one. Then
+// the rows seen and the free rows have to be all the rows of the pool, and none both.
 
 pub fn is_marked(seen: &[u64], row: usize) -> bool
     requires { ⌜ row < length (now seen) * 64 ⌝ }
@@ -448,45 +438,6 @@ pub fn mark(seen: &mut [u64], row: usize)
 {
     let w = row / 64;
     seen[w] = with_bit(seen[w], row % 64);
-}
-
-// Walks line k. Refuses a row that is not in the pool or is seen already, and a tail that is not the last row.
-fn line_ok(pool: &[u64], k: usize, seen: &mut [u64]) -> bool
-    requires { ⌜ (sized (now pool) ≡ true) × (k < lineCount) × (length (now seen) ≡ freeWords) ⌝ }
-    ensures { λ r. ⌜ Walked (now (pool .entry)) k (now (seen .entry)) (now (seen .exit)) r ⌝ }
-{
-    let rows = row_count(pool);
-    let mut left = length_of(pool, k);
-    let mut row = head_of(pool, k);
-    let mut last = tail_of(pool, k);
-    while 0 < left {
-        if rows <= row {
-            return false;
-        }
-        if is_marked(seen, row) {
-            return false;
-        }
-        mark(seen, row);
-        last = row;
-        row = next_of(pool, row);
-        left -= 1;
-    }
-    last == tail_of(pool, k)
-}
-
-// Walks every line, from a start where no row is seen.
-fn lines_ok(pool: &[u64], seen: &mut [u64]) -> bool
-    requires { ⌜ (sized (now pool) ≡ true) × (length (now seen) ≡ freeWords) × ((x : ℕ) → bitAt (now seen) x ≡ 0) ⌝ }
-    ensures { λ r. ⌜ Surveyed (now (pool .entry)) (now (seen .exit)) r ⌝ }
-{
-    let mut k: usize = 0;
-    while k < LINE_COUNT {
-        if !line_ok(pool, k, seen) {
-            return false;
-        }
-        k += 1;
-    }
-    true
 }
 
 // The rows seen and the free rows are the whole word, and none is both.
@@ -529,19 +480,6 @@ fn summary_ok(pool: &[u64]) -> bool
     s < PAST_SUMMARY
 }
 
-fn is_sized(pool: &[u64]) -> bool
-    ensures { λ r. ⌜ r ≡ sized (now (pool .entry)) ⌝ }
-{
-    if pool.len() < ROWS {
-        return false;
-    }
-    let rows = row_count(pool);
-    if MOST_ROWS < rows {
-        return false;
-    }
-    pool.len() == ROWS + rows * ROW_WORDS
-}
-
 // What the words that say which rows are free have to be, once every line is walked and right: then it is all of the form.
 pub fn rest_ok(pool: &[u64], seen: &[u64]) -> bool
     requires { ⌜ (sized (now pool) ≡ true) × (length (now seen) ≡ freeWords) × Surveyed (now pool) (now seen) true ⌝ }
@@ -551,18 +489,4 @@ pub fn rest_ok(pool: &[u64], seen: &[u64]) -> bool
         return false;
     }
     summary_ok(pool)
-}
-
-// The pool is well-formed. Any words, of any number, may be asked about.
-pub fn form_ok(pool: &[u64]) -> bool
-    ensures { λ r. ⌜ r ≡ form (now (pool .entry)) ⌝ }
-{
-    if !is_sized(pool) {
-        return false;
-    }
-    let mut seen = [0u64; 49];
-    if !lines_ok(pool, &mut seen) {
-        return false;
-    }
-    rest_ok(pool, &seen)
 }
