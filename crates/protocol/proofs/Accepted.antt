@@ -6,24 +6,36 @@ use Prim.Native.Nat.{_<_, _^_, ℕ, _≤_}
 use native.Mathlib.Omega.{arith}
 use lib.Dec.{eqb, ltb}
 use lib.ListN.{length}
-use borrow.Author.Tests.{eqb-true, leb-false, ltb-false, not-false}
+use borrow.Author.Tests.{eqb-true, leb-false, ltb-false, ne-eqb, not-false}
 use Rattle.protocol.specs.Folds.{isEmpty, isNone}
 use Rattle.protocol.specs.CartSets.{has}
 use Rattle.protocol.specs.Floor.{Floor, Limits, Record, at, behead, entered, isAt, moving, onLines}
-use Rattle.protocol.specs.Events.{Answer, Event, accepted, enter, move, radio, refused, send, start, wire}
+use Rattle.protocol.specs.Events.{Answer, Event, Report, accepted, enter, move, radio, refused, send, start, wire}
 use Rattle.protocol.specs.Handoff.{onEnter, onMove}
 use Rattle.protocol.specs.Wired.{buffer, freeRoom, handle, onSend, onWire, withMessage}
 use Rattle.protocol.specs.Wireless.{handOver, onRadio, queueHead}
 use Rattle.protocol.specs.Form.{passesForm}
 use Rattle.protocol.specs.Refusals.{check, headLacks, neverEntered, noCart, noStation, refusal, refusalIf, strangers}
 use Rattle.protocol.specs.Step.{accept, answer, step}
-use Rattle.protocol.proofs.Tests.{by-option, by-test, clash, first-some, or-false}
+use Rattle.protocol.proofs.Tests.{by-eq, by-option, by-test, clash, first-some, or-false}
 
 -- What is known of an event that passed its checks; and by cases on what an event does to a started floor.
 -- a check that did not apply, and the rest of the table
 pub passed-check : (r : ℕ) (applies : Bool) (rest : ℕ) → 0 < r → check r applies rest ≡ 0 → (applies ≡ false) × (rest ≡ 0)
 passed-check r true rest h e = absurd (omega arith)
 passed-check r false rest h e = (refl, e)
+
+-- an accepted event meets no refusal
+pub accepted-passes : (M : Limits) (F : Floor) (e : Event) (l : Report) → answer M F e ≡ accepted l → refusal M F e ≡ 0
+unfolding answer
+accepted-passes M F e l a =
+    by-eq (refusal M F e) 0 (λ z. z)
+    (λ z. absurd (let b : refused (refusal M F e) ≡ accepted l = rw (ne-eqb (refusal M F e) 0 z) at a in let y : _≡_ {A = ℕ} 0 1 = cc in omega arith))
+
+-- and its report is that of its step
+pub accepted-report : (M : Limits) (F : Floor) (e : Event) (l : Report) → answer M F e ≡ accepted l → accept M F e .report ≡ l
+unfolding answer
+accepted-report M F e l a = let b : accepted (accept M F e .report) ≡ accepted l = rw (accepted-passes M F e l a) at a in cc
 
 pub record MayEnter (F : Floor) (t c : ℕ) : Type 0 where
   pub station : t < F .stations

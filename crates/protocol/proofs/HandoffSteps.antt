@@ -84,7 +84,20 @@ row-is-next M F G I c s =
     (λ l. listOf-at (M .columns) (F .next c) 0 s l)
     (λ l. listOf-past (M .columns) (F .next c) 0 s l ∙ sym (next-beyond M F G I c s (let z = I .fits in let w = M .fits in omega arith)))
 
+-- what a register at the head of a line says: its cart travels on that line, and no other record of its hand-off is there
+pub record Carried (M : Limits) (F : Floor) (i t c : ℕ) (row : List ℕ) (l : List Record) : Type 0 where
+  pub travels : F .place c ≡ travelling i t
+  pub alone : handoffs c l ≡ []
+  -- the row that it carries is the cart's
+  pub entries : (s : ℕ) → entryOf row s ≡ F .next c s
+
 module _ (M : Limits) (F : Floor) (G : History) (i t c : ℕ) (l : List Record) (I : Invariant M F G) where
+  pub carried : (row : List ℕ) → F .lines i t ≡ register c row ∷ l → Carried M F i t c row l
+  carried row e =
+      let z : registering row ∷ handoffs c l ≡ handoffOf (F .place c) i t (rowOf M (F .next c)) = rw (e, eqb-self c) at (I .handoffs-right c i t) in
+      let y = registering-is (F .place c) i t (rowOf M (F .next c)) row (handoffs c l) z in
+      record { travels = y .0; alone = y .1 .1; entries = λ s. ap (λ (f : List ℕ). entryOf f s) (y .1 .0) ∙ row-is-next M F G I c s }
+
   -- the record of a hand-off goes
   handoff-gone : (b : Record) → F .lines i t ≡ b ∷ l → multicastNumbers (b ∷ l) ≡ multicastNumbers l → ((d : ℕ) → (d ≡ c → ⊥) → handoffs d (b ∷ l) ≡ handoffs d l) → handoffs c l ≡ []
       → ((k h : ℕ) → eqb i k && eqb t h ≡ false → handoffOf (F .place c) k h (rowOf M (F .next c)) ≡ [])
@@ -104,12 +117,11 @@ module _ (M : Limits) (F : Floor) (G : History) (i t c : ℕ) (l : List Record) 
   pub register-ok : (row : List ℕ) → F .lines i t ≡ register c row ∷ l → t < F .stations
       → Invariant M (arrive M (onLines F (behead i t (F .lines))) t c (entryOf row)) G
   register-ok row e lt =
-      let z : registering row ∷ handoffs c l ≡ handoffOf (F .place c) i t (rowOf M (F .next c)) = rw (e, eqb-self c) at (I .handoffs-right c i t) in
-      let y = registering-is (F .place c) i t (rowOf M (F .next c)) row (handoffs c l) z in
-      let is-p = y .0 in
+      let y = carried row e in
+      let is-p = y .travels in
       let lc = I .real c (rw is-p) in
-      arrived M F G t c (entryOf row) (behead i t (F .lines)) lt lc (λ s. ap (λ (f : List ℕ). entryOf f s) (y .1 .0) ∙ row-is-next M F G I c s) (λ u. rw is-p) I
-      (handoff-gone (register c row) e refl (λ d h. rw (ne-eqb c d (λ q. h (sym q)))) (y .1 .1) (λ k h q. rw (is-p, q)) (λ u h. clash (localTo (F .place c) u) h (rw is-p)) lc)
+      arrived M F G t c (entryOf row) (behead i t (F .lines)) lt lc (y .entries) (λ u. rw is-p) I
+      (handoff-gone (register c row) e refl (λ d h. rw (ne-eqb c d (λ q. h (sym q)))) (y .alone) (λ k h q. rw (is-p, q)) (λ u h. clash (localTo (F .place c) u) h (rw is-p)) lc)
 
   pub deregister-ok : F .lines i t ≡ deregister c ∷ l → Invariant M (onDeregister M (onLines F (behead i t (F .lines))) i t c .floor) G
   unfolding onDeregister

@@ -31,4 +31,5 @@ pub mod ExamplesHold
 pub mod InRange
 pub mod Width
 pub mod QueueOrder
+pub mod Found
 pub mod Theorems

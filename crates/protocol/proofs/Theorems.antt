@@ -1,7 +1,7 @@
 use mathlib.Core.Path.{_≡_, ap, refl, subst, sym}
 use mathlib.Core.Bool.{false, not, true}
 use mathlib.Core.Option.{some}
-use mathlib.Core.List.{List, map}
+use mathlib.Core.List.{List, map, _∷_}
 use Prim.Native.Nat.{_*_, _+_, _-_, _<_, _^_, max, suc, ℕ, _≤_}
 use native.Mathlib.Nat.{mul-le-mul-left, mul-le-mul-right}
 use native.Mathlib.Omega.{arith}
@@ -9,9 +9,10 @@ use lib.Dec.{eqb}
 use lib.ListN.{length}
 use borrow.Author.Tests.{ne-eqb}
 use Rattle.protocol.specs.Folds.{count, sum}
-use Rattle.protocol.specs.Floor.{Floor, Limits, Record, at, justStarted, kit, limits, limitsOf, mostRecords, onTheLines}
-use Rattle.protocol.specs.Events.{Event, Report, accepted, refused, start}
-use Rattle.protocol.specs.Handoff.{entryOf, onRegister}
+use Rattle.protocol.specs.Floor.{Floor, Limits, Record, ackList, at, behead, delete, justStarted, kit, limits, limitsOf, mostRecords, multicast, onLines, onTheLines, register, stationOf}
+use Rattle.protocol.specs.Events.{Event, Report, accepted, move, radio, refused, send, start, wire}
+use Rattle.protocol.specs.Handoff.{entryOf, onRegister, roomOf}
+use Rattle.protocol.specs.Wired.{freeRoom, handle, onWire}
 use Rattle.protocol.specs.Wireless.{queueHead}
 use Rattle.protocol.specs.Form.{passesForm}
 use Rattle.protocol.specs.Blank.{BlankBeyond}
@@ -22,9 +23,11 @@ use Rattle.protocol.specs.SumRule.{gains, total}
 use Rattle.protocol.specs.Ranges.{InRange, NumbersBelow, Wide}
 use Rattle.protocol.specs.Examples.{examples, outcome}
 use Rattle.protocol.proofs.Tests.{by-eq}
-use Rattle.protocol.proofs.Accepted.{passed-check}
+use Rattle.protocol.proofs.Accepted.{MayWire, accepted-passes, accepted-report, may-move, may-radio, may-send, may-wire, passed-check}
 use Rattle.protocol.proofs.Demand3.{nothing, rule-after, started-ok}
-use Rattle.protocol.proofs.Counting.{sum-term}
+use Rattle.protocol.proofs.Counting.{sum-ext, sum-term}
+use Rattle.protocol.proofs.HandoffSteps.{carried}
+use Rattle.protocol.proofs.FloorLaws.{at-home}
 use Rattle.protocol.proofs.SumSteps.{arrive-bound}
 use Rattle.protocol.proofs.SumRun.{started-total, sums}
 use Rattle.protocol.proofs.FormFacts.{past, some-history}
@@ -36,15 +39,9 @@ use Rattle.protocol.proofs.Width.{numbers-below}
 use Rattle.protocol.proofs.ExamplesHold.{table-holds}
 use Rattle.protocol.proofs.InRange.{in-range, step-most}
 use Rattle.protocol.proofs.QueueOrder.{head-first}
+use Rattle.protocol.proofs.Found.{ack-list-room, delete-room, multicast-room}
 
 -- WHAT IS PROVED of the written steps. Each statement uses names of specs/ alone; M are any limits, `limits` those of the floor.
-
--- an accepted event meets no refusal
-accepted-passes : (M : Limits) (F : Floor) (e : Event) (l : Report) → answer M F e ≡ accepted l → refusal M F e ≡ 0
-unfolding answer
-accepted-passes M F e l a =
-    by-eq (refusal M F e) 0 (λ z. z)
-    (λ z. absurd (let b : refused (refusal M F e) ≡ accepted l = rw (ne-eqb (refusal M F e) 0 z) at a in let y : _≡_ {A = ℕ} 0 1 = cc in omega arith))
 
 -- DEMAND 1: "A refusal gives its number alone and changes no floor"
 pub refusal-changes-nothing : (M : Limits) (F : Floor) (e : Event) (r : ℕ) → answer M F e ≡ refused r → step M F e ≡ F
@@ -85,6 +82,19 @@ sum-rule M F n k l a es = from-start (λ X. total (floorAfter M X es) ≡ gains 
 pub register-bound : (M : Limits) (F : Floor) (t c : ℕ) (row : List ℕ) → onRegister M F t c row .report .p ≤ sum (F .stations) (λ s. F .expected t s - entryOf row s)
 unfolding onRegister
 register-bound M F t c row = arrive-bound M F t c (entryOf row)
+
+-- the same of the answer of a wire step, with the cart's own next numbers before it: the row that a register carries is the cart's
+pub register-step-bound : (M : Limits) (F : Floor) (i j c : ℕ) (row : List ℕ) (rest : List Record) (l : Report) → BlankBeyond M F → passesForm M F ≡ true
+    → F .lines i j ≡ register c row ∷ rest → answer M F (wire i j) ≡ accepted l → l .p ≤ sum (F .stations) (λ s. F .expected j s - F .next c s)
+unfolding accept onWire handle
+register-step-bound M F i j c row rest l B h e a =
+    let X = form-of M F B (clauses-of M F h) in
+    let k = carried M F (past M F X) i j c rest (some-history M F X) row e .entries in
+    let most = sum-ext (F .stations) (λ s. F .expected j s - entryOf row s) (λ s. F .expected j s - F .next c s) (λ s ls. ap (λ (x : ℕ). F .expected j s - x) (k s)) in
+    let bound = register-bound M (onLines F (behead i j (F .lines))) j c row in
+    let report : onRegister M (onLines F (behead i j (F .lines))) j c row .report ≡ l = (let z = accepted-report M F (wire i j) l a in rw e at z) in
+    let p = ap (λ (r : Report). r .p) report in
+    omega arith
 
 -- THE FORM RULE: "Every floor reached from a start passes it"
 pub form-reached : (M : Limits) (F : Floor) (n k : ℕ) (l : Report) → answer M F (start n k) ≡ accepted l → (es : List Event)
@@ -189,6 +199,50 @@ one-line n lines i j li lj =
 pub queue-order : (M : Limits) (F : Floor) (t m : ℕ) → queueHead M F t ≡ some m → (k : ℕ) → k < M .held → eqb (F .queue k t) 0 ≡ false
     → (F .number m ≤ F .number k) × (F .number m ≡ F .number k → F .initiator k ≤ F .initiator m)
 queue-order M F t m e k l q = let z = head-first M F t m e .1 .1 k l q in (z .smallest, z .higher)
+
+-- WHAT AN ACCEPTED EVENT LOOKS FOR IS THERE. The written steps have a case for a room, a record or a queue's head that is not found, and a
+-- place without a station. On a floor that passes no accepted event takes one of them.
+
+-- a send finds a free room
+pub send-finds-room : (M : Limits) (F : Floor) (s set : ℕ) (text : List ℕ) (l : Report) → answer M F (send s set text) ≡ accepted l → (m : ℕ) × (freeRoom M F ≡ some m)
+unfolding refusal
+send-finds-room M F s set text l a = let z = may-send M F (not (passesForm M F)) s set text (accepted-passes M F (send s set text) l a) in (z .0, z .1)
+
+-- a wire step finds a record
+wire-passes : (M : Limits) (F : Floor) (i j : ℕ) (l : Report) → answer M F (wire i j) ≡ accepted l → (r : Record) × (rest : List Record) × MayWire F i j r rest
+unfolding refusal
+wire-passes M F i j l a = may-wire M F (not (passesForm M F)) i j (accepted-passes M F (wire i j) l a)
+
+pub wire-finds-record : (M : Limits) (F : Floor) (i j : ℕ) (l : Report) → answer M F (wire i j) ≡ accepted l → (r : Record) × (rest : List Record) × (F .lines i j ≡ r ∷ rest)
+wire-finds-record M F i j l a = let z = wire-passes M F i j l a in (z .0, z .1, z .2 .line)
+
+-- a multicast, an ack list and a delete find their message's room, on the floor that they are handled on
+module _ (M : Limits) (F : Floor) (i j : ℕ) (l : Report) (B : BlankBeyond M F) (h : passesForm M F ≡ true) (a : answer M F (wire i j) ≡ accepted l) where
+  at-head : (r : Record) (rest : List Record) → F .lines i j ≡ r ∷ rest → MayWire F i j r rest
+  at-head r rest e = let z = wire-passes M F i j l a .2 in record { from = z .from; to = z .to; line = e }
+
+  pub multicast-finds-room : (n : ℕ) (rest : List Record) → F .lines i j ≡ multicast n ∷ rest → (m : ℕ) × (roomOf M (onLines F (behead i j (F .lines))) i n ≡ some m)
+  unfolding roomOf
+  multicast-finds-room n rest e = multicast-room M F (form-of M F B (clauses-of M F h)) i j n rest (at-head (multicast n) rest e)
+
+  pub ack-list-finds-room : (n carts : ℕ) (rest : List Record) → F .lines i j ≡ ackList n carts ∷ rest → (m : ℕ) × (roomOf M (onLines F (behead i j (F .lines))) j n ≡ some m)
+  unfolding roomOf
+  ack-list-finds-room n carts rest e = ack-list-room M F (form-of M F B (clauses-of M F h)) i j n carts rest (at-head (ackList n carts) rest e)
+
+  pub delete-finds-room : (n : ℕ) (rest : List Record) → F .lines i j ≡ delete n ∷ rest → (m : ℕ) × (roomOf M (onLines F (behead i j (F .lines))) i n ≡ some m)
+  unfolding roomOf
+  delete-finds-room n rest e = delete-room M F (form-of M F B (clauses-of M F h)) i j n rest (at-head (delete n) rest e)
+
+-- a radio step finds the queue's head
+pub radio-finds-head : (M : Limits) (F : Floor) (t c buffer : ℕ) (l : Report) → answer M F (radio t c buffer) ≡ accepted l → (m : ℕ) × (queueHead M F t ≡ some m)
+unfolding refusal
+radio-finds-head M F t c buffer l a = let z = may-radio M F (not (passesForm M F)) t c buffer (accepted-passes M F (radio t c buffer) l a) in (z .0, z .1 .is-head)
+
+-- a cart that moves is at a station
+pub move-finds-station : (M : Limits) (F : Floor) (c to : ℕ) (l : Report) → answer M F (move c to) ≡ accepted l → F .place c ≡ at (stationOf (F .place c))
+unfolding refusal
+move-finds-station M F c to l a =
+    let z = may-move M F (not (passesForm M F)) c to (accepted-passes M F (move c to) l a) in at-home (F .place c) (z .has-entered) (z .not-moving)
 
 -- THE EXAMPLES: "The starred examples are gathered as rows of a single proved table over the written steps"
 pub examples-hold : map (λ r. outcome (r .given)) examples ≡ map (λ r. r .shown) examples
