@@ -1,24 +1,31 @@
 -- THE STEPS OF A CART'S RECORD, on the carts of a table; and the words of a place.
 use mathlib.Core.Path.{_≡_, refl, sym, ap, _∙_}
 use mathlib.Core.Bool.{Bool, true, cond}
-use mathlib.Core.List.{List}
+use mathlib.Core.List.{List, [], _∷_}
 use Prim.Native.Nat.{ℕ, zero, suc, _+_, _≤_, _<_}
 use native.Mathlib.Omega.{arith}
 use lib.Dec.{eqb}
-use lib.ListN.{length, getD, List·getD-eq-default}
+use lib.ListN.{length, getD, set, List·getD-eq-default}
 use lib.Seq.{getD-set-same}
-use borrow.Author.Tests.{eqb-true}
+use borrow.Author.Tests.{eqb-true, lt-ltb}
 use Rattle.protocol.specs.Folds.{every, listOf, update}
 use Rattle.protocol.specs.Floor.{outside, at, leaving, travelling, Carts}
 use Rattle.protocol.proofs.Tests.{by-test, by-lt, and-left, and-right, every-at, every-all, on-update, length-listOf, listOf-at}
 use Rattle.protocol.specs.Floor as floor
 use Rattle.ids.specs.declared.Station.{Station}
+use Rattle.ids.specs.declared.MessageNumber.{MessageNumber}
 use Rattle.carts.specs.declared.Place.{Place}
 use Rattle.carts.specs.declared.Place.the-variants.{Outside, At, Leaving, Travelling}
 use Rattle.carts.specs.declared.Cart.{Cart}
 use Rattle.carts.specs.Words.{placeIn, canonical}
-use Rattle.carts.specs.Records.{seen, greetedPlace, greeted, departedPlace, departed, received}
+use Rattle.carts.specs.Records.{seen, greetedPlace, greeted, departedPlace, departed, numberAfter, received}
 use Rattle.carts.specs.View.{withPlace, withCart, IsCart}
+
+-- a list has nothing to change behind its end
+pub set-beyond : (l : List ℕ) (i v : ℕ) → length l ≤ i → l ≡ set l i v
+set-beyond [] i v h = refl
+set-beyond (x ∷ l) zero v h = absurd (omega arith)
+set-beyond (x ∷ l) (suc i) v h = ap (λ (k : List ℕ). x ∷ k) (set-beyond l i v (omega arith))
 
 -- THE WORDS OF A PLACE
 
@@ -119,8 +126,8 @@ module _ (C : Carts) (sixteen : Sixteen C) (c : ℕ) (k : Cart) (is : IsCart C c
       goes (Travelling r u) q = cc
 
   -- "its next number rises": that of the record received
-  pub receive-entry : (s : Station) (k′ : Cart) → s .0 < 16 → k′ ≡ received k s → getD (k′ .next) (s .0) 0 ≡ C .next c (s .0) + 1
-  receive-entry s k′ h g =
+  pub receive-entry : (s : Station) (n : MessageNumber) (k′ : Cart) → s .0 < 16 → n .0 < 18446744073709551615 → k′ ≡ received k s n → getD (k′ .next) (s .0) 0 ≡ n .0 + 1
+  receive-entry s n k′ h low g =
       ap (λ x. getD (x .next) (s .0) 0) g
-      ∙ getD-set-same (k .next) (s .0) (getD (k .next) (s .0) 0 + 1) 0 (let z = ap length (is .next) ∙ length-listOf 16 (C .next c) in omega arith)
-      ∙ ap (λ (n : ℕ). n + 1) (entry (s .0))
+      ∙ getD-set-same (k .next) (s .0) (numberAfter (n .0)) 0 (let z = ap length (is .next) ∙ length-listOf 16 (C .next c) in omega arith)
+      ∙ rw (lt-ltb (n .0) 18446744073709551615 low)

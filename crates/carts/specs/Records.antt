@@ -1,10 +1,13 @@
 -- A CART'S RECORD: "A cart's record is handed in and handed back with its new state".
+use mathlib.Core.Bool.{cond}
 use mathlib.Core.List.{List}
 use Prim.Native.Nat.{ℕ, _+_}
-use lib.ListN.{getD, set}
+use lib.Dec.{ltb}
+use lib.ListN.{set}
 use Rattle.protocol.specs.Floor.{outside, at, leaving, travelling}
 use Rattle.protocol.specs.Floor as floor
 use Rattle.ids.specs.declared.Station.{Station}
+use Rattle.ids.specs.declared.MessageNumber.{MessageNumber}
 use Rattle.carts.specs.declared.Place.{Place}
 use Rattle.carts.specs.declared.Place.the-variants.{Outside, At, Leaving, Travelling}
 use Rattle.carts.specs.declared.Cart.{Cart}
@@ -42,6 +45,11 @@ departed k = record { place = departedPlace (k .place); next = k .next }
 abbrev pub arrived : Cart → Station → List ℕ → Cart
 arrived k station row = record { place = At station; next = row }
 
--- "its next number rises", the one for that initiator
-abbrev pub received : Cart → Station → Cart
-received k initiator = record { place = k .place; next = set (k .next) (initiator .0) (getD (k .next) (initiator .0) 0 + 1) }
+-- the number after a message's; the last word has none after it, and stays
+abbrev pub numberAfter : ℕ → ℕ
+numberAfter n = cond (ltb n 18446744073709551615) (n + 1) n
+
+-- "its next number rises": for the initiator of the message that it received, it is the number after that message's. A record has sixteen next
+-- numbers: of a station beyond them it has none, and stays as it is
+abbrev pub received : Cart → Station → MessageNumber → Cart
+received k initiator n = record { place = k .place; next = set (k .next) (initiator .0) (numberAfter (n .0)) }

@@ -1,5 +1,6 @@
 // The carts: the record of one, and the lent table of all.
 use ids::CartNumber;
+use ids::MessageNumber;
 use ids::Station;
 ghost use mathlib.Core.Path.{_≡_};
 ghost use mathlib.Core.Bool.{true};
@@ -7,7 +8,7 @@ ghost use Prim.Native.Nat.{_<_};
 ghost use lib.ListN.{length, getD};
 ghost use Rattle.protocol.specs.Folds.{listOf, update};
 ghost use Rattle.carts.specs.Words.{HasRow, placeIn, canonical};
-ghost use Rattle.carts.specs.Records.{seen, greeted, departed, arrived, received};
+ghost use Rattle.carts.specs.Records.{seen, greeted, departed, arrived, numberAfter, received};
 ghost use Rattle.carts.specs.View.{cartsIn, canonicalIn, noCarts, withPlace, withNext, withRow, withCart, IsCart};
 
 // "A cart is outside, at a station, leaving (it has greeted a new station, the old one has not heard), or travelling (its register is on
@@ -67,15 +68,29 @@ impl Cart {
         }
     }
 
-    // The cart receives the initiator's message that is its next.
-    pub fn receive(self, initiator: Station) -> Cart
-        requires { ⌜ (initiator .0 < 16) × (getD (self .next) (initiator .0) 0 < 18446744073709551615) ⌝ }
-        ensures { λ r. ⌜ r ≡ received self initiator ⌝ }
+    // The cart receives message n of the initiator: its next number is the one after it.
+    pub fn receive(mut self, initiator: Station, n: MessageNumber) -> Cart
+        ensures { λ r. ⌜ r ≡ received self initiator n ⌝ }
     {
         let s = initiator.0 as usize;
-        let mut cart = self;
-        cart.next[s] = cart.next[s] + 1;
-        cart
+        if s < INITIATORS {
+            self.next[s] = number_after(n);
+        }
+        self
+    }
+}
+
+// "Stations 1 to 16": as many initiators.
+const INITIATORS: usize = 16;
+
+// The number after a message's.
+fn number_after(n: MessageNumber) -> u64
+    ensures { λ r. ⌜ r ≡ numberAfter (n .0) ⌝ }
+{
+    if n.0 < 18446744073709551615 {
+        n.0 + 1
+    } else {
+        n.0
     }
 }
 

@@ -204,7 +204,7 @@ module _ (P : Product) (S C M W T : List ℕ) (t c buffer : ℕ) (p : passesForm
         -- its initiator and number, as the code read them
         module _ (s n : ℕ) (es : s ≡ roomsIn M .initiator m) (en : n ≡ roomsIn M .number m) where
           pub over-asks : (HasStation S t × (t < 16) × (m < roomCount M) × (s < 16) × (n < 4294967296) × HasRooms M)
-              × ((HasRow C c × (c < 64) × (cartsIn C .next c s < 4294967296))
+              × ((HasRow C c × (c < 64))
               × (((r : ℕ) → roomCount M ≤ r → stationsIn S .copy r t ≡ 0)
               × ((form W ≡ true) × (holdNone (tookFrom (stationsIn S) m t c) m t ≡ true → used W < capacity W))))
           over-asks = rw (es, en) (radio-asks L X t c m may)

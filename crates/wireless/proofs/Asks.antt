@@ -91,7 +91,7 @@ module _ (L : Lent) (X : Standing L) (t c m : ℕ) (may : MayRadio (limitsOf (L 
   s-on-floor : s < F .stations
   s-on-floor = let a = X .facts .kept m (is-queued .held) in X .facts .senders s (omega arith)
 
-  pub radio-numbers : (m < L .product .held) × (t < 16) × (c < 64) × (s < 16) × (n < 4294967296) × (F .next c s ≡ n)
+  pub radio-numbers : (m < L .product .held) × (t < 16) × (c < 64) × (s < 16) × (n < 4294967296)
   radio-numbers =
       let a = X .facts .kept m (is-queued .held) in
       let b = s-on-floor in
@@ -101,7 +101,7 @@ module _ (L : Lent) (X : Standing L) (t c m : ℕ) (may : MayRadio (limitsOf (L 
       let f = X .sized .numbers s in
       let g = may .station in
       let h = may .cart in
-      (is-queued .held .slot, omega arith, omega arith, omega arith, omega arith, is-queued .due)
+      (is-queued .held .slot, omega arith, omega arith, omega arith, omega arith)
 
   -- the code's test is the written one
   all-is : holdNone (tookFrom (stationsIn (L .stations)) m t c) m t ≡ allAcked R m t
@@ -131,7 +131,7 @@ module _ (L : Lent) (X : Standing L) (t c m : ℕ) (may : MayRadio (limitsOf (L 
 
   -- "the head message of the queue is handed to the cart"
   pub radio-asks : (HasStation (L .stations) t × (t < 16) × (m < roomCount (L .messages)) × (s < 16) × (n < 4294967296) × HasRooms (L .messages))
-      × ((HasRow (L .carts) c × (c < 64) × (cartsIn (L .carts) .next c s < 4294967296))
+      × ((HasRow (L .carts) c × (c < 64))
       × (((r : ℕ) → roomCount (L .messages) ≤ r → stationsIn (L .stations) .copy r t ≡ 0)
       × ((form (L .lines) ≡ true) × (holdNone (tookFrom (stationsIn (L .stations)) m t c) m t ≡ true → used (L .lines) < capacity (L .lines)))))
   radio-asks =
@@ -139,7 +139,6 @@ module _ (L : Lent) (X : Standing L) (t c m : ℕ) (may : MayRadio (limitsOf (L 
       let lt = r .1 in
       let lc = r .2 in
       let below = r .4 in
-      let due = r .5 in
       let a = X .lengths .stations in
       let b = X .lengths .carts in
       let d = X .lengths .messages in
@@ -150,5 +149,5 @@ module _ (L : Lent) (X : Standing L) (t c m : ℕ) (may : MayRadio (limitsOf (L 
       let k = L .product .held-fit in
       let z = r .0 in (
         (omega arith, lt, omega arith, r .3, below, omega arith),
-        ((omega arith, lc, omega arith), (λ q l. none-beyond q (omega arith), (X .laid .chains, λ e. room-for-acks (sym all-is ∙ e)))),
+        ((omega arith, lc), (λ q l. none-beyond q (omega arith), (X .laid .chains, λ e. room-for-acks (sym all-is ∙ e)))),
       )

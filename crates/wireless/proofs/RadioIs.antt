@@ -41,8 +41,8 @@ use Rattle.wireless.proofs.Asks.{radio-numbers}
 use Rattle.wireless.proofs.Parts.{not-found}
 
 -- THE FIRST PART: from any lent parts that lie right
-module _ {P : Product} (S S₁ C C₁ M W T : List ℕ) (m s t c : ℕ) (lh : m < P .held) (sizes : Lengths (lent P S C M W T)) (laid : Laid (lent P S C M W T))
-    (received : Received S S₁ C C₁ m s t c) (due : cartsIn C .next c s ≡ roomsIn M .number m) (from : s ≡ roomsIn M .initiator m) where
+module _ {P : Product} (S S₁ C C₁ M W T : List ℕ) (m t c x : ℕ) (lh : m < P .held) (sizes : Lengths (lent P S C M W T)) (laid : Laid (lent P S C M W T))
+    (received : Received S S₁ C C₁ m (roomsIn M .initiator m) (roomsIn M .number m) t c x) where
   abbrev L : Lent
   L = lent P S C M W T
 
@@ -64,7 +64,7 @@ module _ {P : Product} (S S₁ C C₁ M W T : List ℕ) (m s t c : ℕ) (lh : m 
       ))
 
   carts₁ : cartsIn C₁ ≡ withNext (cartsIn C) c (roomsIn M .initiator m) (suc (roomsIn M .number m))
-  carts₁ = let n : cartsIn C .next c s + 1 ≡ suc (roomsIn M .number m) = omega arith in received .carts ∙ ap₂ (withNext (cartsIn C) c) from n
+  carts₁ = let risen : x ≡ suc (roomsIn M .number m) = received .next ∙ omega arith in received .carts ∙ ap (withNext (cartsIn C) c (roomsIn M .initiator m)) risen
 
   pub received-is : floorIn L₁ ≡ receive (floorIn L) m t c
   unfolding receive
@@ -274,7 +274,7 @@ module _ {P : Product} (S S′ C C′ M W W′ T : List ℕ) (m t c p w : ℕ) (
   lp₀ = let a = may .station in let b = X .sized .counts .stations in omega arith
 
   one : floorIn K₁ ≡ receive F m t c
-  one = received-is S (over .S₁) C (over .C₁) M W T m i₀ t c lh₀ (X .lengths) (X .laid) (over .received) (is-queued .due) refl
+  one = received-is S (over .S₁) C (over .C₁) M W T m t c (over .next) lh₀ (X .lengths) (X .laid) (over .received)
 
   two : Lengths K₂ × Laid K₂ × (floorIn K₂ ≡ sendAcksIfAll (floorIn K₁) m t) × (w ≡ cond (allAcked (floorIn K₁) m t) 1 0)
   two =
@@ -285,27 +285,27 @@ module _ {P : Product} (S S′ C C′ M W W′ T : List ℕ) (m t c p w : ℕ) (
       let fit = X .sized .copies .copy m t lh₀ lp₀ in
       let e = few-carts K₀ X in
       acks-are (over .S₁) (over .S₂) (over .C₁) M W W′ T m t w lh₀ lp₀
-      (lengths₁ S (over .S₁) C (over .C₁) M W T m i₀ t c lh₀ (X .lengths) (X .laid) (over .received) (is-queued .due) refl)
-      (laid₁ S (over .S₁) C (over .C₁) M W T m i₀ t c lh₀ (X .lengths) (X .laid) (over .received) (is-queued .due) refl)
+      (lengths₁ S (over .S₁) C (over .C₁) M W T m t c (over .next) lh₀ (X .lengths) (X .laid) (over .received))
+      (laid₁ S (over .S₁) C (over .C₁) M W T m t c (over .next) lh₀ (X .lengths) (X .laid) (over .received))
       (r .1) (omega arith) (r .3) (rw (copy, many) fit) (is-queued .held .some) (over .acks)
 
-  next₁ : cartsIn (over .C₁) .next c i₀ ≡ n₀ + 1
-  next₁ = ap (λ (k : Carts). k .next c i₀) (over .received .carts) ∙ update2-at (cartsIn C .next) c i₀ (cartsIn C .next c i₀ + 1) ∙ ap (λ (y : ℕ). y + 1) (is-queued .due)
+  next₁ : cartsIn (over .C₁) .next c i₀ ≡ over .next
+  next₁ = ap (λ (k : Carts). k .next c i₀) (over .received .carts) ∙ update2-at (cartsIn C .next) c i₀ (over .next)
 
   -- "the head message of the queue is handed to the cart"
   pub over-is : floorIn (lent P S′ C′ M W′ T) ≡ handOver (limitsOf P) F m t c .floor
   unfolding handOver
   over-is =
-      caught-is (over .S₂) S′ (over .C₁) C′ M W′ T i₀ t c (n₀ + 1) p lp₀ (two .0) (two .1) (over .caught) next₁
+      caught-is (over .S₂) S′ (over .C₁) C′ M W′ T i₀ t c (over .next) p lp₀ (two .0) (two .1) (over .caught) next₁
       ∙ ap (λ (G : Floor). catchUp (limitsOf P) G t c i₀) (two .2 ∙ ap (λ (G : Floor). sendAcksIfAll G m t) one)
 
   -- what it reports
   pub over-reports : (p ≡ handOver (limitsOf P) F m t c .report .p) × (w ≡ handOver (limitsOf P) F m t c .report .w)
   unfolding handOver
   over-reports =
-      let upto : floorIn (lent P S′ C′ M W′ T) .next c i₀ ≡ stopBy (tablesFloor (over .S₂) M) t i₀ (n₀ + 1) (nearestFrom (tablesFloor (over .S₂) M) t c i₀ (n₀ + 1)) .upto =
+      let upto : floorIn (lent P S′ C′ M W′ T) .next c i₀ ≡ stopBy (tablesFloor (over .S₂) M) t i₀ (over .next) (nearestFrom (tablesFloor (over .S₂) M) t c i₀ (over .next)) .upto =
       ap (λ (k : Carts). k .next c i₀) (over .caught .carts) ∙ update2-at (cartsIn (over .C₁) .next) c i₀ _ in
-      let plus : n₀ + 1 ≡ suc n₀ = omega arith in (
+      let plus : over .next ≡ suc n₀ = over .received .next ∙ omega arith in (
         over .caught .passed ∙ ap₂ (λ (y z : ℕ). y - z) (sym upto) plus ∙ ap (λ (G : Floor). G .next c i₀ - suc n₀) over-is,
         two .3 ∙ ap (λ (G : Floor). cond (allAcked G m t) 1 0) one,
       )

@@ -20,12 +20,13 @@ use Rattle.catchup.specs.Arrival.{isFound, queuedFor}
 abbrev pub tookFrom : Stations → ℕ → ℕ → ℕ → Stations
 tookFrom X m t c = withAcks (withQueue X m t (without (X .queue m t) c)) m t (with (X .acks m t) c)
 
--- cart c has left the entry for room m at t and joined the ack list, and its next number for initiator s has risen
-pub record Received (S S′ C C′ : List ℕ) (m s t c : ℕ) : Type 0 where
+-- cart c has left the entry for room m at t and joined the ack list, and its next number for initiator s has risen: it is x, one past n
+pub record Received (S S′ C C′ : List ℕ) (m s n t c x : ℕ) : Type 0 where
   pub stations : stationsIn S′ ≡ tookFrom (stationsIn S) m t c
   pub head : headIn S′ ≡ headIn S
   pub words : length S′ ≡ length S
-  pub carts : cartsIn C′ ≡ withNext (cartsIn C) c s (cartsIn C .next c s + 1)
+  pub next : x ≡ n + 1
+  pub carts : cartsIn C′ ≡ withNext (cartsIn C) c s x
   pub canonical : canonicalIn C′ ≡ canonicalIn C
   pub rows : length C′ ≡ length C
 
@@ -60,6 +61,8 @@ pub record HandedOver (S S′ C C′ M W W′ : List ℕ) (m s n t c p w : ℕ) 
   pub S₁ : List ℕ
   pub C₁ : List ℕ
   pub S₂ : List ℕ
-  pub received : Received S S₁ C C₁ m s t c
+  pub next : ℕ
+  pub received : Received S S₁ C C₁ m s n t c next
   pub acks : AcksSent S₁ S₂ W W′ m s n t w
-  pub caught : CaughtUp S₂ S′ C₁ C′ M s t c (n + 1) p
+  -- catch-up goes on from the next number of the record that was handed back
+  pub caught : CaughtUp S₂ S′ C₁ C′ M s t c next p

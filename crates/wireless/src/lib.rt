@@ -15,36 +15,48 @@ ghost use Rattle.lines.specs.Lines.{used};
 ghost use Rattle.lines.specs.Words.{capacity};
 ghost use Rattle.wireless.specs.Handed.{tookFrom, Received, holdNone, AcksSent, CaughtUp, HandedOver};
 
-// "its next number rises": the cart's record is handed in and handed back. That number alone is new in it, so that alone is stored.
-fn rise(carts: &mut [u64], initiator: Station, number: CartNumber)
-    requires { ⌜ HasRow (now carts) (number .0) × (initiator .0 < initiators) × (cartsIn (now carts) .next (number .0) (initiator .0) < 4294967296) ⌝ }
-    ensures { λ _. ⌜ cartsIn (now (carts .exit)) ≡ withNext (cartsIn (now (carts .entry))) (number .0) (initiator .0) (cartsIn (now (carts .entry)) .next (number .0) (initiator .0) + 1) ⌝ }
+// "Stations 1 to 16": as many initiators.
+const INITIATORS: usize = 16;
+
+// "its next number rises": the cart's record is handed in and handed back. That number alone is new in it, so that alone is stored, and answered.
+fn rise(carts: &mut [u64], initiator: Station, n: MessageNumber, number: CartNumber) -> u64
+    requires { ⌜ HasRow (now carts) (number .0) × (initiator .0 < initiators) × (n .0 < 4294967296) ⌝ }
+    ensures { λ r. ⌜ r ≡ n .0 + 1 ⌝ }
+    ensures { λ _. ⌜ cartsIn (now (carts .exit)) ≡ withNext (cartsIn (now (carts .entry))) (number .0) (initiator .0) (n .0 + 1) ⌝ }
     ensures { λ _. ⌜ canonicalIn (now (carts .exit)) ≡ canonicalIn (now (carts .entry)) ⌝ }
     ensures { λ _. ⌜ length (now (carts .exit)) ≡ length (now (carts .entry)) ⌝ }
 {
-    let cart = carts::cart_at(carts, number).receive(initiator);
-    let next = cart.next[initiator.0 as usize];
+    let s = initiator.0 as usize;
+    // This is never so. With it the compiler sees that the number which is read below is the one that was put, and loads no other of the record.
+    if INITIATORS <= s {
+        return 0;
+    }
+    let cart = carts::cart_at(carts, number).receive(initiator, n);
+    let next = cart.next[s];
     carts::put_next(carts, number, initiator, next);
+    next
 }
 
-// "The cart leaves the entry (an emptied one goes) and joins the station's ack list for the message; its next number rises."
+// "The cart leaves the entry (an emptied one goes) and joins the station's ack list for the message; its next number rises": the message in
+// room m, with number n. Answers that next number.
 fn receive(
     stations: &mut [u64],
     carts: &mut [u64],
     m: usize,
     initiator: Station,
+    n: MessageNumber,
     station: Station,
     number: CartNumber,
-)
-    requires { ⌜ HasStation (now stations) (station .0) × (m < rooms) × (initiator .0 < initiators) ⌝ }
-    requires { ⌜ HasRow (now carts) (number .0) × (number .0 < 64) × (cartsIn (now carts) .next (number .0) (initiator .0) < 4294967296) ⌝ }
-    ensures { λ _. ⌜ Received (now (stations .entry)) (now (stations .exit)) (now (carts .entry)) (now (carts .exit)) m (initiator .0) (station .0) (number .0) ⌝ }
+) -> u64
+    requires { ⌜ HasStation (now stations) (station .0) × (m < rooms) × (initiator .0 < initiators) × (n .0 < 4294967296) ⌝ }
+    requires { ⌜ HasRow (now carts) (number .0) × (number .0 < 64) ⌝ }
+    ensures { λ r. ⌜ Received (now (stations .entry)) (now (stations .exit)) (now (carts .entry)) (now (carts .exit)) m (initiator .0) (n .0) (station .0) (number .0) r ⌝ }
 {
     let queue = stations::queue_of(stations, m, station);
     stations::put_queue(stations, m, station, cartset::without_cart(queue, number.0));
     let acks = stations::acks_of(stations, m, station);
     stations::put_acks(stations, m, station, cartset::with_cart(acks, number.0));
-    rise(carts, initiator, number);
+    rise(carts, initiator, n, number)
 }
 
 // "Then, if every local cart in the copy is in the ack list, the list goes to the initiator, its carts are struck from the copy, and the list
@@ -122,21 +134,13 @@ pub fn hand_over(
     number: CartNumber,
 ) -> Handed
     requires { ⌜ HasStation (now stations) (station .0) × (station .0 < 16) × (m < roomCount (now messages)) × (initiator .0 < initiators) × (n .0 < 4294967296) × HasRooms (now messages) ⌝ }
-    requires { ⌜ HasRow (now carts) (number .0) × (number .0 < 64) × (cartsIn (now carts) .next (number .0) (initiator .0) < 4294967296) ⌝ }
+    requires { ⌜ HasRow (now carts) (number .0) × (number .0 < 64) ⌝ }
     requires { ⌜ ((r : ℕ) → roomCount (now messages) ≤ r → stationsIn (now stations) .copy r (station .0) ≡ 0) ⌝ }
     requires { ⌜ (form (now lines) ≡ true) × (holdNone (tookFrom (stationsIn (now stations)) m (station .0) (number .0)) m (station .0) ≡ true → used (now lines) < capacity (now lines)) ⌝ }
     ensures { λ r. ⌜ HandedOver (now (stations .entry)) (now (stations .exit)) (now (carts .entry)) (now (carts .exit)) (now (messages .entry)) (now (lines .entry)) (now (lines .exit)) m (initiator .0) (n .0) (station .0) (number .0) (r .passed) (r .sent) ⌝ }
 {
-    receive(stations, carts, m, initiator, station, number);
+    let next = receive(stations, carts, m, initiator, n, station, number);
     let sent = send_acks_if_all(stations, lines, m, initiator, n, station);
-    let passed = catch_up(
-        stations,
-        carts,
-        messages,
-        initiator,
-        station,
-        number,
-        n.0 + 1,
-    );
+    let passed = catch_up(stations, carts, messages, initiator, station, number, next);
     Handed { passed, sent }
 }

@@ -16,19 +16,17 @@ send-acks-if-all-requires : tie.Need-send-acks-if-all-requires
 send-acks-if-all-requires c κs =
     let a = c .before .before .before .before .before .before .before .before .before .before .before .before .before .args in
     let p = c .before .before .before .before .before .before .before .before .before .before .before .before .before .pre in
-    let r = c .before .before .before .before .before .before .receive .ensures in
-    ((omega (arith, r .words, p .0 .0), p .0 .1, omega (arith, p .0 .2, p .0 .5), p .0 .3, p .0 .4), (p .1 .1 .1 .0, λ e. p .1 .1 .1 .1 (sym (ap (λ (X : Stations). holdNone X (a .m) (a .station .0)) (r .stations)) ∙ e)))
-
-add-catch-up : tie.Need-add-catch-up
-add-catch-up c = search needs
+    let r = c .before .before .before .before .before .before .receive .ensures in (
+      (omega (arith, r .words, p .0 .0), p .0 .1, omega (arith, p .0 .2, p .0 .5), p .0 .3, p .0 .4),
+      (p .1 .1 .1 .0, λ e. p .1 .1 .1 .1 (sym (ap (λ (X : Stations). holdNone X (a .m) (a .station .0)) (r .stations)) ∙ e)),
+    )
 
 catch-up-requires : tie.Need-catch-up-requires
 catch-up-requires c κs =
-    let s = c .before .before .before .before .before .before .before .before .before .before .before .before .before .before .before .before .before .before .before .before .before in
-    let a = s .args in
-    let p = s .pre in
-    let r = c .before .before .before .before .before .before .before .before .before .before .before .before .before .before .receive in
-    let k = c .before .before .before .before .before .before .before .send-acks-if-all in (
+    let a = c .before .before .before .before .before .before .before .before .before .before .before .before .before .before .before .before .before .before .before .before .args in
+    let p = c .before .before .before .before .before .before .before .before .before .before .before .before .before .before .before .before .before .before .before .before .pre in
+    let r = c .before .before .before .before .before .before .before .before .before .before .before .before .before .receive in
+    let k = c .before .before .before .before .before .before .send-acks-if-all in (
       (omega (arith, k .ensures .words, r .ensures .words, p .0 .0), p .0 .5, p .0 .1, p .0 .3, p .1 .0 .1, omega (arith, r .ensures .rows, p .1 .0 .0)),
       acks-beyond _ _ _ _ (a .m) (a .initiator .0) (a .n .0) (a .station .0) (k .result) (roomCount (a .messages .now)) (k .ensures) (p .0 .2)
           (λ q l. ap (λ (X : Stations). X .copy q (a .station .0)) (r .ensures .stations) ∙ p .1 .1 .0 q l),
@@ -45,12 +43,13 @@ same-length-3 c = search needs
 
 returns : tie.Need-returns
 returns c =
-    let received = c .before .before .before .before .before .before .before .before .before .before .before .before .before .before .before .before .before .before .before .receive in
-    let sent = c .before .before .before .before .before .before .before .before .before .before .before .before .send-acks-if-all in
+    let received = c .before .before .before .before .before .before .before .before .before .before .before .before .before .before .before .before .before .before .receive in
+    let sent = c .before .before .before .before .before .before .before .before .before .before .before .send-acks-if-all in
     record {
       S₁ = received .last .0;
       C₁ = received .last .1 .0;
       S₂ = sent .last .0;
+      next = received .result;
       received = received .ensures;
       acks = sent .ensures;
       caught = c .before .before .before .before .catch-up .ensures;
@@ -62,7 +61,6 @@ hand-over-spec =
     (tie.spec
     receive-requires
     send-acks-if-all-requires
-    add-catch-up
     catch-up-requires
     same-length
     same-length-2

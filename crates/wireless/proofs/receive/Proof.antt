@@ -1,6 +1,7 @@
 -- `wireless::receive` meets its contract.
-use mathlib.Core.Path.{_∙_}
+use mathlib.Core.Path.{ap, sym, _∙_}
 use Rattle.stations.specs.View.{stationsIn}
+use Rattle.carts.specs.View.{cartsIn, withNext}
 use Rattle.wireless.proofs.Parts.{received-stations}
 use borrow.Author.Needs.{needs}
 use Rattle.wireless.proofs.receive.Statement.{statement}
@@ -25,7 +26,7 @@ put-acks-requires : tie.Need-put-acks-requires
 put-acks-requires c κs = search needs
 
 rise-requires : tie.Need-rise-requires
-rise-requires c κs = (c .before .before .before .before .before .before .before .before .before .before .before .before .before .before .before .before .before .pre .1 .0, c .before .before .before .before .before .before .before .before .before .before .before .before .before .before .before .before .before .pre .0 .2, c .before .before .before .before .before .before .before .before .before .before .before .before .before .before .before .before .before .pre .1 .2)
+rise-requires c κs = let p = c .before .before .before .before .before .before .before .before .before .before .before .before .before .before .before .before .before .pre in (p .1 .0, p .0 .2, p .0 .3)
 
 same-length : tie.Need-same-length
 same-length c = search needs
@@ -36,18 +37,23 @@ same-length-2 c = search needs
 returns : tie.Need-returns
 returns c =
     let a = c .before .before .before .before .before .before .before .before .before .before .before .before .before .before .before .before .before .before .before .before .args in
+    let queue = c .before .before .before .before .before .before .before .before .before .before .before .before .before .before .before .before .queue-of in
+    let left = c .before .before .before .before .before .before .before .before .before .before .before .before .before .before .without-cart in
     let queued = c .before .before .before .before .before .before .before .before .before .before .before .before .before .put-queue in
+    let acks = c .before .before .before .before .before .before .before .before .before .acks-of in
+    let joined = c .before .before .before .before .before .before .before .with-cart in
     let acked = c .before .before .before .before .before .before .put-acks in
     let risen = c .before .before .rise .ensures in
     record {
       stations = received-stations (stationsIn (a .stations .now)) (stationsIn (queued .last .0)) (stationsIn (acked .last .0)) (a .m) (a .station .0) (a .number .0)
-          (c .before .before .before .before .before .before .before .before .before .before .before .before .before .before .before .before .queue-of .result) (c .before .before .before .before .before .before .before .before .before .before .before .before .before .before .without-cart .result) (c .before .before .before .before .before .before .before .before .before .acks-of .result) (c .before .before .before .before .before .before .before .with-cart .result)
-          (c .before .before .before .before .before .before .before .before .before .before .before .before .before .before .before .before .queue-of .ensures) (c .before .before .before .before .before .before .before .before .before .before .before .before .before .before .without-cart .ensures) (queued .ensures .0) (c .before .before .before .before .before .before .before .before .before .acks-of .ensures) (c .before .before .before .before .before .before .before .with-cart .ensures) (acked .ensures .0);
+          (queue .result) (left .result) (acks .result) (joined .result)
+          (queue .ensures) (left .ensures) (queued .ensures .0) (acks .ensures) (joined .ensures) (acked .ensures .0);
       head = acked .ensures .1 .0 ∙ queued .ensures .1 .0;
       words = acked .ensures .1 .1 ∙ queued .ensures .1 .1;
-      carts = risen .0;
-      canonical = risen .1 .0;
-      rows = risen .1 .1;
+      next = risen .0;
+      carts = risen .1 .0 ∙ ap (withNext (cartsIn (a .carts .now)) (a .number .0) (a .initiator .0)) (sym (risen .0));
+      canonical = risen .1 .1 .0;
+      rows = risen .1 .1 .1;
     }
 
 pub receive-spec : {M : Type 1} → statement M
