@@ -34,3 +34,22 @@ refusalNumber (accepted l) = 0
 -- the same of an answer, for which the octets do not matter
 abbrev pub refusalIn : Answer → ℕ
 refusalIn a = refusalNumber (answerIn a [])
+
+-- how many octets of text it says that it adds
+abbrev pub octetsIn : Answer → ℕ
+octetsIn (Refused r) = 0
+octetsIn (Started n k) = 0
+octetsIn (Entered t c p) = 0
+octetsIn (Sent s n w) = 0
+octetsIn (Buffered n p) = 0
+octetsIn (Acknowledged n w) = 0
+octetsIn (Deleted n) = 0
+octetsIn (Deregistered c) = 0
+octetsIn (Registered c p) = 0
+octetsIn (Received s n p w size) = size
+octetsIn (Moved c to) = 0
+
+-- the text of a written answer: a refusal has none
+abbrev pub textOf : events.Answer → List ℕ
+textOf (refused r) = []
+textOf (accepted l) = l .text

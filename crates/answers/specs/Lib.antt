@@ -1,2 +1,3 @@
 pub mod Answers
 pub mod Met
+pub mod Delivered

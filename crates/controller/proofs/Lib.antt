@@ -1,3 +1,2 @@
 pub mod Broken
-pub mod Radios
 pub mod Run

@@ -4,17 +4,15 @@
 use answers::Answer;
 use ids::CartNumber;
 use ids::Station;
-use receiving::Handing;
 ghost use mathlib.Core.Path.{_≡_};
 ghost use mathlib.Core.List.{[]};
-ghost use lib.ListN.{length};
 ghost use Rattle.protocol.specs.Floor.{wholeFloor, limits};
-ghost use Rattle.protocol.specs.Events.{start, enter, send, wire, radio, move, bufferAfter};
+ghost use Rattle.protocol.specs.Events.{start, enter, send, wire, move};
 ghost use Rattle.protocol.specs.Form.{passesForm};
-ghost use Rattle.protocol.specs.Step.{answer};
 ghost use Rattle.view.specs.View.{lent, floorIn};
 ghost use Rattle.answers.specs.Answers.{answerIn};
 ghost use Rattle.answers.specs.Met.{Met};
+ghost use Rattle.answers.specs.Delivered.{Delivered};
 
 // "text 0 to 32 octets".
 const TEXT: usize = 32;
@@ -126,8 +124,7 @@ pub fn wire(
     wiring::wire(stations, carts, messages, lines, texts, from, to)
 }
 
-// "Radio (station, cart)": "writes the text at the front of the lent buffer and leaves the rest"; a refusal "changes no octet of a lent text
-// buffer".
+// "Radio (station, cart)": `Delivered` says of the lent text buffer, too, what it is afterwards.
 pub fn radio(
     stations: &mut [u64],
     carts: &mut [u64],
@@ -138,19 +135,21 @@ pub fn radio(
     cart: CartNumber,
     buffer: &mut [u8],
 ) -> Answer
-    ensures { λ a. ⌜ Met (lent wholeFloor (now (stations .entry)) (now (carts .entry)) (now (messages .entry)) (now (lines .entry)) (now (texts .entry))) (lent wholeFloor (now (stations .exit)) (now (carts .exit)) (now (messages .entry)) (now (lines .exit)) (now (texts .entry))) (radio (station .0) (cart .0) (length (now (buffer .entry)))) (answerIn a (now (buffer .exit))) ⌝ }
-    ensures { λ a. ⌜ now (buffer .exit) ≡ bufferAfter (answer limits (floorIn (lent wholeFloor (now (stations .entry)) (now (carts .entry)) (now (messages .entry)) (now (lines .entry)) (now (texts .entry)))) (radio (station .0) (cart .0) (length (now (buffer .entry))))) (now (buffer .entry)) ⌝ }
+    ensures { λ a. ⌜ Delivered (lent wholeFloor (now (stations .entry)) (now (carts .entry)) (now (messages .entry)) (now (lines .entry)) (now (texts .entry))) (lent wholeFloor (now (stations .exit)) (now (carts .exit)) (now (messages .entry)) (now (lines .exit)) (now (texts .entry))) (station .0) (cart .0) a (now (buffer .entry)) (now (buffer .exit)) ⌝ }
 {
     if !passes(stations, carts, messages, lines, texts) {
         return Answer::Refused(5);
     }
-    let room = buffer.len();
-    let handing = receiving::radio(stations, carts, messages, lines, texts, station, cart, room);
-    let Handing::Over(m, size, initiator, number, p, w) = handing else {
-        return Answer::Refused(receiving::refusal(handing));
-    };
-    messages::copy_text(texts, m, size, buffer);
-    Answer::Received(initiator, number, p, w, size)
+    receiving::radio_into(
+        stations,
+        carts,
+        messages,
+        lines,
+        texts,
+        station,
+        cart,
+        buffer,
+    )
 }
 
 // "Move (cart, to)".

@@ -4,8 +4,8 @@ use mathlib.Core.List.{List}
 use Prim.Native.Nat.{ℕ}
 use Rattle.report.specs.declared.Report.{Report}
 use Rattle.answers.specs.declared.Answer.{Answer}
-use Rattle.answers.specs.Answers.{refusalIn}
-use Rattle.printing.specs.Reports.{reportOf, octetsIn}
+use Rattle.answers.specs.Answers.{refusalIn, octetsIn}
+use Rattle.printing.specs.Reports.{reportOf}
 use Rattle.exported.specs.Told.{sevenWords, answerWords}
 
 pub words-are : (out out′ : List ℕ) (a : Answer) (refusal : ℕ) (r : Report) (size : ℕ) → refusal ≡ refusalIn a → r ≡ reportOf a → size ≡ octetsIn a

@@ -6,9 +6,10 @@ use lib.ListN.{set}
 use Rattle.protocol.specs.Events.{Event}
 use Rattle.view.specs.View.{Lent}
 use Rattle.answers.specs.declared.Answer.{Answer}
-use Rattle.answers.specs.Answers.{answerIn, refusalIn}
+use Rattle.answers.specs.Answers.{answerIn, refusalIn, octetsIn}
 use Rattle.answers.specs.Met.{Met}
-use Rattle.printing.specs.Reports.{reportOf, octetsIn}
+use Rattle.answers.specs.Delivered.{Delivered}
+use Rattle.printing.specs.Reports.{reportOf}
 
 -- the first seven words are these, and the others as they were
 unfoldable pub sevenWords : List ℕ → ℕ → ℕ → ℕ → ℕ → ℕ → ℕ → ℕ → List ℕ
@@ -22,4 +23,10 @@ answerWords out a = sevenWords out (refusalIn a) (reportOf a .kind) (reportOf a 
 pub record Told (L L′ : Lent) (e : Event) (octets out out′ : List ℕ) : Type 0 where
   pub answered : Answer
   pub met : Met L L′ e (answerIn answered octets)
+  pub words : out′ ≡ answerWords out answered
+
+-- the same of a radio step, which left its buffer as buffer′
+pub record ToldText (L L′ : Lent) (t c : ℕ) (buffer buffer′ out out′ : List ℕ) : Type 0 where
+  pub answered : Answer
+  pub delivered : Delivered L L′ t c answered buffer buffer′
   pub words : out′ ≡ answerWords out answered

@@ -4,20 +4,18 @@
 use answers::Answer;
 use ids::CartNumber;
 use ids::Station;
-use receiving::Handing;
 ghost use mathlib.Core.Path.{_≡_};
 ghost use mathlib.Core.Bool.{true};
 ghost use mathlib.Core.List.{[]};
 ghost use Prim.Native.Nat.{_≤_};
 ghost use lib.ListN.{length};
 ghost use Rattle.protocol.specs.Floor.{wholeFloor, limits};
-ghost use Rattle.protocol.specs.Events.{start, enter, send, wire, radio, move, bufferAfter};
+ghost use Rattle.protocol.specs.Events.{start, enter, send, wire, move};
 ghost use Rattle.protocol.specs.Form.{passesForm};
-ghost use Rattle.protocol.specs.Step.{answer};
 ghost use Rattle.view.specs.View.{lent, floorIn};
 ghost use Rattle.answers.specs.Answers.{answerIn};
 ghost use Rattle.answers.specs.Met.{Met};
-ghost use Rattle.exported.specs.Told.{sevenWords, answerWords, Told};
+ghost use Rattle.exported.specs.Told.{sevenWords, answerWords, Told, ToldText};
 
 // Seven words, at the front of the lent ones.
 fn put_words(out: &mut [u64], refusal: u64, kind: u64, a: u64, b: u64, p: u64, w: u64, size: u64)
@@ -171,8 +169,7 @@ pub extern "C" fn mekhturia_radio(
     out: &mut [u64],
 )
     requires { ⌜ 7 ≤ length (now out) ⌝ }
-    ensures { λ _. ⌜ Told (lent wholeFloor (now (stations .entry)) (now (carts .entry)) (now (messages .entry)) (now (lines .entry)) (now (texts .entry))) (lent wholeFloor (now (stations .exit)) (now (carts .exit)) (now (messages .entry)) (now (lines .exit)) (now (texts .entry))) (radio station cart (length (now (buffer .entry)))) (now (buffer .exit)) (now (out .entry)) (now (out .exit)) ⌝ }
-    ensures { λ _. ⌜ now (buffer .exit) ≡ bufferAfter (answer limits (floorIn (lent wholeFloor (now (stations .entry)) (now (carts .entry)) (now (messages .entry)) (now (lines .entry)) (now (texts .entry)))) (radio station cart (length (now (buffer .entry))))) (now (buffer .entry)) ⌝ }
+    ensures { λ _. ⌜ ToldText (lent wholeFloor (now (stations .entry)) (now (carts .entry)) (now (messages .entry)) (now (lines .entry)) (now (texts .entry))) (lent wholeFloor (now (stations .exit)) (now (carts .exit)) (now (messages .entry)) (now (lines .exit)) (now (texts .entry))) station cart (now (buffer .entry)) (now (buffer .exit)) (now (out .entry)) (now (out .exit)) ⌝ }
 {
     let answer = controller::radio(
         stations,
@@ -302,30 +299,6 @@ pub extern "C" fn mekhturia_step_wire(
     put_answer_words(out, answer);
 }
 
-// A radio step and its buffer, as `controller::radio` has them behind the form test.
-fn receive(
-    stations: &mut [u64],
-    carts: &mut [u64],
-    messages: &[u64],
-    lines: &mut [u64],
-    texts: &[u8],
-    station: Station,
-    cart: CartNumber,
-    buffer: &mut [u8],
-) -> Answer
-    requires { ⌜ passesForm limits (floorIn (lent wholeFloor (now stations) (now carts) (now messages) (now lines) (now texts))) ≡ true ⌝ }
-    ensures { λ a. ⌜ Met (lent wholeFloor (now (stations .entry)) (now (carts .entry)) (now (messages .entry)) (now (lines .entry)) (now (texts .entry))) (lent wholeFloor (now (stations .exit)) (now (carts .exit)) (now (messages .entry)) (now (lines .exit)) (now (texts .entry))) (radio (station .0) (cart .0) (length (now (buffer .entry)))) (answerIn a (now (buffer .exit))) ⌝ }
-    ensures { λ a. ⌜ now (buffer .exit) ≡ bufferAfter (answer limits (floorIn (lent wholeFloor (now (stations .entry)) (now (carts .entry)) (now (messages .entry)) (now (lines .entry)) (now (texts .entry)))) (radio (station .0) (cart .0) (length (now (buffer .entry))))) (now (buffer .entry)) ⌝ }
-{
-    let room = buffer.len();
-    let handing = receiving::radio(stations, carts, messages, lines, texts, station, cart, room);
-    let Handing::Over(m, size, initiator, number, p, w) = handing else {
-        return Answer::Refused(receiving::refusal(handing));
-    };
-    messages::copy_text(texts, m, size, buffer);
-    Answer::Received(initiator, number, p, w, size)
-}
-
 // "Radio (station, cart)", on a floor that passes the form rule.
 #[no_mangle]
 pub extern "C" fn mekhturia_step_radio(
@@ -341,10 +314,9 @@ pub extern "C" fn mekhturia_step_radio(
 )
     requires { ⌜ passesForm limits (floorIn (lent wholeFloor (now stations) (now carts) (now messages) (now lines) (now texts))) ≡ true ⌝ }
     requires { ⌜ 7 ≤ length (now out) ⌝ }
-    ensures { λ _. ⌜ Told (lent wholeFloor (now (stations .entry)) (now (carts .entry)) (now (messages .entry)) (now (lines .entry)) (now (texts .entry))) (lent wholeFloor (now (stations .exit)) (now (carts .exit)) (now (messages .entry)) (now (lines .exit)) (now (texts .entry))) (radio station cart (length (now (buffer .entry)))) (now (buffer .exit)) (now (out .entry)) (now (out .exit)) ⌝ }
-    ensures { λ _. ⌜ now (buffer .exit) ≡ bufferAfter (answer limits (floorIn (lent wholeFloor (now (stations .entry)) (now (carts .entry)) (now (messages .entry)) (now (lines .entry)) (now (texts .entry)))) (radio station cart (length (now (buffer .entry))))) (now (buffer .entry)) ⌝ }
+    ensures { λ _. ⌜ ToldText (lent wholeFloor (now (stations .entry)) (now (carts .entry)) (now (messages .entry)) (now (lines .entry)) (now (texts .entry))) (lent wholeFloor (now (stations .exit)) (now (carts .exit)) (now (messages .entry)) (now (lines .exit)) (now (texts .entry))) station cart (now (buffer .entry)) (now (buffer .exit)) (now (out .entry)) (now (out .exit)) ⌝ }
 {
-    let answer = receive(
+    let answer = receiving::radio_into(
         stations,
         carts,
         messages,

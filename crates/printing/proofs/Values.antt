@@ -10,10 +10,10 @@ use Rattle.protocol.specs.Events.{accepted}
 use Rattle.report.specs.Lines.{reportIn}
 use Rattle.answers.specs.declared.Answer.{Answer}
 use Rattle.answers.specs.declared.Answer.the-variants.{Refused, Started, Entered, Sent, Buffered, Acknowledged, Deleted, Deregistered, Registered, Received, Moved}
-use Rattle.answers.specs.Answers.{says, answerIn}
+use Rattle.answers.specs.Answers.{says, answerIn, octetsIn}
 use Rattle.answers.proofs.Answer.{the-type as answer-type}
 use Rattle.answers.proofs.Values.{others}
-use Rattle.printing.specs.Reports.{values, reportOf, octetsIn}
+use Rattle.printing.specs.Reports.{values, reportOf}
 
 pub refused-values : (a : Answer) → OneOf (0 ∷ []) (tagOf answer-type a) → values 0 0 0 0 0 ≡ reportOf a
 refused-values (Refused r) h = refl

@@ -19,17 +19,3 @@ reportOf (Deregistered c) = values 3 4 (c .0) 0 1
 reportOf (Registered c p) = values 3 5 (c .0) p 0
 reportOf (Received s n p w size) = values 4 (s .0) (n .0) p w
 reportOf (Moved c to) = values 5 (c .0) (to .0) 0 1
-
--- how many octets of text it adds
-abbrev pub octetsIn : Answer → ℕ
-octetsIn (Refused r) = 0
-octetsIn (Started n k) = 0
-octetsIn (Entered t c p) = 0
-octetsIn (Sent s n w) = 0
-octetsIn (Buffered n p) = 0
-octetsIn (Acknowledged n w) = 0
-octetsIn (Deleted n) = 0
-octetsIn (Deregistered c) = 0
-octetsIn (Registered c p) = 0
-octetsIn (Received s n p w size) = size
-octetsIn (Moved c to) = 0

@@ -2,7 +2,8 @@
 use answers::Answer;
 use report::Report;
 ghost use mathlib.Core.Path.{_≡_};
-ghost use Rattle.printing.specs.Reports.{reportOf, octetsIn};
+ghost use Rattle.answers.specs.Answers.{octetsIn};
+ghost use Rattle.printing.specs.Reports.{reportOf};
 
 // A report of these values.
 fn report(kind: u64, a: u64, b: u64, p: u64, w: u64) -> Report

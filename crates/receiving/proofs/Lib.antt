@@ -1,3 +1,4 @@
 pub mod Values
 pub mod Checks
 pub mod RadioMeets
+pub mod Delivery

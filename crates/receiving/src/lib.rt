@@ -1,5 +1,6 @@
 // WHAT A CART RECEIVES on a floor that passes the form rule: a radio step. It is refused first, "Checks run down the table", and then is its
 // step of the wireless module.
+use answers::Answer;
 use carts::Place;
 use ids::CartNumber;
 use ids::MessageNumber;
@@ -7,25 +8,26 @@ use ids::Station;
 ghost use mathlib.Core.Path.{_≡_};
 ghost use Prim.Native.Nat.{_*_, _≤_, _<_};
 ghost use lib.ListN.{length};
-ghost use Rattle.protocol.specs.Events.{radio};
+ghost use Rattle.protocol.specs.Events.{radio, bufferAfter};
 ghost use Rattle.stations.specs.View.{HasHead, HasStation, headIn};
 ghost use Rattle.messages.specs.View.{HasRoom};
 ghost use Rattle.view.specs.View.{lent};
 ghost use Rattle.queue.specs.Rooms.{roomIn};
+ghost use Rattle.answers.specs.Answers.{answerIn, octetsIn, textOf};
 ghost use Rattle.answers.specs.Met.{Passing, MetByEach};
+ghost use Rattle.answers.specs.Delivered.{DeliveredByEach};
 ghost use Rattle.receiving.specs.Checks.{notHere, notServed};
 ghost use Rattle.receiving.specs.Handing.{handingIn, refusalOfHanding, Fits, HasPart};
 
 // What a radio step comes to: a refusal's number, or the message that was handed over: its room, how many octets its text has, its initiator
-// and number, p and w. The text stays in its room's part of the lent octets: `messages::copy_text` "writes the text at the front of the lent
-// buffer and leaves the rest".
+// and number, p and w. The text stays in its room's part of the lent octets, and `deliver` copies it.
 pub enum Handing {
     Refused(u64),
     Over(usize, usize, Station, MessageNumber, u64, u64),
 }
 
 // The number of a refusal, 0 if a message was handed over.
-pub fn refusal(handing: Handing) -> u64
+fn refusal(handing: Handing) -> u64
     ensures { λ r. ⌜ r ≡ refusalOfHanding handing ⌝ }
 {
     match handing {
@@ -119,4 +121,38 @@ pub fn radio(
         cart,
     );
     Handing::Over(m, size, initiator, n, handed.passed, handed.sent)
+}
+
+// The answer of a radio step, its text in the lent buffer.
+fn deliver(texts: &[u8], handing: Handing, buffer: &mut [u8]) -> Answer
+    requires { ⌜ Fits (length (now buffer)) handing × HasPart (now texts) handing ⌝ }
+    ensures { λ a. ⌜ answerIn a (now (buffer .exit)) ≡ handingIn (now (texts .entry)) handing ⌝ }
+    ensures { λ a. ⌜ octetsIn a ≡ length (textOf (handingIn (now (texts .entry)) handing)) ⌝ }
+    ensures { λ _. ⌜ now (buffer .exit) ≡ bufferAfter (handingIn (now (texts .entry)) handing) (now (buffer .entry)) ⌝ }
+{
+    let Handing::Over(m, size, initiator, number, p, w) = handing else {
+        return Answer::Refused(refusal(handing));
+    };
+    let octets = messages::copy_text(texts, m, size, buffer);
+    Answer::Received(initiator, number, p, w, octets)
+}
+
+// "Radio (station, cart)", with a lent buffer: "writes the text at the front of the lent buffer and leaves the rest"; a refusal "changes no octet
+// of a lent text buffer".
+pub fn radio_into(
+    stations: &mut [u64],
+    carts: &mut [u64],
+    messages: &[u64],
+    lines: &mut [u64],
+    texts: &[u8],
+    station: Station,
+    cart: CartNumber,
+    buffer: &mut [u8],
+) -> Answer
+    requires { ⌜ Passing (λ P. lent P (now stations) (now carts) (now messages) (now lines) (now texts)) ⌝ }
+    ensures { λ a. ⌜ DeliveredByEach (λ P. lent P (now (stations .entry)) (now (carts .entry)) (now (messages .entry)) (now (lines .entry)) (now (texts .entry))) (λ P. lent P (now (stations .exit)) (now (carts .exit)) (now (messages .entry)) (now (lines .exit)) (now (texts .entry))) (station .0) (cart .0) a (now (buffer .entry)) (now (buffer .exit)) ⌝ }
+{
+    let room = buffer.len();
+    let handing = radio(stations, carts, messages, lines, texts, station, cart, room);
+    deliver(texts, handing, buffer)
 }

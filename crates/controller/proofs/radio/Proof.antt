@@ -3,11 +3,10 @@ use mathlib.Core.Path.{sym, _∙_}
 use lib.ListN.{length}
 use borrow.Author.Tests.{not-true, not-false}
 use denote.Ref.{now}
-use Rattle.protocol.specs.Events.{radio}
 use Rattle.protocol.specs.Floor.{wholeFloor}
 use Rattle.view.specs.View.{lent}
+use Rattle.answers.proofs.Delivers.{delivers-refused}
 use Rattle.controller.proofs.Broken.{broken-radio}
-use Rattle.controller.proofs.Radios.{refusal-leaves, unserved, copy-asks, served, written}
 use borrow.Author.Needs.{needs}
 use Rattle.controller.proofs.radio.Statement.{statement}
 use Rattle.controller.proofs.radio.Tie as tie
@@ -25,19 +24,14 @@ same-length-3 : tie.Need-same-length-3
 same-length-3 c = search needs
 
 returns : tie.Need-returns
-returns c = let a = c .before .before .before .before .before .before .before .before .before .before .before .args in let met = broken-radio (lent wholeFloor (now (a .stations)) (now (a .carts)) (now (a .messages)) (now (a .lines)) (now (a .texts))) _ (c .before .passes .ensures) (not-true _ (c .if1 .taken)) (a .station .0) (a .cart .0) (length (now (a .buffer))) in (met, refusal-leaves (lent wholeFloor (now (a .stations)) (now (a .carts)) (now (a .messages)) (now (a .lines)) (now (a .texts))) (lent wholeFloor (now (a .stations)) (now (a .carts)) (now (a .messages)) (now (a .lines)) (now (a .texts))) (radio (a .station .0) (a .cart .0) (length (now (a .buffer)))) 5 (now (a .buffer)) met)
+returns c =
+    let a = c .before .before .before .before .before .before .before .before .before .before .before .args in
+    let L = lent wholeFloor (now (a .stations)) (now (a .carts)) (now (a .messages)) (now (a .lines)) (now (a .texts)) in
+    delivers-refused L L (a .station .0) (a .cart .0) (now (a .buffer)) 5
+    (broken-radio L _ (c .before .passes .ensures) (not-true _ (c .if1 .taken)) (a .station .0) (a .cart .0) (length (now (a .buffer))))
 
-radio-requires : tie.Need-radio-requires
-radio-requires c κs = (wholeFloor, sym (c .before .before .before .before .passes .ensures) ∙ not-false _ (c .before .before .before .if1 .left))
-
-enum-known-handing : tie.Need-enum-known-handing
-enum-known-handing c = search needs
-
-enum-told : tie.Need-enum-told
-enum-told c = search needs
-
-refusal-requires : tie.Need-refusal-requires
-refusal-requires c κs = search needs
+radio-into-requires : tie.Need-radio-into-requires
+radio-into-requires c κs = (wholeFloor, sym (c .before .before .before .before .before .passes .ensures) ∙ not-false _ (c .before .before .before .before .if1 .left))
 
 same-length-4 : tie.Need-same-length-4
 same-length-4 c = search needs
@@ -48,26 +42,11 @@ same-length-5 c = search needs
 same-length-6 : tie.Need-same-length-6
 same-length-6 c = search needs
 
-returns-2 : tie.Need-returns-2
-returns-2 c = let a = c .before .before .before .before .before .before .before .before .before .before .before .before .before .before .before .before .before .before .before .before .before .before .before .before .args in let met = unserved (lent wholeFloor (now (a .stations)) (now (a .carts)) (now (a .messages)) (now (a .lines)) (now (a .texts))) _ (radio (a .station .0) (a .cart .0) (length (now (a .buffer)))) (now (a .texts)) (c .before .before .before .before .before .before .before .before .before .radio .result) (c .refusal .result) (c .refusal .ensures) (c .before .before .before .before .before .before .before .before .before .radio .ensures .0 wholeFloor (sym (c .before .before .before .before .before .before .before .before .before .before .before .before .before .before .passes .ensures) ∙ not-false _ (c .before .before .before .before .before .before .before .before .before .before .before .before .before .if1 .left))) (c .before .before .match .keys2) in (met, refusal-leaves (lent wholeFloor (now (a .stations)) (now (a .carts)) (now (a .messages)) (now (a .lines)) (now (a .texts))) _ (radio (a .station .0) (a .cart .0) (length (now (a .buffer)))) _ (now (a .buffer)) met)
-
-copy-text-requires : tie.Need-copy-text-requires
-copy-text-requires c κs = let a = c .before .before .before .before .before .before .before .before .before .before .before .before .before .before .before .before .before .before .before .before .before .before .before .before .before .args in copy-asks (now (a .texts)) _ (c .before .before .before .before .before .before .before .before .before .before .radio .result) _ _ _ _ _ _ (c .before .before .handing .given .1) (c .before .before .before .before .before .before .before .before .before .before .radio .ensures .1 .0) (c .before .before .before .before .before .before .before .before .before .before .radio .ensures .1 .1)
-
 same-length-7 : tie.Need-same-length-7
 same-length-7 c = search needs
 
-same-length-8 : tie.Need-same-length-8
-same-length-8 c = search needs
-
-same-length-9 : tie.Need-same-length-9
-same-length-9 c = search needs
-
-same-length-10 : tie.Need-same-length-10
-same-length-10 c = search needs
-
-returns-3 : tie.Need-returns-3
-returns-3 c = let a = c .before .before .before .before .before .before .before .before .before .before .before .before .before .before .before .before .before .before .before .before .before .before .before .before .before .before .before .before .args in let asks = copy-asks (now (a .texts)) _ (c .before .before .before .before .before .before .before .before .before .before .before .before .before .radio .result) _ _ _ _ _ _ (c .before .before .before .before .before .handing .given .1) (c .before .before .before .before .before .before .before .before .before .before .before .before .before .radio .ensures .1 .0) (c .before .before .before .before .before .before .before .before .before .before .before .before .before .radio .ensures .1 .1) in (served (lent wholeFloor (now (a .stations)) (now (a .carts)) (now (a .messages)) (now (a .lines)) (now (a .texts))) _ (radio (a .station .0) (a .cart .0) (length (now (a .buffer)))) (now (a .texts)) (c .before .before .before .before .before .before .before .before .before .before .before .before .before .radio .result) _ _ _ _ _ _ (c .before .before .before .before .before .handing .given .1) (c .before .before .before .before .before .before .before .before .before .before .before .before .before .radio .ensures .0 wholeFloor (sym (c .before .before .before .before .before .before .before .before .before .before .before .before .before .before .before .before .before .before .passes .ensures) ∙ not-false _ (c .before .before .before .before .before .before .before .before .before .before .before .before .before .before .before .before .before .if1 .left))) (asks .0) (asks .1) (now (a .buffer)) _ (c .before .before .copy-text .ensures .0), written (lent wholeFloor (now (a .stations)) (now (a .carts)) (now (a .messages)) (now (a .lines)) (now (a .texts))) _ (radio (a .station .0) (a .cart .0) (length (now (a .buffer)))) (now (a .texts)) (c .before .before .before .before .before .before .before .before .before .before .before .before .before .radio .result) _ _ _ _ _ _ (c .before .before .before .before .before .handing .given .1) (c .before .before .before .before .before .before .before .before .before .before .before .before .before .radio .ensures .0 wholeFloor (sym (c .before .before .before .before .before .before .before .before .before .before .before .before .before .before .before .before .before .before .passes .ensures) ∙ not-false _ (c .before .before .before .before .before .before .before .before .before .before .before .before .before .before .before .before .before .if1 .left))) (asks .0) (asks .1) (now (a .buffer)) _ (c .before .before .copy-text .ensures .0))
+returns-2 : tie.Need-returns-2
+returns-2 c = c .before .before .before .before .before .before .before .before .radio-into .ensures wholeFloor (sym (c .before .before .before .before .before .before .before .before .before .before .before .before .before .before .passes .ensures) ∙ not-false _ (c .before .before .before .before .before .before .before .before .before .before .before .before .before .if1 .left))
 
 pub radio-spec : {M : Type 1} → statement M
 radio-spec =
@@ -78,17 +57,9 @@ radio-spec =
     same-length-2
     same-length-3
     returns
-    radio-requires
-    enum-known-handing
-    enum-told
-    refusal-requires
+    radio-into-requires
     same-length-4
     same-length-5
     same-length-6
-    returns-2
-    copy-text-requires
     same-length-7
-    same-length-8
-    same-length-9
-    same-length-10
-    returns-3)
+    returns-2)

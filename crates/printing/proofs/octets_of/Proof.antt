@@ -1,6 +1,6 @@
 -- `printing::octets_of` meets its contract.
 use mathlib.Core.Path.{sym, ap}
-use Rattle.printing.specs.Reports.{octetsIn}
+use Rattle.answers.specs.Answers.{octetsIn}
 use Rattle.printing.proofs.Values.{no-octets}
 use borrow.Author.Needs.{needs}
 use Rattle.printing.proofs.octets_of.Statement.{statement}
