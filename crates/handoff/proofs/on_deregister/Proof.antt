@@ -35,7 +35,7 @@ push-back-requires : tie.Need-push-back-requires
 push-back-requires c κs =
     let s = c .before .before .before .before .before .before .before .before .before .before .before .before .before .before .before .before .before .before .before .before .before in
     let r = c .before .before .before .before .put-register .ensures in
-    (s .pre .1 .2, s .pre .1 .3, r .formed, omega (arith, s .pre .1 .1, r .same, r .room))
+    (omega (arith, s .pre .1 .2, s .pre .1 .3), omega (arith, s .pre .1 .2, s .pre .1 .3), r .formed, omega (arith, s .pre .1 .1, r .same, r .room))
 
 same-length : tie.Need-same-length
 same-length c = search needs
