@@ -1,21 +1,21 @@
 -- ONE FRAME OF THE RUN: from the state of a run to the state of the run with one frame more.
 use mathlib.Core.Path.{_≡_, refl, sym, ap, ap₂, _∙_, subst}
-use mathlib.Core.Bool.{Bool, true, false, not, cond, _&&_}
+use mathlib.Core.Bool.{Bool, true, false, not, cond, _&&_, _||_}
 use mathlib.Core.List.{List, [], _∷_, _++_}
 use Prim.{tt}
-use Prim.Native.Nat.{ℕ, _*_, suc, _+_, _≤_}
+use Prim.Native.Nat.{ℕ, _*_, suc, _+_, _-_, _≤_}
 use native.Mathlib.Omega.{arith}
 use lib.Dec.{eqb}
 use lib.ListN.{length, drop, length-append}
 use borrow.Author.Tests.{eqb-true, eq-eqb, ne-eqb, not-true, not-false}
 use denote.Enum.Declared.{tagOf}
 use types.Run.{OneOf, miss}
-use Rattle.protocol.proofs.Tests.{and-left, and-right}
+use Rattle.protocol.proofs.Tests.{and-left, and-right, or-cases, or-false, by-lt, by-eq, clash}
 use Rattle.protocol.specs.Floor.{Product, wholeFloor, limits, limitsOf, Floor}
 use Rattle.protocol.specs.Events.{refused}
 use Rattle.protocol.specs.Events as events
 use Rattle.protocol.specs.Step.{step, answer}
-use Rattle.protocol.specs.Frames.{Reading, refusedFrame, taken, readAt}
+use Rattle.protocol.specs.Frames.{Fields, Reading, end, refusedFrame, taken, fieldsOf, fieldsRefusal, readAt}
 use Rattle.protocol.specs.Printed.{lineOf}
 use Rattle.view.specs.View.{Lent, floorIn}
 use Rattle.view.proofs.Lengths.{lengths-of}
@@ -26,7 +26,9 @@ use Rattle.frames.specs.declared.Event.{Event}
 use Rattle.frames.specs.declared.Event.the-variants.{Start, Enter, Send, Wire, Radio, Move}
 use Rattle.frames.specs.declared.Reading as decoder
 use Rattle.frames.specs.declared.Reading.the-variants.{End, Refused, Taken}
-use Rattle.frames.specs.Decoded.{eventIn, sizeOf, readingIn}
+use Rattle.frames.specs.Decoded.{eventIn, sizeOf, readingIn, refusalNumber, refusalOf}
+use Rattle.frames.proofs.Laws.{nothing-left, cut-frame, refused-frame, taken-frame}
+use Rattle.frames.proofs.Values.{same-number}
 use Rattle.frames.proofs.Reading.{the-type as reading-type}
 use Rattle.running.specs.declared.Progress.{Progress}
 use Rattle.running.specs.Piece.{Ran, runFrom}
@@ -52,18 +54,58 @@ took index L L′ out out′ p r e size a R same met line read frames state =
       state = state;
     }
 
--- a cut frame at the end of a piece that is not the last
-pub not-cut : (number : ℕ) (last : Bool) → (number ≡ 1 → ⊥) → false ≡ (eqb number 1 && not last)
-not-cut number last n = rw (ne-eqb number 1 n) refl
+-- IS NO WHOLE FRAME THERE: what the code asks of a refusal's number, which is 0 where there is none
+abbrev pub none-whole : ℕ → Bool → Bool
+none-whole number last = eqb number 0 || (eqb number 1 && not last)
 
-pub cut : (number : ℕ) (last : Bool) → number ≡ 1 → not last ≡ (eqb number 1 && not last)
-cut number last e = rw (eq-eqb number 1 e) refl
+pub at-end : (number : ℕ) (last : Bool) → number ≡ 0 → true ≡ none-whole number last
+at-end number last e = rw (eq-eqb number 0 e) refl
 
--- and one that is refused is not
-pub cut-only-last : (number : ℕ) (last b : Bool) → b ≡ (eqb number 1 && not last) → b ≡ false → number ≡ 1 → last ≡ true
-cut-only-last number last b e f q =
-    let there : not last ≡ false = ap (λ (x : Bool). x && not last) (sym (eq-eqb number 1 q)) ∙ sym e ∙ f in
-    not-false last there
+pub not-cut : (number : ℕ) (last : Bool) → (number ≡ 0 → ⊥) → (number ≡ 1 → ⊥) → false ≡ none-whole number last
+not-cut number last z n = rw (ne-eqb number 0 z, ne-eqb number 1 n) refl
+
+pub cut : (number : ℕ) (last : Bool) → (number ≡ 0 → ⊥) → number ≡ 1 → not last ≡ none-whole number last
+cut number last z e = rw (ne-eqb number 0 z, eq-eqb number 1 e) refl
+
+-- a frame's refusal is never 0
+some-number : (l : List ℕ) (at r : ℕ) → readAt limits l at ≡ refusedFrame r → r ≡ 0 → ⊥
+some-number l at r q z =
+    by-lt at (length l)
+    (λ h. by-lt (length l - at) 16
+    (λ s. let w : r ≡ 1 = cc (cut-frame l at h s) in omega arith)
+    (λ s. by-eq (fieldsRefusal limits f (length l - at - 16)) 0
+    (λ e. let w : _≡_ {A = ℕ} 0 1 = cc (taken-frame l at f s refl (sym e)) in omega arith)
+    (λ e. let w : r ≡ fieldsRefusal limits f (length l - at - 16) = cc (refused-frame l at f s refl _ refl e) in e (sym w ∙ z))))
+    (λ h. let w : _≡_ {A = ℕ} 0 1 = cc (nothing-left l at h) in omega arith)
+  where
+    f : Fields
+    f = fieldsOf (drop at l)
+
+-- what stands there is no event
+abbrev NoEvent : Reading → Type 0
+NoEvent end = Unit {0}
+NoEvent (refusedFrame r) = Unit {0}
+NoEvent (taken e size) = ⊥
+
+waits-at : (last : Bool) (r : Reading) (number : ℕ) → NoEvent r → ((n : ℕ) → r ≡ refusedFrame n → n ≡ 0 → ⊥) → number ≡ refusalNumber r → none-whole number last ≡ true
+    → NoneWhole last r
+waits-at last end number h some e t = tt
+waits-at last (refusedFrame n) number h some e t =
+    or-cases (eqb number 0) (eqb number 1 && not last) t
+    (λ z. absurd (some n refl (sym e ∙ eqb-true number 0 z)))
+    (λ z. (sym e ∙ eqb-true number 1 (and-left (eqb number 1) (not last) z), not-true last (and-right (eqb number 1) (not last) z)))
+waits-at last (taken x size) number h some e t = absurd h
+
+refused-at : (last : Bool) (r : Reading) (number : ℕ) → NoEvent r → number ≡ refusalNumber r → none-whole number last ≡ false
+    → (r ≡ refusedFrame number) × (number ≡ 1 → last ≡ true)
+refused-at last end number h e f = clash (none-whole number last) (sym (at-end number last e)) f
+refused-at last (refusedFrame n) number h e f = (
+      ap refusedFrame (sym e),
+      λ one.
+      let whole : not last ≡ false = ap (λ (x : Bool). x && not last) (sym (eq-eqb number 1 one)) ∙ or-false (eqb number 0) (eqb number 1 && not last) f .1 in
+      not-false last whole,
+    )
+refused-at last (taken x size) number h e f = absurd h
 
 -- THE STATE OF A RUN, one line further
 module _ (R : Ran) (L L′ : Lent) (out₀ out out′ : List ℕ) (p r : Progress) (most : ℕ) (line : List ℕ) (now-in : InRun R L out₀ out p)
@@ -180,22 +222,22 @@ module _ (input : List ℕ) (index : ℕ) (last : Bool) (L : Lent) (out : List �
 
 -- WHAT THE DECODER SAID of the frame there
 module _ (input : List ℕ) (at : ℕ) (last : Bool) (said : decoder.Reading) (read : readingIn (drop at input) said ≡ readAt limits input at) where
-  pub none-left : OneOf (0 ∷ []) (tagOf reading-type said) → NoneWhole last (readAt limits input at)
-  none-left k = subst (λ (x : Reading). NoneWhole last x) read (by said k)
+  no-event : OneOf (0 ∷ 1 ∷ []) (tagOf reading-type said) → NoEvent (readAt limits input at)
+  no-event k = subst NoEvent read (by said k)
     where
-      by : (x : decoder.Reading) → OneOf (0 ∷ []) (tagOf reading-type x) → NoneWhole last (readingIn (drop at input) x)
+      by : (x : decoder.Reading) → OneOf (0 ∷ 1 ∷ []) (tagOf reading-type x) → NoEvent (readingIn (drop at input) x)
       by End k = tt
-      by (Refused n) k = absurd (miss (0 ∷ []) 1 tt k)
-      by (Taken e) k = absurd (miss (0 ∷ []) 2 tt k)
+      by (Refused n) k = tt
+      by (Taken e) k = absurd (miss (0 ∷ 1 ∷ []) 2 tt k)
 
-  pub refused-there : (number : ℕ) → said ≡ Refused number → readAt limits input at ≡ refusedFrame number
-  refused-there number q = sym read ∙ ap (readingIn (drop at input)) q
+  pub waits-there : OneOf (0 ∷ 1 ∷ []) (tagOf reading-type said) → (number : ℕ) (b : Bool) → number ≡ refusalOf said → b ≡ none-whole number last → b ≡ true
+      → NoneWhole last (readAt limits input at)
+  waits-there k number b e q t =
+      waits-at last (readAt limits input at) number (no-event k) (some-number input at) (e ∙ same-number input at said read) (sym q ∙ t)
 
-  pub cut-left : (number : ℕ) (b : Bool) → said ≡ Refused number → b ≡ (eqb number 1 && not last) → b ≡ true → NoneWhole last (readAt limits input at)
-  cut-left number b q e t =
-      let both : (eqb number 1 && not last) ≡ true = sym e ∙ t in
-      subst (λ (x : Reading). NoneWhole last x) (sym (refused-there number q))
-      (eqb-true number 1 (and-left (eqb number 1) (not last) both), not-true last (and-right (eqb number 1) (not last) both))
+  pub refused-there : OneOf (0 ∷ 1 ∷ []) (tagOf reading-type said) → (number : ℕ) (b : Bool) → number ≡ refusalOf said → b ≡ none-whole number last → b ≡ false
+      → (readAt limits input at ≡ refusedFrame number) × (number ≡ 1 → last ≡ true)
+  refused-there k number b e q f = refused-at last (readAt limits input at) number (no-event k) (e ∙ same-number input at said read) (sym q ∙ f)
 
   pub taken-there : (e : Event) → said ≡ Taken e → readAt limits input at ≡ taken (eventIn (drop at input) e) (sizeOf e)
   taken-there e q = sym read ∙ ap (readingIn (drop at input)) q

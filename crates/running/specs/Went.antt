@@ -39,7 +39,9 @@ EndsRun last (refusedFrame r) = r ≡ 1 → last ≡ true
 EndsRun last (taken e size) = ⊥
 
 -- THE PIECE WAS RUN, from L and the output out, to L′ and out′: as many frames as are counted, which is the written run over them. It stopped
--- because a frame was refused (2), because no whole frame is left (1), or because the output has no room for another line (0)
+-- because a frame was refused (2), because no whole frame is left (1), or because the output has no room for another line (0). One thing is left
+-- open: where no whole frame is left and the output has no room either, 0 and 1 are both right. The rules say what is printed, not when; after 0 the
+-- run goes on with the same octets and an empty output, prints nothing, and says 1
 pub record Went (input : List ℕ) (index : ℕ) (last : Bool) (L L′ : Lent) (out out′ : List ℕ) (p : Progress) : Type 0 where
   pub ready : Ready L′
   pub run : InRun (runFrom (p .frames) (floorIn L) index input) L′ out out′ p

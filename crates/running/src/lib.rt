@@ -8,7 +8,7 @@ use ids::Station;
 use receiving::Handing;
 use report::Report;
 ghost use mathlib.Core.Path.{_≡_};
-ghost use mathlib.Core.Bool.{true, false, not, _&&_};
+ghost use mathlib.Core.Bool.{true, false, not, _&&_, _||_};
 ghost use mathlib.Core.List.{List, []};
 ghost use Prim.Native.Nat.{ℕ, _+_, _*_, _<_, _≤_};
 ghost use lib.Dec.{eqb, leb};
@@ -319,10 +319,13 @@ fn waiting(p: Progress) -> Progress
     }
 }
 
-// A frame that is cut short at the end of the piece, where more input may come, is not refused yet.
-fn may_come(number: u64, last: bool) -> bool
-    ensures { λ r. ⌜ r ≡ (eqb number 1 && not last) ⌝ }
+// Is no whole frame there? No octet is left, which has no refusal; or the frame is cut short at the end of the piece, where more input may come.
+fn none_whole(number: u64, last: bool) -> bool
+    ensures { λ r. ⌜ r ≡ (eqb number 0 || (eqb number 1 && not last)) ⌝ }
 {
+    if number == 0 {
+        return true;
+    }
     if number != CUT {
         return false;
     }
@@ -387,7 +390,8 @@ fn refuse(output: &mut [u8], index: u64, p: Progress, number: u64) -> Progress
     }
 }
 
-// The frame behind those that were run, if a whole one is there; `last` says that no more input comes behind the piece.
+// The frame behind those that were run, if a whole one is there; `last` says that no more input comes behind the piece. "A frame is either taken
+// apart into one event or refused."
 fn take_frame(
     input: &[u8],
     output: &mut [u8],
@@ -407,29 +411,26 @@ fn take_frame(
     ensures { λ r. ⌜ Turned (now (input .entry)) index last (lent wholeFloor (now (stations .entry)) (now (carts .entry)) (now (messages .entry)) (now (lines .entry)) (now (texts .entry))) (lent wholeFloor (now (stations .exit)) (now (carts .exit)) (now (messages .exit)) (now (lines .exit)) (now (texts .exit))) (now (output .entry)) (now (output .exit)) p r ⌝ }
 {
     let reading = frames::frame_at(input, p.read);
-    match reading {
-        Reading::End => waiting(p),
-        Reading::Refused(number) => {
-            if may_come(number, last) {
-                waiting(p)
-            } else {
-                refuse(output, index, p, number)
-            }
+    let Reading::Taken(e) = reading else {
+        let number = frames::refusal(reading);
+        if none_whole(number, last) {
+            return waiting(p);
         }
-        Reading::Taken(e) => take_event(
-            input,
-            output,
-            stations,
-            carts,
-            messages,
-            lines,
-            texts,
-            numbers,
-            index,
-            p,
-            e,
-        ),
-    }
+        return refuse(output, index, p, number);
+    };
+    take_event(
+        input,
+        output,
+        stations,
+        carts,
+        messages,
+        lines,
+        texts,
+        numbers,
+        index,
+        p,
+        e,
+    )
 }
 
 // Nothing stopped the run yet, and the output has room for another line.
