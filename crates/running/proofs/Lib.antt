@@ -3,3 +3,5 @@ pub mod Events
 pub mod Turns
 pub mod Loop
 pub mod Whole
+pub mod Printed
+pub mod Frames

@@ -36,7 +36,7 @@ abbrev pub onward : Ran → ℕ → Reading → Ran
 onward R index r = cond (R .ended) R (more R index r)
 
 -- a run with a frame before it
-abbrev behind : List ℕ → ℕ → Ran → Ran
+abbrev pub behind : List ℕ → ℕ → Ran → Ran
 behind line size R = record { count = suc (R .count); printed = line ++ R .printed; floor = R .floor; octets = size + R .octets; ended = R .ended }
 
 behind-more : (line : List ℕ) (size : ℕ) (R : Ran) (index : ℕ) (r : Reading) → behind line size (onward R index r) ≡ onward (behind line size R) index r

@@ -100,11 +100,11 @@ refused-at : (last : Bool) (r : Reading) (number : ℕ) → NoEvent r → number
     → (r ≡ refusedFrame number) × (number ≡ 1 → last ≡ true)
 refused-at last end number h e f = clash (none-whole number last) (sym (at-end number last e)) f
 refused-at last (refusedFrame n) number h e f = (
-      ap refusedFrame (sym e),
-      λ one.
+  ap refusedFrame (sym e),
+  λ one.
       let whole : not last ≡ false = ap (λ (x : Bool). x && not last) (sym (eq-eqb number 1 one)) ∙ or-false (eqb number 0) (eqb number 1 && not last) f .1 in
       not-false last whole,
-    )
+)
 refused-at last (taken x size) number h e f = absurd h
 
 -- THE STATE OF A RUN, one line further

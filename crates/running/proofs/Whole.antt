@@ -2,7 +2,7 @@
 use mathlib.Core.Path.{_≡_, refl, sym, ap, ap₂, _∙_, subst}
 use mathlib.Core.Bool.{Bool, true, false, not}
 use mathlib.Core.List.{List, [], _++_, append-assoc}
-use Prim.Native.Nat.{ℕ, zero, suc, _+_, _-_, _/_, _%_, _≤_}
+use Prim.Native.Nat.{ℕ, zero, suc, _+_, _-_, _/_, _%_, _≤_, _<_}
 use native.Mathlib.Omega.{arith}
 use lib.Dec.{eqb, ltb}
 use lib.ListN.{length, take, drop, length-append, length-drop}
@@ -19,8 +19,9 @@ use Rattle.frames.proofs.Laws.{nothing-left, cut-frame, refused-frame, taken-fr
 use Rattle.frames.proofs.Values.{taken-inside}
 use Rattle.view.specs.View.{Lent, floorIn}
 use Rattle.running.specs.declared.Progress.{Progress}
-use Rattle.running.specs.Piece.{Ran, runFrom}
+use Rattle.running.specs.Piece.{Ran, still, runFrom}
 use Rattle.running.specs.Went.{EndsRun, Went}
+use Rattle.running.proofs.Pieces.{prints, behind}
 
 -- the fields are in the first sixteen octets
 fields-stand : (p q : List ℕ) → 16 ≤ length p → fieldsOf p ≡ fieldsOf (p ++ q)
@@ -92,8 +93,23 @@ frame-stands p q some whole =
     sym (refused-frame (p ++ q) 0 f (omega arith) fields r (sym (ap (fieldsRefusal limits f) behind ∙ refusal-stands f (length p - 0 - 16) (length q) r refl n other)) n)
     ∙ refused-frame p 0 f (omega arith) refl r refl n))))
 
+-- a frame that is taken has sixteen octets at least, and they are there
+taken-front : (l : List ℕ) (e : Event) (size : ℕ) → frameOf limits l ≡ taken e size → (16 ≤ size) × (size ≤ length l)
+unfolding readAt
+taken-front l e size q =
+    let inside = taken-inside l 0 e size q in (
+      by-lt (length l) 1
+          (λ h. absurd (let z : _≡_ {A = ℕ} 0 1 = cc (nothing-left l 0 (omega arith)) in omega arith))
+          (λ h. by-lt (length l) 16
+          (λ s. absurd (let z : _≡_ {A = ℕ} 0 1 = cc (cut-frame l 0 (omega arith) (omega arith)) in omega arith))
+          (λ s. by-eq (fieldsRefusal limits (fieldsOf l) (length l - 0 - 16)) 0
+          (λ r. let w : size ≡ 16 + fieldsOf l .length = cc (taken-frame l 0 (fieldsOf l) (omega arith) refl (sym r)) in omega arith)
+          (λ r. absurd (let z : _≡_ {A = ℕ} 0 1 = cc (refused-frame l 0 (fieldsOf l) (omega arith) refl _ refl r) in omega arith)))),
+      (let y = inside .0 in omega arith),
+    )
+
 -- SO MANY FRAMES of a piece, all of them there and none cut, are as many frames of the whole
-stands : (n : ℕ) (F : Floor) (index : ℕ) (p q : List ℕ) → runFrom n F index p .count ≡ n
+pub stands : (n : ℕ) (F : Floor) (index : ℕ) (p q : List ℕ) → runFrom n F index p .count ≡ n
     → (runFrom n F index p .ended ≡ true → readAt limits p (runFrom n F index p .octets) ≡ refusedFrame 1 → ⊥) → runFrom n F index (p ++ q) ≡ runFrom n F index p
 unfolding runFrom readAt
 stands zero F index p q all uncut = refl
@@ -137,25 +153,41 @@ piece-of-whole input index L L′ out out′ p w later =
     let never : _≡_ {A = Bool} false true = subst (λ (x : Reading). EndsRun false x) there over refl in
     clash false never refl)
 
--- AND THE REST FOLLOWS: the printed run is what so many frames print, and then the printed run of the octets behind them
-pub lines-go-on : (n k : ℕ) (F : Floor) (index : ℕ) (l : List ℕ) → runFrom n F index l .count ≡ n → runFrom n F index l .ended ≡ false
-    → linesFrom limits (n + k) F index l ≡ runFrom n F index l .printed ++ linesFrom limits k (runFrom n F index l .floor) (index + n) (drop (runFrom n F index l .octets) l)
-unfolding runFrom linesFrom
-lines-go-on zero k F index l all goes =
+-- a run, and one behind it
+abbrev pub joined : Ran → Ran → Ran
+joined R X = record { count = R .count + X .count; printed = R .printed ++ X .printed; floor = X .floor; octets = R .octets + X .octets; ended = X .ended }
+
+joined-still : (F : Floor) (X : Ran) → X ≡ joined (still F) X
+joined-still F X =
+    let counts : X .count ≡ 0 + X .count = omega arith in
+    let sizes : X .octets ≡ 0 + X .octets = omega arith in
+    λ i. record { count = counts i; printed = X .printed; floor = X .floor; octets = sizes i; ended = X .ended }
+
+behind-joined : (line : List ℕ) (size : ℕ) (R X : Ran) → behind line size (joined R X) ≡ joined (behind line size R) X
+behind-joined line size R X =
+    let counts : suc (R .count + X .count) ≡ suc (R .count) + X .count = omega arith in
+    let sizes : size + (R .octets + X .octets) ≡ size + R .octets + X .octets = omega arith in
+    λ i. record { count = counts i; printed = sym (append-assoc line (R .printed) (X .printed)) i; floor = X .floor; octets = sizes i; ended = X .ended }
+
+-- AND THE REST FOLLOWS: a run of more frames is the run of so many, and then the run over the octets behind them
+pub runs-go-on : (n k : ℕ) (F : Floor) (index : ℕ) (l : List ℕ) → runFrom n F index l .count ≡ n → runFrom n F index l .ended ≡ false
+    → runFrom (n + k) F index l ≡ joined (runFrom n F index l) (runFrom k (runFrom n F index l .floor) (index + n) (drop (runFrom n F index l .octets) l))
+unfolding runFrom
+runs-go-on zero k F index l all goes =
     let none : 0 + k ≡ k = omega arith in
-    let plus : index + 0 ≡ index = omega arith in
-    ap₂ (λ (m i : ℕ). linesFrom limits m F i l) none (sym plus)
-lines-go-on (suc n) k F index l all goes =
-    by (frameOf limits l) refl (λ e size. lines-go-on n k (step limits F e) (suc index) (drop size l)) all goes
+    let plus : index ≡ index + 0 = omega arith in
+    ap₂ (λ (m i : ℕ). runFrom m F i l) none plus ∙ joined-still F (runFrom k F (index + 0) l)
+runs-go-on (suc n) k F index l all goes =
+    by (frameOf limits l) refl (λ e size. runs-go-on n k (step limits F e) (suc index) (drop size l)) all goes
   where
     by : (r : Reading) → frameOf limits l ≡ r
         → ((e : Event) (size : ℕ) → runFrom n (step limits F e) (suc index) (drop size l) .count ≡ n → runFrom n (step limits F e) (suc index) (drop size l) .ended ≡ false
-        → linesFrom limits (n + k) (step limits F e) (suc index) (drop size l)
-        ≡ runFrom n (step limits F e) (suc index) (drop size l) .printed
-        ++ linesFrom limits k (runFrom n (step limits F e) (suc index) (drop size l) .floor) (suc index + n) (drop (runFrom n (step limits F e) (suc index) (drop size l) .octets) (drop size l)))
+        → runFrom (n + k) (step limits F e) (suc index) (drop size l)
+        ≡ joined (runFrom n (step limits F e) (suc index) (drop size l))
+        (runFrom k (runFrom n (step limits F e) (suc index) (drop size l) .floor) (suc index + n) (drop (runFrom n (step limits F e) (suc index) (drop size l) .octets) (drop size l))))
         → runFrom (suc n) F index l .count ≡ suc n → runFrom (suc n) F index l .ended ≡ false
-        → linesFrom limits (suc n + k) F index l
-        ≡ runFrom (suc n) F index l .printed ++ linesFrom limits k (runFrom (suc n) F index l .floor) (index + suc n) (drop (runFrom (suc n) F index l .octets) l)
+        → runFrom (suc n + k) F index l
+        ≡ joined (runFrom (suc n) F index l) (runFrom k (runFrom (suc n) F index l .floor) (index + suc n) (drop (runFrom (suc n) F index l .octets) l))
     by end e h all goes = absurd (let z : 0 ≡ suc n = rw (e, runFrom) at all in omega arith)
     by (refusedFrame r) e h all goes = absurd (let z : _≡_ {A = Bool} true false = rw (e, runFrom) at goes in clash true refl z)
     by (taken ev size) e h all goes =
@@ -166,8 +198,71 @@ lines-go-on (suc n) k F index l all goes =
         let one-more : suc n + k ≡ suc (n + k) = omega arith in
         let sums : suc index + n ≡ index + suc n = omega arith in
         let rest = h ev size (omega arith) on in
-        ap (λ (m : ℕ). linesFrom limits m F index l) one-more
-        ∙ rw (e, linesFrom, runFrom)
-        (ap (λ (x : List ℕ). line ++ x) rest
-        ∙ sym (append-assoc line (R .printed) (linesFrom limits k (R .floor) (suc index + n) (drop (R .octets) (drop size l))))
-        ∙ ap₂ (λ (i : ℕ) (m : List ℕ). line ++ R .printed ++ linesFrom limits k (R .floor) i m) sums (drop-drop (R .octets) size l))
+        ap (λ (m : ℕ). runFrom m F index l) one-more
+        ∙ rw (e, runFrom)
+        (ap (behind line size) rest
+        ∙ behind-joined line size R (runFrom k (R .floor) (suc index + n) (drop (R .octets) (drop size l)))
+        ∙ ap₂ (λ (i : ℕ) (m : List ℕ). joined (behind line size R) (runFrom k (R .floor) i m)) sums (drop-drop (R .octets) size l))
+
+-- so the printed run is what so many frames print, and then the printed run of the octets behind them
+pub lines-go-on : (n k : ℕ) (F : Floor) (index : ℕ) (l : List ℕ) → runFrom n F index l .count ≡ n → runFrom n F index l .ended ≡ false
+    → linesFrom limits (n + k) F index l ≡ runFrom n F index l .printed ++ linesFrom limits k (runFrom n F index l .floor) (index + n) (drop (runFrom n F index l .octets) l)
+lines-go-on n k F index l all goes =
+    let R = runFrom n F index l in
+    sym (prints (n + k) F index l)
+    ∙ ap (λ (X : Ran). X .printed) (runs-go-on n k F index l all goes)
+    ∙ ap (λ (x : List ℕ). R .printed ++ x) (prints k (R .floor) (index + n) (drop (R .octets) l))
+
+-- behind a frame that ended the run nothing is run
+pub runs-end : (n k : ℕ) (F : Floor) (index : ℕ) (l : List ℕ) → runFrom n F index l .ended ≡ true → runFrom (n + k) F index l ≡ runFrom n F index l
+unfolding runFrom
+runs-end zero k F index l over = clash false over refl
+runs-end (suc n) k F index l over = by (frameOf limits l) refl (λ e size. runs-end n k (step limits F e) (suc index) (drop size l)) over
+  where
+    one-more : suc n + k ≡ suc (n + k)
+    one-more = omega arith
+
+    by : (r : Reading) → frameOf limits l ≡ r
+        → ((e : Event) (size : ℕ) → runFrom n (step limits F e) (suc index) (drop size l) .ended ≡ true
+        → runFrom (n + k) (step limits F e) (suc index) (drop size l) ≡ runFrom n (step limits F e) (suc index) (drop size l))
+        → runFrom (suc n) F index l .ended ≡ true → runFrom (suc n + k) F index l ≡ runFrom (suc n) F index l
+    by end e h over = let z : _≡_ {A = Bool} false true = rw (e, runFrom) at over in clash false z refl
+    by (refusedFrame r) e h over = ap (λ (m : ℕ). runFrom m F index l) one-more ∙ rw (e, runFrom) refl
+    by (taken ev size) e h over =
+        let ended : runFrom n (step limits F ev) (suc index) (drop size l) .ended ≡ true = rw (e, runFrom) at over in
+        ap (λ (m : ℕ). runFrom m F index l) one-more ∙ rw (e, runFrom) (ap (behind (lineOf index (answer limits F ev)) size) (h ev size ended))
+
+-- no more octets are run than there are
+pub octets-inside : (n : ℕ) (F : Floor) (index : ℕ) (l : List ℕ) → runFrom n F index l .octets ≤ length l
+unfolding runFrom
+octets-inside zero F index l = omega arith
+octets-inside (suc n) F index l = by (frameOf limits l) refl (λ e size. octets-inside n (step limits F e) (suc index) (drop size l))
+  where
+    by : (r : Reading) → frameOf limits l ≡ r → ((e : Event) (size : ℕ) → runFrom n (step limits F e) (suc index) (drop size l) .octets ≤ length (drop size l))
+        → runFrom (suc n) F index l .octets ≤ length l
+    by end e h = rw (e, runFrom) (omega arith)
+    by (refusedFrame r) e h = rw (e, runFrom) (omega arith)
+    by (taken ev size) e h =
+        let inside = taken-front l ev size e in
+        let rest = h ev size in
+        let z = length-drop size l in
+        rw (e, runFrom) (omega arith)
+
+-- with more turns than octets there are enough: every frame has an octet at least
+pub turns-enough : (n k : ℕ) (F : Floor) (index : ℕ) (l : List ℕ) → length l < n → runFrom (n + k) F index l ≡ runFrom n F index l
+unfolding runFrom
+turns-enough zero k F index l few = absurd (omega arith)
+turns-enough (suc n) k F index l few = by (frameOf limits l) refl (λ e size. turns-enough n k (step limits F e) (suc index) (drop size l))
+  where
+    one-more : suc n + k ≡ suc (n + k)
+    one-more = omega arith
+
+    by : (r : Reading) → frameOf limits l ≡ r
+        → ((e : Event) (size : ℕ) → length (drop size l) < n → runFrom (n + k) (step limits F e) (suc index) (drop size l) ≡ runFrom n (step limits F e) (suc index) (drop size l))
+        → runFrom (suc n + k) F index l ≡ runFrom (suc n) F index l
+    by end e h = ap (λ (m : ℕ). runFrom m F index l) one-more ∙ rw (e, runFrom) refl
+    by (refusedFrame r) e h = ap (λ (m : ℕ). runFrom m F index l) one-more ∙ rw (e, runFrom) refl
+    by (taken ev size) e h =
+        let inside = taken-front l ev size e in
+        let z = length-drop size l in
+        ap (λ (m : ℕ). runFrom m F index l) one-more ∙ rw (e, runFrom) (ap (behind (lineOf index (answer limits F ev)) size) (h ev size (omega arith)))

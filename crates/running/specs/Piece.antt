@@ -1,10 +1,10 @@
 -- THE RUN OVER A PIECE OF INPUT: the first frames of these octets, from a floor and an index; "Refusals 1 to 4 end the run".
 use mathlib.Core.Bool.{Bool, true, false}
-use mathlib.Core.List.{List, [], _++_}
+use mathlib.Core.List.{List, [], _∷_, _++_}
 use Prim.Native.Nat.{ℕ, zero, suc, _+_}
 use lib.ListN.{drop}
 use Rattle.protocol.specs.Floor.{Floor, limits}
-use Rattle.protocol.specs.Events.{refused}
+use Rattle.protocol.specs.Events.{Event, refused}
 use Rattle.protocol.specs.Step.{step, answer}
 use Rattle.protocol.specs.Frames.{end, refusedFrame, taken, frameOf}
 use Rattle.protocol.specs.Printed.{lineOf}
@@ -32,3 +32,8 @@ runFrom (suc n) F index l =
           let rest = runFrom n (step limits F e) (suc index) (drop size l) in
           record { count = suc (rest .count); printed = lineOf index (answer limits F e) ++ rest .printed; floor = rest .floor; octets = size + rest .octets; ended = rest .ended }
     ]
+
+-- the events that the first so many frames of these octets are, up to one that is refused
+unfoldable pub eventsFrom : ℕ → List ℕ → List Event
+eventsFrom zero l = []
+eventsFrom (suc n) l = elim (frameOf limits l) [ end ↦ [] | refusedFrame r ↦ [] | taken e size ↦ e ∷ eventsFrom n (drop size l) ]
