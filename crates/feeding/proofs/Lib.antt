@@ -1,2 +1,5 @@
 pub mod Fresh
 pub mod Moves
+pub mod Stream
+pub mod Feeds
+pub mod Loop

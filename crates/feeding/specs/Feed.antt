@@ -1,8 +1,72 @@
--- WHERE THE PIECE OF INPUT STANDS.
-use Prim.Native.Nat.{ℕ, _≤_}
+-- THE PIECE OF INPUT AND THE STREAM: what the code's numbers say of it.
+use mathlib.Core.Path.{_≡_}
+use mathlib.Core.Bool.{Bool, true, false, cond}
+use mathlib.Core.List.{List}
+use mathlib.Core.Logic.{_⊎_}
+use Prim.Native.Nat.{ℕ, _+_, _-_, _<_, _≤_}
+use lib.Dec.{eqb}
+use lib.IntN.{ℤ, pos, negsuc}
+use lib.ListN.{length, take, drop}
+use Rattle.io.specs.Counts.{clamped}
+use Rattle.protocol.specs.Floor.{Floor}
+use Rattle.view.specs.View.{Lent, floorIn}
+use Rattle.running.specs.declared.Progress.{Progress}
+use Rattle.running.specs.Ready.{Unstarted}
 use Rattle.feeding.specs.declared.Feed.{Feed}
+use Rattle.feeding.specs.declared.Got.{Got}
+use Rattle.feeding.specs.declared.Handed.{Handed}
+use Rattle.feeding.specs.declared.Outcome.{Outcome}
+use Rattle.feeding.specs.Stream.{Stream, begin, Move, stateAfter, after, handed, May, Moves, streamAfter, StreamIs}
 
--- in a piece of n octets
+-- the feed stands in a piece of n octets; where a read is wanted, what is left is less than a whole frame, so the read has room
 pub record Inside (n : ℕ) (f : Feed) : Type 0 where
   pub run : f .at ≤ f .have
   pub read : f .have ≤ n
+  pub few : f .state ≡ 1 → f .have - f .at < 48
+
+-- THE STREAM that a piece of input, the lent floor and the feed say: what is left are the octets from `at` up to `have`
+abbrev pub streamOf : List ℕ → Lent → Feed → Stream
+streamOf input L f = record { left = take (f .have - f .at) (drop (f .at) input); floor = floorIn L; index = f .index; state = f .state; last = f .last }
+
+-- ONE MOVE WAS MADE, from S to S′, and these octets were handed on
+pub record Made (S S′ : Stream) (octets : List ℕ) : Type 0 where
+  pub move : Move
+  pub may : May S move
+  pub leads : S′ ≡ after S move
+  pub hands : octets ≡ handed S move
+
+-- what a read's answer says, where it was handed so many octets to fill: a negative one that it failed
+abbrev pub isFailure : ℤ → Bool
+isFailure (pos n) = false
+isFailure (negsuc n) = true
+
+abbrev pub gotOf : ℤ → ℕ → Got
+gotOf answer room = record { count = clamped answer room; failed = isFailure answer; room = room }
+
+-- the feed after a read, which the octets kept at the front were there before: what it brought stands behind them, and nothing is the input's end
+abbrev pub afterRead : ℕ → Got → Feed → Feed
+afterRead kept got f =
+    cond (got .failed)
+    (record { at = 0; have = kept; index = f .index; state = 3; last = f .last; handed = 0 })
+    (record { at = 0; have = kept + got .count; index = f .index; state = 0; last = eqb (got .count) 0; handed = 0 })
+
+-- the feed after a run: behind the octets and frames that were run
+abbrev pub afterRun : Feed → Progress → Handed → Feed
+afterRun f p h =
+    record { at = f .at + p .read; have = f .have; index = f .index + p .frames; state = stateAfter (p .state) (f .last) (h .accepted); last = f .last; handed = h .size }
+
+-- THE WHOLE RUN from a floor: the moves that were made, and how it came out. It stopped since nothing was to be done, or since 2^63 frames were run or
+-- 2^64 − 1 moves made, which no input uses up
+pub record Finished (F : Floor) (r : Outcome) : Type 0 where
+  pub moves : List Move
+  pub made : Moves (begin F) moves
+  pub frames : r .frames ≡ streamAfter (begin F) moves .index
+  pub state : r .state ≡ streamAfter (begin F) moves .state
+  pub stopped : (2 ≤ r .state) ⊎ ((9223372036854775808 ≤ r .frames) ⊎ (length moves ≡ 18446744073709551615))
+
+-- and it prints the printed run
+pub record Streamed (r : Outcome) : Type 0 where
+  pub floor : Floor
+  pub fresh : Unstarted floor
+  pub finished : Finished floor r
+  pub is : StreamIs floor (finished .moves)

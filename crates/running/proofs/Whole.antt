@@ -7,7 +7,7 @@ use native.Mathlib.Omega.{arith}
 use lib.Dec.{eqb, ltb}
 use lib.ListN.{length, take, drop, length-append, length-drop}
 use lib.Seq.{take-append-le, drop-append-le, drop-drop}
-use borrow.Author.Tests.{lt-ltb, le-ltb, eqb-true}
+use borrow.Author.Tests.{lt-ltb, le-ltb, ltb-true, ltb-false, eqb-true}
 use Rattle.protocol.specs.Floor.{Floor, limits}
 use Rattle.protocol.specs.Events.{Event}
 use Rattle.protocol.specs.Refusals.{check}
@@ -20,7 +20,7 @@ use Rattle.frames.proofs.Values.{taken-inside}
 use Rattle.view.specs.View.{Lent, floorIn}
 use Rattle.running.specs.declared.Progress.{Progress}
 use Rattle.running.specs.Piece.{Ran, still, runFrom}
-use Rattle.running.specs.Went.{EndsRun, Went}
+use Rattle.running.specs.Went.{NoneWhole, EndsRun, Went}
 use Rattle.running.proofs.Pieces.{prints, behind}
 
 -- the fields are in the first sixteen octets
@@ -266,3 +266,36 @@ turns-enough (suc n) k F index l few = by (frameOf limits l) refl (λ e size. tu
         let inside = taken-front l ev size e in
         let z = length-drop size l in
         ap (λ (m : ℕ). runFrom m F index l) one-more ∙ rw (e, runFrom) (ap (behind (lineOf index (answer limits F ev)) size) (h ev size (omega arith)))
+
+-- WHAT IS LESS THAN A WHOLE FRAME
+-- "fewer text octets than the length", which is at most 32
+cut-text : (a b c d : Bool) → check 2 a (check 3 b (check 4 c (check 1 d 0))) ≡ 1 → (c ≡ false) × (d ≡ true)
+cut-text true b c d e = absurd (omega arith)
+cut-text false true c d e = absurd (omega arith)
+cut-text false false true d e = absurd (omega arith)
+cut-text false false false true e = (refl, refl)
+cut-text false false false false e = absurd (omega arith)
+
+cut-short : (f : Fields) (behind : ℕ) → fieldsRefusal limits f behind ≡ 1 → behind < 32
+unfolding fieldsRefusal
+cut-short f behind e =
+    let z = cut-text (ltb 5 (f .kind)) (not (eqb (unlisted f) 0)) (ltb 32 (f .length)) (ltb behind (f .length)) e in
+    let a = ltb-false 32 (f .length) (z .0) in
+    let b = ltb-true behind (f .length) (z .1) in
+    omega arith
+
+-- so what is less than a whole frame has at most 47 octets
+pub few-left : (last : Bool) (l : List ℕ) (at : ℕ) → NoneWhole last (readAt limits l at) → length l - at < 48
+few-left last l at h =
+    by-lt at (length l)
+    (λ s. by-lt (length l - at) 16 (λ z. omega arith)
+    (λ w. by-eq (fieldsRefusal limits f (length l - at - 16)) 0
+    (λ z. absurd (subst (λ (x : Reading). NoneWhole last x) (sym (taken-frame l at f w refl (sym z))) h))
+    (λ z.
+    let one = subst (λ (x : Reading). NoneWhole last x) (sym (refused-frame l at f w refl _ refl z)) h .0 in
+    let short = cut-short f (length l - at - 16) one in
+    omega arith)))
+    (λ s. omega arith)
+  where
+    f : Fields
+    f = fieldsOf (drop at l)

@@ -1,6 +1,6 @@
 -- `feeding::run` meets its contract.
 use mathlib.Core.Path.{sym}
-use Rattle.feeding.proofs.Fresh.{fresh-ready}
+use Rattle.feeding.proofs.Fresh.{fresh-ready, streamed}
 use borrow.Author.Needs.{needs}
 use Rattle.feeding.proofs.run.Statement.{statement}
 use Rattle.feeding.proofs.run.Tie as tie
@@ -55,19 +55,21 @@ slice-aggregate-run-all-8 c = search needs
 
 run-all-requires : tie.Need-run-all-requires
 run-all-requires c κs =
-    let n = c .before .before .before .before .before .before .before .before in
-    let t = n .before in
-    let l = t .before in
-    let m = l .before in
-    let k = m .before in
-    let s = k .before in (
-      fresh-ready _ _ _ _ _ (s .no-stations .ensures) (k .no-carts .ensures) (m .no-messages .ensures) (l .no-lines .ensures) (t .no-texts .ensures),
-      n .all-numbers .ensures,
-      sym (s .before .before .large-buffer .ensures),
-    )
+    let s = c .before .before .before .before .before .before .before .before .before .before .before .before .before .no-stations in
+    let k = c .before .before .before .before .before .before .before .before .before .before .before .before .no-carts in
+    let m = c .before .before .before .before .before .before .before .before .before .before .before .no-messages in
+    let w = c .before .before .before .before .before .before .before .before .before .before .no-lines in
+    let t = c .before .before .before .before .before .before .before .before .before .no-texts in
+    (fresh-ready (s .result) (k .result) (m .result) (w .result) (t .result) (s .ensures) (k .ensures) (m .ensures) (w .ensures) (t .ensures), c .before .before .before .before .before .before .before .before .all-numbers .ensures, sym (c .before .before .before .before .before .before .before .before .before .before .before .before .before .before .before .large-buffer .ensures), sym (c .before .before .before .before .before .before .before .before .before .before .before .before .before .before .large-buffer2 .ensures))
 
 returns : tie.Need-returns
-returns c = search needs
+returns c =
+    let s = c .before .before .before .before .before .before .before .before .before .before .before .before .before .before .before .before .before .before .before .before .before .no-stations in
+    let k = c .before .before .before .before .before .before .before .before .before .before .before .before .before .before .before .before .before .before .before .before .no-carts in
+    let m = c .before .before .before .before .before .before .before .before .before .before .before .before .before .before .before .before .before .before .before .no-messages in
+    let w = c .before .before .before .before .before .before .before .before .before .before .before .before .before .before .before .before .before .before .no-lines in
+    let t = c .before .before .before .before .before .before .before .before .before .before .before .before .before .before .before .before .before .no-texts in
+    streamed (s .result) (k .result) (m .result) (w .result) (t .result) (s .ensures) (k .ensures) (m .ensures) (w .ensures) (t .ensures) (c .before .before .before .before .before .before .before .run-all .result) (c .before .before .before .before .before .before .before .run-all .ensures)
 
 pub run-spec : {M : Type 1} → statement M
 run-spec =

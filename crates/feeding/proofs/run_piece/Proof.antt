@@ -1,9 +1,12 @@
 -- `feeding::run_piece` meets its contract.
-use mathlib.Core.Path.{sym}
+use mathlib.Core.Path.{sym, _∙_}
 use native.Mathlib.Omega.{arith}
 use lib.Seq.{length-take-le}
 use denote.Ref.{now}
+use Rattle.protocol.specs.Floor.{wholeFloor}
+use Rattle.view.specs.View.{lent}
 use Rattle.feeding.proofs.Moves.{part-length}
+use Rattle.feeding.proofs.Feeds.{run-made, run-inside}
 use borrow.Author.Needs.{needs}
 use Rattle.feeding.proofs.run_piece.Statement.{statement}
 use Rattle.feeding.proofs.run_piece.Tie as tie
@@ -20,33 +23,22 @@ part-take-frames-end c = search needs
 take-frames-requires : tie.Need-take-frames-requires
 take-frames-requires c κs = search needs
 
-slice-reshare-prefix-write-all : tie.Need-slice-reshare-prefix-write-all
-slice-reshare-prefix-write-all c = search needs
+slice-reshare-prefix-hand-on : tie.Need-slice-reshare-prefix-hand-on
+slice-reshare-prefix-hand-on c = search needs
 
-slice-aggregate-write-all : tie.Need-slice-aggregate-write-all
-slice-aggregate-write-all c = let w = c .before .before .before .before .before .before .before .before .before .before .before .before .before .take-frames .ensures in sym (length-take-le _ _ (omega (arith, w .within, w .kept)))
+slice-aggregate-hand-on : tie.Need-slice-aggregate-hand-on
+slice-aggregate-hand-on c = let w = c .before .before .before .before .before .before .before .before .before .before .before .before .before .take-frames .ensures in sym (length-take-le _ _ (omega (arith, w .within, w .kept)))
 
-write-all-requires : tie.Need-write-all-requires
-write-all-requires c κs = search needs
+hand-on-requires : tie.Need-hand-on-requires
+hand-on-requires c κs = search needs
 
-add-t17 : tie.Need-add-t17
-add-t17 c =
-    let s = c .before .before .before .before .before .before .before .before .before .before .before .before .before .before .before .before .before .before .before .before .before .before .before .before .before .before .before .before .before .before .before in
+after-run-requires : tie.Need-after-run-requires
+after-run-requires c κs =
+    let s = c .before .before .before .before .before .before .before .before .before .before .before .before .before .before .before .before .before .before .before .before .before .before .before .before .before .before .before .before .before .before in
     let a = s .args in
-    let w = c .before .before .before .before .before .before .before .before .before .before .before .before .before .before .before .take-frames .ensures in
+    let w = c .before .before .before .before .before .before .before .before .before .before .before .before .before .before .take-frames .ensures in
     let part = part-length (now (a .input)) (a .f) (s .pre .1 .0) in
-    omega (arith, part, w .inside, s .pre .1 .0, s .pre .1 .1)
-
-add-t34 : tie.Need-add-t34
-add-t34 c =
-    let s = c .before .before .before .before .before .before .before .before .before .before .before .before .before .before .before .before .before .before .before .before .before .before .before .before .before .before .before .before .before .before .before .before .before in
-    let a = s .args in
-    let w = c .before .before .before .before .before .before .before .before .before .before .before .before .before .before .before .before .before .take-frames .ensures in
-    let part = part-length (now (a .input)) (a .f) (s .pre .1 .0) in
-    omega (arith, part, w .inside, w .few, s .pre .1 .0, s .pre .1 .1, s .pre .1 .2)
-
-state-after-requires : tie.Need-state-after-requires
-state-after-requires c κs = search needs
+    (omega (arith, part, w .inside, s .pre .1 .0 .run, s .pre .1 .0 .read, s .pre .1 .3), omega (arith, part, w .inside, w .few, s .pre .1 .0 .run, s .pre .1 .0 .read, s .pre .1 .3, s .pre .1 .2))
 
 same-length : tie.Need-same-length
 same-length c = search needs
@@ -68,11 +60,16 @@ same-length-6 c = search needs
 
 returns : tie.Need-returns
 returns c =
-    let s = c .before .before .before .before .before .before .before .before .before .before .before .before .before .before .before .before .before .before .before .before .before .before .before .before .before .before .before .before .before .before .before .before .before .before in
+    let s = c .before .before .before .before .before .before .before .before .before .before .before .before .before .before .before .before .before .before .before .before .before .before .before .before .before .before .before .before .before .before .before in
     let a = s .args in
-    let w = c .before .before .before .before .before .before .before .before .before .before .before .before .before .before .before .before .before .before .take-frames .ensures in
-    let part = part-length (now (a .input)) (a .f) (s .pre .1 .0) in
-    ((w .ready, record { run = omega (arith, part, w .inside, s .pre .1 .0); read = s .pre .1 .0 .read }), w .kept)
+    let t = c .before .before .before .before .before .before .before .before .before .before .before .before .before .before .before .take-frames in
+    let w = t .ensures in
+    let h = c .before .hand-on in
+    let size = h .ensures ∙ sym (slice-aggregate-hand-on (c .before .before)) in
+    let L = lent wholeFloor (now (a .stations)) (now (a .carts)) (now (a .messages)) (now (a .lines)) (now (a .texts)) in
+    let i = run-inside (now (a .input)) L _ (now (a .output)) _ (a .f) (c .after-run .result) (t .result) (h .result) (s .pre .1 .0) (s .pre .1 .1) (s .pre .1 .4) w size (c .after-run .ensures) in
+    let m = run-made (now (a .input)) L _ (now (a .output)) _ (a .f) (c .after-run .result) (t .result) (h .result) (s .pre .1 .0) (s .pre .1 .1) (s .pre .1 .4) w size (c .after-run .ensures) in
+    ((w .ready, i), (m, w .kept))
 
 pub run-piece-spec : {M : Type 1} → statement M
 run-piece-spec =
@@ -82,12 +79,10 @@ run-piece-spec =
     part-take-frames-start
     part-take-frames-end
     take-frames-requires
-    slice-reshare-prefix-write-all
-    slice-aggregate-write-all
-    write-all-requires
-    add-t17
-    add-t34
-    state-after-requires
+    slice-reshare-prefix-hand-on
+    slice-aggregate-hand-on
+    hand-on-requires
+    after-run-requires
     same-length
     same-length-2
     same-length-3

@@ -1,24 +1,33 @@
 -- `feeding::turn` meets its contract.
-use mathlib.Core.Path.{_∙_}
+use mathlib.Core.Path.{_≡_, refl}
 use native.Mathlib.Omega.{arith}
+use denote.Ref.{now}
+use Rattle.protocol.specs.Floor.{wholeFloor}
+use Rattle.view.specs.View.{lent}
+use Rattle.feeding.proofs.Feeds.{no-lines}
 use borrow.Author.Needs.{needs}
 use Rattle.feeding.proofs.turn.Statement.{statement}
 use Rattle.feeding.proofs.turn.Tie as tie
 
-fed-requires : tie.Need-fed-requires
-fed-requires c κs = search needs
+more-requires : tie.Need-more-requires
+more-requires c κs = search needs
 
 same-length : tie.Need-same-length
 same-length c = search needs
 
 returns : tie.Need-returns
-returns c = search needs
+returns c =
+    let s = c .before .before .before .before .before .before .before .before .before .before .before .before .before .before in
+    let a = s .args in
+    let m = c .before .before .more .ensures in
+    let made = no-lines _ _ (now (a .output)) _ (m .0 .2) (m .0 .1 (lent wholeFloor (now (a .stations)) (now (a .carts)) (now (a .messages)) (now (a .lines)) (now (a .texts)))) in
+    ((s .pre .0 .0, m .0 .0), (made, (m .1, refl)))
 
 run-piece-requires : tie.Need-run-piece-requires
 run-piece-requires c κs =
-    let g = c .before .before .before .before .before .before .before .before .before .before .before .fed .ensures in
-    let s = c .before .before .before .before .before .before .before .before .before .before .before .before .before .before .before .before .before .before .before .before .before in
-    (s .pre .0, (g .0 .0, g .1 ∙ s .pre .1 .1, omega (arith, g .0 .1, s .pre .1 .2)))
+    let s = c .before .before .before .before .before .before .before .before .before .before .before .before .before .before .before .before .before in
+    let p = s .pre .1 in
+    (s .pre .0, (p .0, omega (arith, p .1, c .before .before .before .before .before .before .before .if1 .left), p .2, p .3, p .4))
 
 same-length-2 : tie.Need-same-length-2
 same-length-2 c = search needs
@@ -42,13 +51,13 @@ same-length-8 : tie.Need-same-length-8
 same-length-8 c = search needs
 
 returns-2 : tie.Need-returns-2
-returns-2 c = let g = c .before .before .before .before .before .before .before .before .before .before .before .before .before .before .before .before .before .before .before .before .before .before .before .before .fed .ensures in let r = c .before .before .before .before .before .before .before .before .before .before .before .before .run-piece .ensures in (r .0, (g .1, r .1))
+returns-2 c = let r = c .before .before .before .before .before .before .before .before .before .before .before .before .run-piece .ensures in (r .0, (r .1 .0, (refl, r .1 .1)))
 
 pub turn-spec : {M : Type 1} → statement M
 turn-spec =
     tie.close
     (tie.spec
-    fed-requires
+    more-requires
     same-length
     returns
     run-piece-requires

@@ -1,0 +1,17 @@
+-- `feeding::after_read` meets its contract.
+use Rattle.feeding.proofs.Feeds.{failed-is, brought-is}
+use borrow.Author.Needs.{needs}
+use Rattle.feeding.proofs.after_read.Statement.{statement}
+use Rattle.feeding.proofs.after_read.Tie as tie
+
+returns : tie.Need-returns
+returns c = let a = c .before .args in failed-is (a .kept) (a .got) (a .f) (c .if1 .taken)
+
+add-t6 : tie.Need-add-t6
+add-t6 c = search needs
+
+returns-2 : tie.Need-returns-2
+returns-2 c = let a = c .before .before .before .args in brought-is (a .kept) (a .got) (a .f) (c .before .before .if1 .left)
+
+pub after-read-spec : {M : Type 1} → statement M
+after-read-spec = tie.close (tie.spec returns add-t6 returns-2)
