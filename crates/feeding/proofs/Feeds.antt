@@ -1,8 +1,8 @@
--- THE CODE'S TURN IS A MOVE OF THE STREAM: a read, and a run of the frames that are there.
-use mathlib.Core.Path.{_≡_, refl, sym, ap, ap₂, _∙_, subst}
-use mathlib.Core.Bool.{Bool, true, false, not, cond}
+-- THE CODE'S TURN IS A TURN OF THE STREAM: a read, and a run of the frames that are there.
+use mathlib.Core.Path.{_≡_, refl, sym, ap, _∙_, subst}
+use mathlib.Core.Bool.{Bool, true, false, not}
 use mathlib.Core.List.{List, [], _∷_, _++_}
-use Prim.Native.Nat.{ℕ, zero, suc, _+_, _-_, _<_, _≤_}
+use Prim.Native.Nat.{ℕ, _+_, _-_, _<_, _≤_}
 use native.Mathlib.Omega.{arith}
 use lib.Dec.{eqb}
 use lib.ListN.{length, take, drop, length-drop}
@@ -12,13 +12,12 @@ use lib.Signed.{ltZ}
 use borrow.Author.Tests.{eq-eqb, ne-eqb, le-ltb, not-true, not-false}
 use Rattle.io.specs.Counts.{clamped}
 use Rattle.protocol.specs.Folds.{isEmpty}
-use Rattle.protocol.specs.Floor.{Floor, limits}
+use Rattle.protocol.specs.Floor.{limits}
 use Rattle.protocol.specs.Frames.{readAt}
 use Rattle.protocol.proofs.Tests.{by-test}
 use Rattle.report.specs.Lines.{written}
 use Rattle.view.specs.View.{Lent, floorIn}
 use Rattle.running.specs.declared.Progress.{Progress}
-use Rattle.running.specs.Piece.{Ran, runFrom}
 use Rattle.running.specs.Went.{NoneWhole, EndsRun, Went}
 use Rattle.running.proofs.Whole.{few-left}
 use Rattle.running.proofs.Printed.{front-of}
@@ -98,7 +97,7 @@ module _ (input input₁ input₂ : List ℕ) (f r : Feed) (got : Got) (kept : �
       let whole : kept - 0 ≡ kept = omega arith in
       let q : r ≡ record { at = 0; have = kept; index = f .index; state = 3; last = f .last; handed = 0 } = is ∙ sym (failed-is kept got f e) in
       record {
-        move = failed;
+        turn = failed;
         may = wants;
         leads = ap (streamOf input₂ L) q
             ∙ (λ i. record { left = (ap (λ (k : ℕ). take k input₂) whole ∙ kept-there) i; floor = floorIn L; index = f .index; state = 3; last = f .last });
@@ -115,7 +114,7 @@ module _ (input input₁ input₂ : List ℕ) (f r : Feed) (got : Got) (kept : �
       let q : r ≡ record { at = 0; have = kept + n; index = f .index; state = 0; last = eqb n 0; handed = 0 } = is ∙ sym (brought-is kept got f e) in
       let behind : take (kept + n - 0) input₂ ≡ left ++ l = ap (λ (k : ℕ). take k input₂) whole ∙ take-add kept n input₂ ∙ ap (λ (x : List ℕ). x ++ l) kept-there in
       record {
-        move = brought l;
+        turn = brought l;
         may = wants;
         leads = ap (streamOf input₂ L) q
             ∙ (λ i. record { left = behind i; floor = floorIn L; index = f .index; state = 0; last = is-empty l n some i });
@@ -194,7 +193,7 @@ module _ (input : List ℕ) (L L′ : Lent) (out out′ : List ℕ) (f r : Feed)
       let rest : take (f .have - (f .at + p .read)) (drop (f .at + p .read) input) ≡ drop (piece S n .octets) (S .left) =
       drop-part input (f .at) (f .have) (p .read) read-there (inside .read) ∙ ap (λ (k : ℕ). drop k (S .left)) (went .run .read) in
       record {
-        move = ran n (p .state) (h .accepted);
+        turn = ran n (p .state) (h .accepted);
         may = (runs, run-stops);
         leads = ap (streamOf input L′) is
             ∙ (λ i. record { left = rest i; floor = went .run .floor i; index = f .index + n; state = stateAfter (p .state) (f .last) (h .accepted); last = f .last });

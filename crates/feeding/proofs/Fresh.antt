@@ -28,4 +28,4 @@ module _ (S C M W T : List ℕ) (s : (length S ≡ 1972) × (headIn S .mark ≡ 
 
   -- so what the run over it hands on is the printed run
   pub streamed : (r : Outcome) → Finished (floorIn (lent wholeFloor S C M W T)) r → Streamed r
-  streamed r e = record { floor = floorIn (lent wholeFloor S C M W T); fresh = fresh; finished = e; is = stream-is (floorIn (lent wholeFloor S C M W T)) fresh (e .moves) (e .made) }
+  streamed r e = record { floor = floorIn (lent wholeFloor S C M W T); fresh = fresh; finished = e; is = stream-is (floorIn (lent wholeFloor S C M W T)) fresh (e .turns) (e .made) }

@@ -1,51 +1,51 @@
--- THE MOVES OF A RUN, one after the other: what holds before each turn.
+-- THE TURNS OF A RUN, one after the other: what holds before each turn.
 use mathlib.Core.Path.{_≡_, refl, sym, ap, _∙_, subst}
 use mathlib.Core.Bool.{Bool, true, false, not, _&&_}
 use mathlib.Core.List.{List, [], _∷_, _++_}
-use mathlib.Core.Logic.{_⊎_, inl, inr}
+use mathlib.Core.Logic.{inl, inr}
 use Prim.Native.Nat.{ℕ, _+_, _<_, _≤_}
 use native.Mathlib.Omega.{arith}
 use lib.Dec.{eqb, ltb}
 use lib.ListN.{length, length-append}
-use borrow.Author.Tests.{eqb-true, eqb-false, ltb-true, ltb-false, not-true, not-false, eq-eqb, ne-eqb, lt-ltb, le-ltb}
+use borrow.Author.Tests.{eqb-true, eqb-false, ltb-true, ltb-false, not-true, eq-eqb, ne-eqb, lt-ltb, le-ltb}
 use Rattle.protocol.specs.Floor.{Floor}
 use Rattle.protocol.proofs.Tests.{by-test, and-left, and-right, clash}
 use Rattle.feeding.specs.declared.Feed.{Feed}
 use Rattle.feeding.specs.declared.Outcome.{Outcome}
-use Rattle.feeding.specs.Stream.{Stream, begin, Move, after, May, Moves, streamAfter}
+use Rattle.feeding.specs.Stream.{Stream, begin, Turn, after, May, Turns, streamAfter}
 use Rattle.feeding.specs.Feed.{Made, Finished}
 
--- one move more
-after-more : (S : Stream) (ms : List Move) (m : Move) → streamAfter S (ms ++ (m ∷ [])) ≡ after (streamAfter S ms) m
+-- one turn more
+after-more : (S : Stream) (ts : List Turn) (m : Turn) → streamAfter S (ts ++ (m ∷ [])) ≡ after (streamAfter S ts) m
 unfolding streamAfter
 after-more S [] m = refl
-after-more S (x ∷ ms) m = after-more (after S x) ms m
+after-more S (x ∷ ts) m = after-more (after S x) ts m
 
-moves-more : (S : Stream) (ms : List Move) (m : Move) → Moves S ms → May (streamAfter S ms) m → Moves S (ms ++ (m ∷ []))
-unfolding streamAfter Moves
-moves-more S [] m made may = (may, made)
-moves-more S (x ∷ ms) m made may = (made .0, moves-more (after S x) ms m (made .1) may)
+turns-more : (S : Stream) (ts : List Turn) (m : Turn) → Turns S ts → May (streamAfter S ts) m → Turns S (ts ++ (m ∷ []))
+unfolding streamAfter Turns
+turns-more S [] m made may = (may, made)
+turns-more S (x ∷ ts) m made may = (made .0, turns-more (after S x) ts m (made .1) may)
 
--- BEFORE EACH TURN: some moves led from the beginning to this stream, and with the turns that are left they are 2^64 − 1
-pub record Came (F : Floor) (S : Stream) (turns : ℕ) : Type 0 where
-  pub moves : List Move
-  pub made : Moves (begin F) moves
-  pub there : S ≡ streamAfter (begin F) moves
-  pub counted : length moves + turns ≡ 18446744073709551615
+-- BEFORE EACH TURN: some turns led from the beginning to this stream, and with those that are left they are 2^64 − 1
+pub record Came (F : Floor) (S : Stream) (left : ℕ) : Type 0 where
+  pub turns : List Turn
+  pub made : Turns (begin F) turns
+  pub there : S ≡ streamAfter (begin F) turns
+  pub counted : length turns + left ≡ 18446744073709551615
 
 pub came-first : (F : Floor) → Came F (begin F) 18446744073709551615
-unfolding Moves streamAfter
-came-first F = record { moves = []; made = tt; there = refl; counted = refl }
+unfolding Turns streamAfter
+came-first F = record { turns = []; made = tt; there = refl; counted = refl }
 
 pub came-next : (F : Floor) (S S′ : Stream) (octets : List ℕ) (turns left : ℕ) → Came F S turns → Made S S′ octets → left + 1 ≡ turns → Came F S′ left
 came-next F S S′ octets turns left k m e =
-    let ms = k .moves in
-    let may : May (streamAfter (begin F) ms) (m .move) = subst (λ (X : Stream). May X (m .move)) (k .there) (m .may) in
+    let ts = k .turns in
+    let may : May (streamAfter (begin F) ts) (m .turn) = subst (λ (X : Stream). May X (m .turn)) (k .there) (m .may) in
     record {
-      moves = ms ++ (m .move ∷ []);
-      made = moves-more (begin F) ms (m .move) (k .made) may;
-      there = m .leads ∙ ap (λ (X : Stream). after X (m .move)) (k .there) ∙ sym (after-more (begin F) ms (m .move));
-      counted = let c = k .counted in let z = length-append ms (m .move ∷ []) in omega arith;
+      turns = ts ++ (m .turn ∷ []);
+      made = turns-more (begin F) ts (m .turn) (k .made) may;
+      there = m .leads ∙ ap (λ (X : Stream). after X (m .turn)) (k .there) ∙ sym (after-more (begin F) ts (m .turn));
+      counted = let c = k .counted in let z = length-append ts (m .turn ∷ []) in omega arith;
     }
 
 -- IS ANYTHING MORE TO BE DONE: what the code asks
@@ -80,7 +80,7 @@ pub finished : (F : Floor) (S : Stream) (turns : ℕ) (f : Feed) (r : Outcome) (
     → r ≡ record { frames = f .index; state = f .state } → b ≡ going turns f → b ≡ false → Finished F r
 finished F S turns f r b k index state q e none =
     record {
-      moves = k .moves;
+      turns = k .turns;
       made = k .made;
       frames = ap (λ (o : Outcome). o .frames) q ∙ sym index ∙ ap (λ (X : Stream). X .index) (k .there);
       state = ap (λ (o : Outcome). o .state) q ∙ sym state ∙ ap (λ (X : Stream). X .state) (k .there);

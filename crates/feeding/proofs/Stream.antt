@@ -1,28 +1,25 @@
--- THE STREAM PRINTS THE PRINTED RUN: however an input is cut into reads, what the moves hand on, one after the other, are the lines of its frames.
-use mathlib.Core.Path.{_≡_, refl, sym, ap, ap₂, _∙_, subst}
-use mathlib.Core.Bool.{Bool, true, false, cond}
+-- THE STREAM PRINTS THE PRINTED RUN: however an input is cut into reads, what the turns hand on, one after the other, are the lines of its frames.
+use mathlib.Core.Path.{_≡_, refl, sym, ap, _∙_, subst}
+use mathlib.Core.Bool.{Bool, true, false}
 use mathlib.Core.List.{List, [], _∷_, _++_, append-nil, append-assoc}
 use mathlib.Core.Logic.{_⊎_, inl, inr, ⊎-elim}
 use Prim.{tt}
-use Prim.Native.Nat.{ℕ, zero, suc, _+_, _<_, _≤_}
+use Prim.Native.Nat.{ℕ, _+_, _<_, _≤_}
 use native.Mathlib.Omega.{arith}
-use lib.Dec.{eqb}
-use lib.ListN.{length, drop}
+use lib.ListN.{drop}
 use lib.Seq.{drop-append-le, drop-drop}
 use borrow.Author.Tests.{eqb-true, eq-eqb, ne-eqb}
 use Rattle.protocol.specs.Folds.{isEmpty}
 use Rattle.protocol.specs.Floor.{Floor, limits}
-use Rattle.protocol.specs.Step.{floorAfter}
 use Rattle.protocol.specs.Frames.{Reading, end, refusedFrame, taken, frameOf, readAt}
-use Rattle.protocol.specs.Printed.{printedRun}
 use Rattle.protocol.proofs.Tests.{by-test, by-eq, clash}
-use Rattle.running.specs.Piece.{Ran, runFrom, eventsFrom}
+use Rattle.running.specs.Piece.{Ran, runFrom}
 use Rattle.running.specs.Ready.{Unstarted}
 use Rattle.running.specs.Went.{NoneWhole, EndsRun}
 use Rattle.running.proofs.Whole.{joined, stands, runs-go-on, octets-inside}
 use Rattle.running.proofs.Printed.{printed-begins, printed-whole}
 use Rattle.running.proofs.Frames.{floor-of-frames}
-use Rattle.feeding.specs.Stream.{Stream, begin, Move, brought, failed, ran, piece, stateAfter, after, handed, broughtIn, Stops, May, Moves, streamAfter, broughtBy, handedBy, Behind, OverAt, StreamIs}
+use Rattle.feeding.specs.Stream.{Stream, begin, Turn, brought, failed, ran, piece, stateAfter, after, handed, broughtIn, Stops, May, Turns, streamAfter, broughtBy, handedBy, Behind, OverAt, StreamIs}
 
 -- WHAT IS TO BE DONE after a run
 over-why : (why : ℕ) (last accepted : Bool) → why ≤ 2 → stateAfter why last accepted ≡ 2 → (why ≡ 2) ⊎ ((why ≡ 1) × (last ≡ true))
@@ -70,7 +67,7 @@ record SoFar (F : Floor) (W H : List ℕ) (S : Stream) (later : List ℕ) : Type
   goes : S .state < 2 → runFrom (S .index) F 0 W .ended ≡ false
   over : S .state ≡ 2 → (runFrom (S .index) F 0 W .ended ≡ true) ⊎ (readAt limits W (runFrom (S .index) F 0 W .octets) ≡ end)
 
--- the same, over every input that begins with B, what the moves brought
+-- the same, over every input that begins with B, what the turns brought
 record Holds (F : Floor) (B H : List ℕ) (S : Stream) : Type 0 where
   more : S .state ≡ 1 → S .last ≡ false
   run : (later : List ℕ) → Behind S later → SoFar F (B ++ later) H S later
@@ -189,8 +186,8 @@ module _ (F : Floor) (B H : List ℕ) (S : Stream) (h : Holds F B H S) (n why : 
             (over-why why (S .last) accepted (t .known) z);
       }
 
--- ONE MOVE MORE
-holds-next : (F : Floor) (B H : List ℕ) (S : Stream) (m : Move) → Holds F B H S → May S m → Holds F (B ++ broughtIn m) (H ++ handed S m) (after S m)
+-- ONE TURN MORE
+holds-next : (F : Floor) (B H : List ℕ) (S : Stream) (m : Turn) → Holds F B H S → May S m → Holds F (B ++ broughtIn m) (H ++ handed S m) (after S m)
 unfolding after handed May
 holds-next F B H S (brought l) h may = subst (λ (x : List ℕ). Holds F (B ++ l) x (after S (brought l))) (sym (append-nil H)) (holds-brought F B H S h may l)
 holds-next F B H S failed h may =
@@ -199,32 +196,32 @@ holds-next F B H S (ran n why accepted) h may =
     subst (λ (y : List ℕ). Holds F y (H ++ piece S n .printed) (after S (ran n why accepted))) (sym (append-nil B)) (holds-ran F B H S h n why accepted (may .0) (may .1))
 
 -- ALL OF THEM
-holds-after : (F : Floor) (B H : List ℕ) (S : Stream) (ms : List Move) → Holds F B H S → Moves S ms → Holds F (B ++ broughtBy ms) (H ++ handedBy S ms) (streamAfter S ms)
-unfolding Moves streamAfter broughtBy handedBy
+holds-after : (F : Floor) (B H : List ℕ) (S : Stream) (ts : List Turn) → Holds F B H S → Turns S ts → Holds F (B ++ broughtBy ts) (H ++ handedBy S ts) (streamAfter S ts)
+unfolding Turns streamAfter broughtBy handedBy
 holds-after F B H S [] h made = subst (λ (x : List ℕ). Holds F (B ++ []) x S) (sym (append-nil H)) (subst (λ (y : List ℕ). Holds F y H S) (sym (append-nil B)) h)
-holds-after F B H S (m ∷ ms) h made =
+holds-after F B H S (m ∷ ts) h made =
     let S′ = after S m in
-    let rest = holds-after F (B ++ broughtIn m) (H ++ handed S m) S′ ms (holds-next F B H S m h (made .0)) (made .1) in
-    subst (λ (x : List ℕ). Holds F (B ++ (broughtIn m ++ broughtBy ms)) x (streamAfter S′ ms)) (append-assoc H (handed S m) (handedBy S′ ms))
-    (subst (λ (y : List ℕ). Holds F y ((H ++ handed S m) ++ handedBy S′ ms) (streamAfter S′ ms)) (append-assoc B (broughtIn m) (broughtBy ms)) rest)
+    let rest = holds-after F (B ++ broughtIn m) (H ++ handed S m) S′ ts (holds-next F B H S m h (made .0)) (made .1) in
+    subst (λ (x : List ℕ). Holds F (B ++ (broughtIn m ++ broughtBy ts)) x (streamAfter S′ ts)) (append-assoc H (handed S m) (handedBy S′ ts))
+    (subst (λ (y : List ℕ). Holds F y ((H ++ handed S m) ++ handedBy S′ ts) (streamAfter S′ ts)) (append-assoc B (broughtIn m) (broughtBy ts)) rest)
 
 -- THE CLAIM
-pub stream-is : (F : Floor) → Unstarted F → (ms : List Move) → Moves (begin F) ms → StreamIs F ms
-stream-is F U ms made =
+pub stream-is : (F : Floor) → Unstarted F → (ts : List Turn) → Turns (begin F) ts → StreamIs F ts
+stream-is F U ts made =
     record {
       whole = λ over later b.
           let s = h .run later b in
-          printed-whole F U (S .index) (broughtBy ms ++ later) (s .count) (s .over over) ∙ s .printed;
+          printed-whole F U (S .index) (broughtBy ts ++ later) (s .count) (s .over over) ∙ s .printed;
       beginning = λ later b.
           let s = h .run later b in
-          let p = printed-begins F U (S .index) (broughtBy ms ++ later) (s .count) in
+          let p = printed-begins F U (S .index) (broughtBy ts ++ later) (s .count) in
           (p .0, p .1 ∙ ap (λ (x : List ℕ). x ++ p .0) (s .printed));
       over = h .stops;
-      floor = λ later b. let s = h .run later b in sym (s .floor) ∙ floor-of-frames (S .index) F 0 (broughtBy ms ++ later);
+      floor = λ later b. let s = h .run later b in sym (s .floor) ∙ floor-of-frames (S .index) F 0 (broughtBy ts ++ later);
     }
   where
     S : Stream
-    S = streamAfter (begin F) ms
+    S = streamAfter (begin F) ts
 
-    h : Holds F (broughtBy ms) (handedBy (begin F) ms) S
-    h = holds-after F [] [] (begin F) ms (holds-first F) made
+    h : Holds F (broughtBy ts) (handedBy (begin F) ts) S
+    h = holds-after F [] [] (begin F) ts (holds-first F) made

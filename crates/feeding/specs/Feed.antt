@@ -16,7 +16,7 @@ use Rattle.feeding.specs.declared.Feed.{Feed}
 use Rattle.feeding.specs.declared.Got.{Got}
 use Rattle.feeding.specs.declared.Handed.{Handed}
 use Rattle.feeding.specs.declared.Outcome.{Outcome}
-use Rattle.feeding.specs.Stream.{Stream, begin, Move, stateAfter, after, handed, May, Moves, streamAfter, StreamIs}
+use Rattle.feeding.specs.Stream.{Stream, begin, Turn, stateAfter, after, handed, May, Turns, streamAfter, StreamIs}
 
 -- the feed stands in a piece of n octets; where a read is wanted, what is left is less than a whole frame, so the read has room
 pub record Inside (n : ℕ) (f : Feed) : Type 0 where
@@ -28,14 +28,14 @@ pub record Inside (n : ℕ) (f : Feed) : Type 0 where
 abbrev pub streamOf : List ℕ → Lent → Feed → Stream
 streamOf input L f = record { left = take (f .have - f .at) (drop (f .at) input); floor = floorIn L; index = f .index; state = f .state; last = f .last }
 
--- ONE MOVE WAS MADE, from S to S′, and these octets were handed on
+-- ONE TURN WAS MADE, from S to S′, and these octets were handed on
 pub record Made (S S′ : Stream) (octets : List ℕ) : Type 0 where
-  pub move : Move
-  pub may : May S move
-  pub leads : S′ ≡ after S move
-  pub hands : octets ≡ handed S move
+  pub turn : Turn
+  pub may : May S turn
+  pub leads : S′ ≡ after S turn
+  pub hands : octets ≡ handed S turn
 
--- what a read's answer says, where it was handed so many octets to fill: a negative one that it failed
+-- what a read's answer says, where it was handed `room` octets to fill; a negative one says that it failed
 abbrev pub isFailure : ℤ → Bool
 isFailure (pos n) = false
 isFailure (negsuc n) = true
@@ -43,7 +43,7 @@ isFailure (negsuc n) = true
 abbrev pub gotOf : ℤ → ℕ → Got
 gotOf answer room = record { count = clamped answer room; failed = isFailure answer; room = room }
 
--- the feed after a read, which the octets kept at the front were there before: what it brought stands behind them, and nothing is the input's end
+-- the feed after a read, this many octets having been kept at the front: what it brought stands behind them, and if that is nothing the input has ended
 abbrev pub afterRead : ℕ → Got → Feed → Feed
 afterRead kept got f =
     cond (got .failed)
@@ -55,18 +55,18 @@ abbrev pub afterRun : Feed → Progress → Handed → Feed
 afterRun f p h =
     record { at = f .at + p .read; have = f .have; index = f .index + p .frames; state = stateAfter (p .state) (f .last) (h .accepted); last = f .last; handed = h .size }
 
--- THE WHOLE RUN from a floor: the moves that were made, and how it came out. It stopped since nothing was to be done, or since 2^63 frames were run or
--- 2^64 − 1 moves made, which no input uses up
+-- THE WHOLE RUN from a floor: the turns that were made, and how it came out. It stopped since nothing was to be done, or since 2^63 frames were run or
+-- 2^64 − 1 turns made, which no input uses up
 pub record Finished (F : Floor) (r : Outcome) : Type 0 where
-  pub moves : List Move
-  pub made : Moves (begin F) moves
-  pub frames : r .frames ≡ streamAfter (begin F) moves .index
-  pub state : r .state ≡ streamAfter (begin F) moves .state
-  pub stopped : (2 ≤ r .state) ⊎ ((9223372036854775808 ≤ r .frames) ⊎ (length moves ≡ 18446744073709551615))
+  pub turns : List Turn
+  pub made : Turns (begin F) turns
+  pub frames : r .frames ≡ streamAfter (begin F) turns .index
+  pub state : r .state ≡ streamAfter (begin F) turns .state
+  pub stopped : (2 ≤ r .state) ⊎ ((9223372036854775808 ≤ r .frames) ⊎ (length turns ≡ 18446744073709551615))
 
 -- and it prints the printed run
 pub record Streamed (r : Outcome) : Type 0 where
   pub floor : Floor
   pub fresh : Unstarted floor
   pub finished : Finished floor r
-  pub is : StreamIs floor (finished .moves)
+  pub is : StreamIs floor (finished .turns)

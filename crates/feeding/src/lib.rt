@@ -3,7 +3,7 @@
 // descriptor, `read` and `hand_on`. All the others are about slices and numbers, and what they come to is the written stream (specs/Stream).
 use running::Progress;
 ghost use mathlib.Core.Path.{_≡_};
-ghost use mathlib.Core.Bool.{true, false, not, _&&_};
+ghost use mathlib.Core.Bool.{false, not, _&&_};
 ghost use mathlib.Core.List.{[]};
 ghost use Prim.Native.Nat.{_+_, _-_, _≤_, _<_};
 ghost use lib.Dec.{eqb, ltb};
@@ -250,7 +250,7 @@ fn run_piece(
     after_run(f, p, handed)
 }
 
-// ONE TURN is one move of the stream: a read where more input is wanted, else a run of the frames that are there.
+// ONE TURN of the stream: a read where more input is wanted, else a run of the frames that are there.
 fn turn(
     from: i32,
     to: i32,
@@ -354,7 +354,7 @@ fn run_all(
     }
 }
 
-// THE RUN OF ONE INPUT: frames from one descriptor, lines to the other, over a floor of its own. The reads and runs that it made are moves of the
+// THE RUN OF ONE INPUT: frames from one descriptor, lines to the other, over a floor of its own. The reads and runs that it makes are turns of the
 // written stream, and what they hand on is the printed run.
 pub fn run(from: i32, to: i32) -> Outcome
     ensures { λ r. ⌜ Streamed r ⌝ }

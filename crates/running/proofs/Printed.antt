@@ -1,16 +1,16 @@
 -- THE PRINTED RUN: what the code prints from any unstarted lent floor is `printedRun`, which begins with the written one. Two unstarted floors print
 -- alike, and more turns than frames change nothing.
-use mathlib.Core.Path.{_≡_, refl, sym, ap, ap₂, _∙_, subst}
+use mathlib.Core.Path.{_≡_, refl, sym, ap, ap₂, _∙_}
 use mathlib.Core.Bool.{Bool, true, false, not, cond}
 use mathlib.Core.List.{List, [], _++_, append-nil}
 use mathlib.Core.Logic.{_⊎_, inl, inr, ⊎-elim}
-use Prim.Native.Nat.{ℕ, zero, suc, _+_, _<_}
+use Prim.Native.Nat.{ℕ, zero, suc, _+_}
 use native.Mathlib.Omega.{arith}
 use lib.Dec.{eqb, ltb}
 use lib.ListN.{length, take, drop}
 use lib.Seq.{take-append-seam}
-use borrow.Author.Tests.{eqb-true, eq-eqb, ne-eqb}
-use Rattle.protocol.specs.Floor.{Limits, Floor, limits, unstarted, justStarted}
+use borrow.Author.Tests.{eq-eqb, ne-eqb}
+use Rattle.protocol.specs.Floor.{Limits, Floor, limits, unstarted}
 use Rattle.protocol.specs.Events.{Event, start, enter, send, wire, radio, move, Answer, refused, accepted}
 use Rattle.protocol.specs.Form.{passesForm}
 use Rattle.protocol.specs.Refusals.{check, wrongSize, refusal, refusalIf}
@@ -120,7 +120,7 @@ unfolding runFrom
 nothing-run zero F index l e = refl
 nothing-run (suc n) F index l e = rw (e, runFrom) refl
 
--- A RUN OF SO MANY FRAMES from an unstarted floor prints the beginning of the printed run
+-- A RUN OF n FRAMES from an unstarted floor prints the beginning of the printed run
 module _ (F : Floor) (U : Unstarted F) (n : ℕ) (l : List ℕ) (all : runFrom n F 0 l .count ≡ n) where
   abbrev R : Ran
   R = runFrom n F 0 l

@@ -1,7 +1,7 @@
 -- A PIECE BOUNDARY IS NOTHING: what was run of a piece is what is run of the whole input, and the rest follows from there.
 use mathlib.Core.Path.{_≡_, refl, sym, ap, ap₂, _∙_, subst}
 use mathlib.Core.Bool.{Bool, true, false, not}
-use mathlib.Core.List.{List, [], _++_, append-assoc}
+use mathlib.Core.List.{List, _++_, append-assoc}
 use Prim.Native.Nat.{ℕ, zero, suc, _+_, _-_, _/_, _%_, _≤_, _<_}
 use native.Mathlib.Omega.{arith}
 use lib.Dec.{eqb, ltb}
@@ -169,7 +169,7 @@ behind-joined line size R X =
     let sizes : size + (R .octets + X .octets) ≡ size + R .octets + X .octets = omega arith in
     λ i. record { count = counts i; printed = sym (append-assoc line (R .printed) (X .printed)) i; floor = X .floor; octets = sizes i; ended = X .ended }
 
--- AND THE REST FOLLOWS: a run of more frames is the run of so many, and then the run over the octets behind them
+-- AND THE REST FOLLOWS: the run of n + k frames is the run of n, and then that of k over the octets behind them
 pub runs-go-on : (n k : ℕ) (F : Floor) (index : ℕ) (l : List ℕ) → runFrom n F index l .count ≡ n → runFrom n F index l .ended ≡ false
     → runFrom (n + k) F index l ≡ joined (runFrom n F index l) (runFrom k (runFrom n F index l .floor) (index + n) (drop (runFrom n F index l .octets) l))
 unfolding runFrom
@@ -204,7 +204,7 @@ runs-go-on (suc n) k F index l all goes =
         ∙ behind-joined line size R (runFrom k (R .floor) (suc index + n) (drop (R .octets) (drop size l)))
         ∙ ap₂ (λ (i : ℕ) (m : List ℕ). joined (behind line size R) (runFrom k (R .floor) i m)) sums (drop-drop (R .octets) size l))
 
--- so the printed run is what so many frames print, and then the printed run of the octets behind them
+-- so the printed run is what n frames print, and then the printed run of the octets behind them
 pub lines-go-on : (n k : ℕ) (F : Floor) (index : ℕ) (l : List ℕ) → runFrom n F index l .count ≡ n → runFrom n F index l .ended ≡ false
     → linesFrom limits (n + k) F index l ≡ runFrom n F index l .printed ++ linesFrom limits k (runFrom n F index l .floor) (index + n) (drop (runFrom n F index l .octets) l)
 lines-go-on n k F index l all goes =

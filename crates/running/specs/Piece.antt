@@ -33,7 +33,7 @@ runFrom (suc n) F index l =
           record { count = suc (rest .count); printed = lineOf index (answer limits F e) ++ rest .printed; floor = rest .floor; octets = size + rest .octets; ended = rest .ended }
     ]
 
--- the events that the first so many frames of these octets are, up to one that is refused
+-- the events of the first n frames of these octets, up to one that is refused
 unfoldable pub eventsFrom : ℕ → List ℕ → List Event
 eventsFrom zero l = []
 eventsFrom (suc n) l = elim (frameOf limits l) [ end ↦ [] | refusedFrame r ↦ [] | taken e size ↦ e ∷ eventsFrom n (drop size l) ]

@@ -1,7 +1,6 @@
 -- `feeding::after_run` meets its contract.
 use mathlib.Core.Path.{ap}
 use Prim.Native.Nat.{ℕ, _+_}
-use Rattle.feeding.specs.declared.Feed.{Feed}
 use borrow.Author.Needs.{needs}
 use Rattle.feeding.proofs.after_run.Statement.{statement}
 use Rattle.feeding.proofs.after_run.Tie as tie

@@ -1,5 +1,5 @@
 -- `feeding::run_all` meets its contract. The invariant: the floor is ready, the piece is whole, and the stream that they say came from the first one by
--- moves, as many as the turns that were counted down. The turns fall.
+-- as many turns as were counted down. They fall.
 use mathlib.Core.Path.{_≡_, refl, sym, _∙_}
 use native.Mathlib.Omega.{arith}
 use lib.ListN.{length}
