@@ -82,14 +82,21 @@ is-empty [] n e = eq-eqb n 0 (sym e)
 is-empty (x ∷ l) n e = ne-eqb n 0 (λ z. omega arith)
 
 module _ (input input₁ input₂ : List ℕ) (f r : Feed) (got : Got) (kept : ℕ) (inside : Inside (length input) f) (wants : f .state ≡ 1) (size : kept ≡ f .have - f .at)
-    (moved : input₁ ≡ written input 0 (take (f .have - f .at) (drop (f .at) input))) (front : take kept input₂ ≡ take kept input₁)
-    (long : length input₂ ≡ length input) (room : kept + got .count ≤ length input) (is : r ≡ afterRead kept got f) where
+    (moved : input₁ ≡ written input 0 (take (f .have - f .at) (drop (f .at) input))) (same : length input₁ ≡ length input)
+    (asked : (kept + got .room ≡ length input₁) × (kept < length input₁) × (got .count ≤ got .room)) (rest : List ℕ) (there : input₂ ≡ take kept input₁ ++ rest)
+    (long : length input₂ ≡ length input) (is : r ≡ afterRead kept got f) where
   -- what was not run yet, and stands at the front now
   abbrev left : List ℕ
   left = take (f .have - f .at) (drop (f .at) input)
 
   kept-there : take kept input₂ ≡ left
-  kept-there = front ∙ front-of input input₁ left kept (size ∙ sym (part-length input f inside)) moved
+  kept-there =
+      ap (take kept) there
+      ∙ take-at (take kept input₁) rest kept (length-take-le kept input₁ (let a = asked .1 in omega arith))
+      ∙ front-of input input₁ left kept (size ∙ sym (part-length input f inside)) moved
+
+  room : kept + got .count ≤ length input
+  room = let a = asked .0 in let b = asked .2 in omega arith
 
   read-failed : got .failed ≡ true → (L : Lent) → Made (streamOf input L f) (streamOf input₂ L r) []
   unfolding May after handed
@@ -110,7 +117,7 @@ module _ (input input₁ input₂ : List ℕ) (f r : Feed) (got : Got) (kept : �
       let n = got .count in
       let l = take n (drop kept input₂) in
       let whole : kept + n - 0 ≡ kept + n = omega arith in
-      let some : length l ≡ n = length-take-le n (drop kept input₂) (let z = length-drop kept input₂ in omega arith) in
+      let some : length l ≡ n = length-take-le n (drop kept input₂) (let z = length-drop kept input₂ in let y = room in omega arith) in
       let q : r ≡ record { at = 0; have = kept + n; index = f .index; state = 0; last = eqb n 0; handed = 0 } = is ∙ sym (brought-is kept got f e) in
       let behind : take (kept + n - 0) input₂ ≡ left ++ l = ap (λ (k : ℕ). take k input₂) whole ∙ take-add kept n input₂ ∙ ap (λ (x : List ℕ). x ++ l) kept-there in
       record {
@@ -121,15 +128,18 @@ module _ (input input₁ input₂ : List ℕ) (f r : Feed) (got : Got) (kept : �
         hands = refl;
       }
 
-  pub read-made : (L : Lent) → Made (streamOf input L f) (streamOf input₂ L r) []
+  read-made : (L : Lent) → Made (streamOf input L f) (streamOf input₂ L r) []
   read-made L = by-test (got .failed) (λ e. read-failed e L) (λ e. read-brought e L)
 
-  pub read-inside : Inside (length input₂) r × (r .handed ≡ 0)
+  read-inside : Inside (length input₂) r × (r .handed ≡ 0)
   read-inside =
       subst (λ (x : Feed). Inside (length input₂) x × (x .handed ≡ 0)) (sym is)
       (by-test (got .failed)
-      (λ e. rw e (record { run = omega arith; read = omega arith; few = λ z. absurd (omega arith) }, refl))
-      (λ e. rw e (record { run = omega arith; read = omega arith; few = λ z. absurd (omega arith) }, refl)))
+      (λ e. rw e (record { run = omega arith; read = (let a = asked .1 in omega arith); few = λ z. absurd (omega arith) }, refl))
+      (λ e. rw e (record { run = omega arith; read = (let a = room in omega arith); few = λ z. absurd (omega arith) }, refl)))
+
+  pub read-turn : (Inside (length input₂) r × ((L : Lent) → Made (streamOf input L f) (streamOf input₂ L r) []) × (r .handed ≡ 0)) × (length input₂ ≡ length input)
+  read-turn = ((read-inside .0, read-made, read-inside .1), long)
 
 -- it hands nothing on
 pub no-lines : (S S′ : Stream) (out : List ℕ) (n : ℕ) → n ≡ 0 → Made S S′ [] → Made S S′ (take n out)
@@ -144,10 +154,6 @@ part-room input input₁ f kept room count inside wants long size same all few =
     let z = length-drop kept input₁ in
     let y = length-take-le (length input₁ - kept) (drop kept input₁) (omega arith) in
     (omega arith, omega arith, few)
-
--- and leaves what was kept
-pub read-front : (input : List ℕ) (kept : ℕ) → kept ≤ length input → (rest input′ : List ℕ) → input′ ≡ take kept input ++ rest → take kept input′ ≡ take kept input
-read-front input kept h rest input′ e = ap (take kept) e ∙ take-at (take kept input) rest kept (length-take-le kept input h)
 
 -- A RUN
 

@@ -139,9 +139,10 @@ fn after_read(size: usize, kept: usize, got: Got, f: Feed) -> Feed
             handed: 0,
         };
     }
+    let have = kept + got.count;
     Feed {
         at: 0,
-        have: kept + got.count,
+        have,
         index: f.index,
         state: RUNS,
         last: got.count == 0,
@@ -202,10 +203,12 @@ fn after_run(f: Feed, p: Progress, handed: Handed) -> Feed
     requires { ⌜ (f .at + p .read < 18446744073709551616) × (f .index + p .frames < 18446744073709551616) ⌝ }
     ensures { λ r. ⌜ r ≡ afterRun f p handed ⌝ }
 {
+    let at = f.at + p.read;
+    let index = f.index + p.frames;
     Feed {
-        at: f.at + p.read,
+        at,
         have: f.have,
-        index: f.index + p.frames,
+        index,
         state: state_after(p.state, f.last, handed.accepted),
         last: f.last,
         handed: handed.size,

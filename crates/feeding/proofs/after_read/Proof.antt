@@ -7,11 +7,11 @@ use Rattle.feeding.proofs.after_read.Tie as tie
 returns : tie.Need-returns
 returns c = let a = c .before .args in failed-is (a .kept) (a .got) (a .f) (c .if1 .taken)
 
-add-t6 : tie.Need-add-t6
-add-t6 c = search needs
+add-have : tie.Need-add-have
+add-have c = search needs
 
 returns-2 : tie.Need-returns-2
 returns-2 c = let a = c .before .before .before .args in brought-is (a .kept) (a .got) (a .f) (c .before .before .if1 .left)
 
 pub after-read-spec : {M : Type 1} → statement M
-after-read-spec = tie.close (tie.spec returns add-t6 returns-2)
+after-read-spec = tie.close (tie.spec returns add-have returns-2)

@@ -5,11 +5,11 @@ use borrow.Author.Needs.{needs}
 use Rattle.feeding.proofs.after_run.Statement.{statement}
 use Rattle.feeding.proofs.after_run.Tie as tie
 
-add-t4 : tie.Need-add-t4
-add-t4 c = search needs
+add-at : tie.Need-add-at
+add-at c = search needs
 
-add-t5 : tie.Need-add-t5
-add-t5 c = search needs
+add-index : tie.Need-add-index
+add-index c = search needs
 
 state-after-requires : tie.Need-state-after-requires
 state-after-requires c κs = search needs
@@ -22,4 +22,4 @@ returns c =
     ap (λ (s : ℕ). record { at = f .at + p .read; have = f .have; index = f .index + p .frames; state = s; last = f .last; handed = a .handed .size }) (c .state-after .ensures)
 
 pub after-run-spec : {M : Type 1} → statement M
-after-run-spec = tie.close (tie.spec add-t4 add-t5 state-after-requires returns)
+after-run-spec = tie.close (tie.spec add-at add-index state-after-requires returns)

@@ -1,11 +1,8 @@
 -- `feeding::more` meets its contract.
 use mathlib.Core.Path.{refl}
-use Prim.Native.Nat.{_+_, _≤_}
-use native.Mathlib.Omega.{arith}
-use lib.ListN.{length}
 use Prim.{tt}
 use denote.Ref.{now}
-use Rattle.feeding.proofs.Feeds.{part-room, read-front, read-made, read-inside}
+use Rattle.feeding.proofs.Feeds.{part-room, read-turn}
 use borrow.Author.Needs.{needs}
 use Rattle.feeding.proofs.more.Statement.{statement}
 use Rattle.feeding.proofs.more.Tie as tie
@@ -41,13 +38,8 @@ returns c =
     let a = s .args in
     let k = c .before .before .before .before .before .before .before .keep in
     let g = c .before .before .before .read in
-    let long = same-length c in
-    let front = read-front (k .last .0) (k .result) (omega (arith, after-read-requires (c .before) tt)) _ _ refl in
-    let asked = after-read-requires (c .before) tt in
-    let room : k .result + g .result .count ≤ length (now (a .input)) = omega (arith, asked, k .ensures .1) in
-    let i = read-inside (now (a .input)) (k .last .0) _ (a .f) (c .after-read .result) (g .result) (k .result) (s .pre .0) (s .pre .1) (k .ensures .0 .0) (k .ensures .0 .1) front long room (c .after-read .ensures) in
-    let m = read-made (now (a .input)) (k .last .0) _ (a .f) (c .after-read .result) (g .result) (k .result) (s .pre .0) (s .pre .1) (k .ensures .0 .0) (k .ensures .0 .1) front long room (c .after-read .ensures) in
-    ((i .0, m, i .1), long)
+    read-turn (now (a .input)) (k .last .0) _ (a .f) (c .after-read .result) (g .result) (k .result) (s .pre .0) (s .pre .1) (k .ensures .0 .0) (k .ensures .0 .1) (k .ensures .1)
+    (after-read-requires (c .before) tt) _ refl (same-length c) (c .after-read .ensures)
 
 pub more-spec : {M : Type 1} → statement M
 more-spec =
