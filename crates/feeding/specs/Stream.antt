@@ -69,7 +69,8 @@ broughtIn (brought l) = l
 broughtIn failed = []
 broughtIn (ran n why accepted) = []
 
--- n frames are there, and the run stops behind them because a frame is refused (2), none is whole (1), or the lines fill the output (0)
+-- n frames are there, and the run stops behind them because a frame is refused (2), none is whole (1), or the lines fill the output,
+-- which has 65,536 octets (0)
 pub record Stops (S : Stream) (n why : ℕ) : Type 0 where
   pub counted : piece S n .count ≡ n
   pub ended : piece S n .ended ≡ eqb why 2

@@ -124,7 +124,7 @@ fn read(fd: i32, rest: &mut [u8]) -> Got
     got_of(answer, rest)
 }
 
-// The piece after a read into all of it behind what was kept. At the end of the input a read brings nothing.
+// The piece, of `size` octets, after a read that was handed all of it behind what was kept. At the end of the input a read brings nothing.
 fn after_read(size: usize, kept: usize, got: Got, f: Feed) -> Feed
     requires { ⌜ (kept + got .room ≡ size) × (kept < size) × (got .count ≤ got .room) ⌝ }
     ensures { λ r. ⌜ r ≡ afterRead kept got f ⌝ }

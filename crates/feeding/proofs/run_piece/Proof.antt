@@ -27,7 +27,10 @@ slice-reshare-prefix-hand-on : tie.Need-slice-reshare-prefix-hand-on
 slice-reshare-prefix-hand-on c = search needs
 
 slice-aggregate-hand-on : tie.Need-slice-aggregate-hand-on
-slice-aggregate-hand-on c = let w = c .before .before .before .before .before .before .before .before .before .before .before .before .before .take-frames .ensures in sym (length-take-le _ _ (omega (arith, w .within, w .kept)))
+slice-aggregate-hand-on c =
+    let t = c .before .before .before .before .before .before .before .before .before .before .before .before .before .take-frames in
+    let w = t .ensures in
+    sym (length-take-le _ (t .last .1 .0) (omega (arith, w .within, w .kept)))
 
 hand-on-requires : tie.Need-hand-on-requires
 hand-on-requires c κs = search needs
