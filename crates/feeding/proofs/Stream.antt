@@ -110,7 +110,7 @@ module _ (F : Floor) (B H : List ℕ) (S : Stream) (h : Holds F B H S) (wants : 
         stops = λ z. absurd (omega arith);
       }
 
--- A RUN of so many frames of what is left
+-- A RUN of the first n frames of what is left
 module _ (F : Floor) (B H : List ℕ) (S : Stream) (h : Holds F B H S) (n why : ℕ) (accepted : Bool) (runs : S .state ≡ 0) (t : Stops S n why) where
   abbrev X : Ran
   X = piece S n

@@ -31,7 +31,7 @@ unfolding floorAfter
 after-both F [] b = refl
 after-both F (e ∷ a) b = after-both (step limits F e) a b
 
--- the events of the frames: some, a start of so many stations and carts that is accepted behind them, and then others
+-- the events of the frames: some, a start of n stations and k carts that is accepted behind them, and then others
 module _ (count : ℕ) (F : Floor) (index : ℕ) (l : List ℕ) (before : List Event) (n k : ℕ) (behind : List Event) (report : Report)
     (events : eventsFrom count l ≡ before ++ (start n k ∷ behind)) (begun : answer limits (floorAfter limits F before) (start n k) ≡ accepted report) where
   started : step limits (floorAfter limits F before) (start n k) ≡ justStarted n k
