@@ -13,17 +13,16 @@ use types.Run.{OneOf, miss}
 use Rattle.protocol.proofs.Tests.{by-lt, by-eq, on-cond}
 use Rattle.protocol.specs.Floor.{limits}
 use Rattle.protocol.specs.Frames as frames
-use Rattle.protocol.specs.Frames.{fieldsOf, unlisted, eventOf, fieldsRefusal, readAt, movedTo, refusedFrame, taken}
+use Rattle.protocol.specs.Frames.{fieldsOf, unlisted, eventOf, fieldsRefusal, readAt, refusedFrame, taken}
 use Rattle.protocol.specs.Events as events
 use Rattle.protocol.specs.Events.{send}
 use Rattle.frames.specs.declared.Event.{Event}
 use Rattle.frames.specs.declared.Event.the-variants.{Start, Enter, Send, Wire, Radio, Move}
 use Rattle.frames.specs.declared.Reading.{Reading}
-use Rattle.frames.specs.declared.Reading.the-variants.{End, Refused, Taken}
+use Rattle.frames.specs.declared.Reading.the-variants.{Taken}
 use Rattle.frames.specs.declared.Halves.{Halves}
-use Rattle.frames.specs.Decoded.{fieldsIn, ifListed, frameIn, eventIn, readingIn, sizeOf, refusalOf, refusalNumber}
+use Rattle.frames.specs.Decoded.{fieldsIn, ifListed, frameIn, eventIn, readingIn, sizeOf}
 use Rattle.frames.proofs.Event.{the-type as event-type}
-use Rattle.frames.proofs.Reading.{the-type as reading-type}
 use Rattle.frames.proofs.Laws.{low-fields, send-fields, unlisted-send, unlisted-wire, unlisted-move, unlisted-else}
 use Rattle.frames.proofs.Laws.{no-kind, stray-field, long-text, cut-text, no-refusal, text-short, text-there}
 use Rattle.frames.proofs.Laws.{no-text, frameWith, send-event, nothing-left, cut-frame, refused-frame, taken-frame}
@@ -152,34 +151,3 @@ module _ (l : List ℕ) (at : ℕ) (r : Reading) (read : readingIn (drop at l) r
   -- the same for the decoder's event
   pub event-inside : (e : Event) → r ≡ Taken e → (at + sizeOf e ≤ length l) × (sizeOf e ≤ 48)
   event-inside e q = taken-inside l at _ (sizeOf e) (sym read ∙ ap (λ (x : Reading). readingIn (drop at l) x) q)
-
-  pub moved-taken : (e : Event) (n : ℕ) → r ≡ Taken e → n ≡ sizeOf e → at + n ≡ movedTo at (readAt limits l at)
-  moved-taken e n q s = ap (λ (k : ℕ). at + k) s ∙ ap (λ (x : Reading). movedTo at (readingIn (drop at l) x)) (sym q) ∙ ap (movedTo at) read
-
-  pub same-number : refusalOf r ≡ refusalNumber (readAt limits l at)
-  same-number = written r ∙ ap refusalNumber read
-    where
-      written : (x : Reading) → refusalOf x ≡ refusalNumber (readingIn (drop at l) x)
-      written End = refl
-      written (Refused n) = refl
-      written (Taken e) = refl
-
--- what is no event does not move the reader
-not-moved : (l : List ℕ) (at : ℕ) (r : Reading) → OneOf (0 ∷ 1 ∷ []) (tagOf reading-type r) → at ≡ movedTo at (readingIn l r)
-not-moved l at End h = refl
-not-moved l at (Refused n) h = refl
-not-moved l at (Taken e) h = absurd (miss (0 ∷ 1 ∷ []) 2 tt h)
-
-pub moved-not : (l : List ℕ) (at : ℕ) (r : Reading) → readingIn (drop at l) r ≡ readAt limits l at → OneOf (0 ∷ 1 ∷ []) (tagOf reading-type r)
-    → at ≡ movedTo at (readAt limits l at)
-moved-not l at r read h = not-moved (drop at l) at r h ∙ ap (movedTo at) read
-
--- an event has no refusal number
-no-number : (r : Reading) → OneOf (2 ∷ []) (tagOf reading-type r) → 0 ≡ refusalOf r
-no-number End h = refl
-no-number (Refused n) h = absurd (miss (2 ∷ []) 1 tt h)
-no-number (Taken e) h = refl
-
-pub event-number : (l : List ℕ) (at : ℕ) (r : Reading) → readingIn (drop at l) r ≡ readAt limits l at → OneOf (2 ∷ []) (tagOf reading-type r)
-    → 0 ≡ refusalNumber (readAt limits l at)
-event-number l at r read h = no-number r h ∙ same-number l at r read

@@ -6,8 +6,8 @@ ghost use mathlib.Core.List.{List};
 ghost use Prim.Native.Nat.{ℕ, _+_, _<_, _≤_};
 ghost use lib.ListN.{length, take, drop};
 ghost use Rattle.protocol.specs.Floor.{limits};
-ghost use Rattle.protocol.specs.Frames.{bigEndian, fieldsOf, readAt, movedTo};
-ghost use Rattle.frames.specs.Decoded.{octetsOf, fieldsIn, ifListed, frameIn, sizeOf, readingIn, refusalOf, refusalNumber};
+ghost use Rattle.protocol.specs.Frames.{bigEndian, fieldsOf, readAt};
+ghost use Rattle.frames.specs.Decoded.{octetsOf, fieldsIn, ifListed, frameIn, sizeOf, readingIn};
 
 // An event.
 pub enum Event {
@@ -206,71 +206,5 @@ pub fn size_of(e: Event) -> usize
     match e {
         Event::Send(_, _, length) => FRAME + length,
         _ => FRAME,
-    }
-}
-
-// The refusal number of a reading, 0 if it is none.
-pub fn refusal(reading: Reading) -> u64
-    ensures { λ r. ⌜ r ≡ refusalOf reading ⌝ }
-{
-    match reading {
-        Reading::End => 0,
-        Reading::Refused(number) => number,
-        Reading::Taken(_) => 0,
-    }
-}
-
-// The refusal number of what stands at a place, 0 for an event and at the end.
-pub fn refusal_at(octets: &[u8], at: usize) -> u64
-    ensures { λ r. ⌜ r ≡ refusalNumber (readAt limits (now (octets .entry)) at) ⌝ }
-{
-    let reading = frame_at(octets, at);
-    let Reading::Taken(_) = reading else {
-        return refusal(reading);
-    };
-    0
-}
-
-// The position behind what stands at a place: "does not move" at the end, "A refused frame does not move the reader".
-pub fn next_position(octets: &[u8], at: usize) -> usize
-    ensures { λ r. ⌜ r ≡ movedTo at (readAt limits (now (octets .entry)) at) ⌝ }
-{
-    let reading = frame_at(octets, at);
-    let Reading::Taken(e) = reading else {
-        return at;
-    };
-    at + size_of(e)
-}
-
-// "A reader over the lent frames keeps the octets and the position."
-pub struct Reader<'a> {
-    pub octets: &'a [u8],
-    pub at: usize,
-}
-
-impl<'a> Reader<'a> {
-    // A reader before the first frame.
-    pub fn new(octets: &'a [u8]) -> Reader<'a>
-        ensures { λ r. ⌜ (r .octets ≡ octets .entry) × (r .at ≡ 0) ⌝ }
-    {
-        Reader { octets, at: 0 }
-    }
-
-    // What it reads.
-    pub fn reading(self) -> Reading
-        ensures { λ r. ⌜ readingIn (drop (self .entry .at) (now (self .entry .octets))) r ≡ readAt limits (now (self .entry .octets)) (self .entry .at) ⌝ }
-    {
-        frame_at(self.octets, self.at)
-    }
-
-    // The reader behind what it reads: "A refused frame does not move the reader", and at the end it "does not move".
-    pub fn moved(self) -> Reader<'a>
-        ensures { λ r. ⌜ (r .octets ≡ self .entry .octets) × (r .at ≡ movedTo (self .entry .at) (readAt limits (now (self .entry .octets)) (self .entry .at))) ⌝ }
-    {
-        let at = next_position(self.octets, self.at);
-        Reader {
-            octets: self.octets,
-            at,
-        }
     }
 }

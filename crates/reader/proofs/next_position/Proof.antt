@@ -1,9 +1,10 @@
--- `frames::next_position` meets its contract.
+-- `reader::next_position` meets its contract.
 use native.Mathlib.Omega.{arith}
-use Rattle.frames.proofs.Values.{event-inside, moved-taken, moved-not}
+use Rattle.frames.proofs.Values.{event-inside}
+use Rattle.reader.proofs.Values.{moved-taken, moved-not}
 use borrow.Author.Needs.{needs}
-use Rattle.frames.proofs.next_position.Statement.{statement}
-use Rattle.frames.proofs.next_position.Tie as tie
+use Rattle.reader.proofs.next_position.Statement.{statement}
+use Rattle.reader.proofs.next_position.Tie as tie
 
 frame-at-requires : tie.Need-frame-at-requires
 frame-at-requires c κs = search needs

@@ -1,9 +1,9 @@
--- `frames::refusal_at` meets its contract.
+-- `reader::refusal_at` meets its contract.
 use mathlib.Core.Path.{_∙_}
-use Rattle.frames.proofs.Values.{same-number, event-number}
+use Rattle.reader.proofs.Values.{same-number, event-number}
 use borrow.Author.Needs.{needs}
-use Rattle.frames.proofs.refusal_at.Statement.{statement}
-use Rattle.frames.proofs.refusal_at.Tie as tie
+use Rattle.reader.proofs.refusal_at.Statement.{statement}
+use Rattle.reader.proofs.refusal_at.Tie as tie
 
 frame-at-requires : tie.Need-frame-at-requires
 frame-at-requires c κs = search needs
