@@ -83,7 +83,7 @@ module _ (l : List ℕ) where
       let left = length-drop size l in
       one-more ∙ rw (e, checkFrom) (ap (after (whole 1 size)) (enough (length l) (length (drop size l)) (drop size l) (omega arith) (omega arith)))
 
--- what is no frame, is refused with its number or is the end
+-- where the reader does not move, no frame is found, and the number is that of what stands there
 pub check-none : (l : List ℕ) (at : ℕ) → movedTo at (frameOf limits l) ≤ at → checked l ≡ noFrame (refusalNumber (frameOf limits l))
 check-none l at = by (frameOf limits l) refl
   where

@@ -27,7 +27,7 @@ module _ (l : List ℕ) (at : ℕ) (r : Reading) (read : readingIn (drop at l) r
       written (Refused n) = refl
       written (Taken e) = refl
 
--- what is no event does not move the reader
+-- the end and a refused frame do not move the reader
 not-moved : (l : List ℕ) (at : ℕ) (r : Reading) → OneOf (0 ∷ 1 ∷ []) (tagOf reading-type r) → at ≡ movedTo at (readingIn l r)
 not-moved l at End h = refl
 not-moved l at (Refused n) h = refl

@@ -1,4 +1,4 @@
--- THE CHECK OF A STREAM: how many whole frames it has, and the refusal and the place of the first that is none.
+-- THE CHECK OF A STREAM: how many whole frames it begins with, and the refusal and the place of what stands behind them.
 use mathlib.Core.Path.{_≡_}
 use mathlib.Core.List.{List, [], _∷_, _++_}
 use Prim.Native.Nat.{ℕ, zero, suc, _+_}
@@ -10,7 +10,7 @@ use Rattle.frames.specs.declared.Reading.{Reading}
 use Rattle.frames.specs.Decoded.{readingIn}
 use Rattle.reader.specs.declared.Checked.{Checked}
 
--- the refusal number of what was read, 0 if there is none: an event has none, and neither has "end"
+-- the refusal number of what was read, 0 for an event and for "end"
 abbrev pub refusalNumber : frames.Reading → ℕ
 refusalNumber end = 0
 refusalNumber (refusedFrame r) = r

@@ -1,12 +1,12 @@
 // "A reader over the lent frames keeps the octets and the position; a frame is either taken apart into one event or refused." And the check of a
-// whole stream, which walks it with a reader: how many whole frames it has, and where the first that is none stands.
+// whole stream, which walks it with a reader: how many whole frames it begins with, and which refusal stands behind them, and where.
 use frames::Reading;
 ghost use mathlib.Core.Path.{_≡_};
 ghost use Rattle.protocol.specs.Floor.{limits};
 ghost use Rattle.protocol.specs.Frames.{readAt, movedTo};
 ghost use Rattle.reader.specs.Checks.{refusalOf, refusalNumber, checkIn, checked};
 
-// The refusal number of a reading, 0 if it is none.
+// The refusal number of a reading, 0 for an event and at the end.
 fn refusal(reading: Reading) -> u64
     ensures { λ r. ⌜ r ≡ refusalOf reading ⌝ }
 {
@@ -80,7 +80,7 @@ pub struct Checked {
     pub refusal: u64,
 }
 
-// The check of a whole stream. A reader that does not move stands before the first that is no whole frame, or at the end.
+// The check of a whole stream. A reader that does not move has come to a refused frame, or to the end.
 pub fn check(octets: &[u8]) -> Checked
     ensures { λ r. ⌜ checkIn r ≡ checked (now (octets .entry)) ⌝ }
 {

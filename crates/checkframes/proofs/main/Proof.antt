@@ -1,0 +1,56 @@
+-- `checkframes::main` meets its contract: the arguments that are left grow fewer.
+use mathlib.Core.Path.{_≡_, refl}
+use Prim.Native.Nat.{_-_}
+use native.Mathlib.Omega.{arith}
+use borrow.Author.Needs.{needs}
+use Rattle.checkframes.proofs.main.Statement.{statement}
+use Rattle.checkframes.proofs.main.Tie as tie
+
+abbrev Inv-loop : tie.InvT-loop
+Inv-loop n i₀ i = n ≡ n
+
+abbrev μ-loop : tie.MeasureT-loop
+μ-loop n i₀ i = n - i
+
+arg-count-requires : tie.Need-arg-count-requires Inv-loop μ-loop
+arg-count-requires c κs = search needs
+
+slice-aggregate-check-descriptor : tie.Need-slice-aggregate-check-descriptor Inv-loop μ-loop
+slice-aggregate-check-descriptor c = search needs
+
+check-descriptor-requires : tie.Need-check-descriptor-requires Inv-loop μ-loop
+check-descriptor-requires c κs = search needs
+
+loop-holds : tie.Need-loop-holds Inv-loop μ-loop
+loop-holds c = refl
+
+check-argument-requires : tie.Need-check-argument-requires Inv-loop μ-loop
+check-argument-requires c κs = search needs
+
+add-i : tie.Need-add-i Inv-loop μ-loop
+add-i c = omega arith
+
+loop-less : tie.Need-loop-less Inv-loop μ-loop
+loop-less c = omega arith
+
+loop-again : tie.Need-loop-again Inv-loop μ-loop
+loop-again c = refl
+
+returns : tie.Need-returns Inv-loop μ-loop
+returns c = search needs
+
+pub main-spec : {M : Type 1} → statement M
+main-spec =
+    tie.close
+    (tie.spec
+    Inv-loop
+    μ-loop
+    arg-count-requires
+    slice-aggregate-check-descriptor
+    check-descriptor-requires
+    loop-holds
+    check-argument-requires
+    add-i
+    loop-less
+    loop-again
+    returns)
