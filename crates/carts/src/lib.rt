@@ -5,7 +5,7 @@ use ids::Station;
 ghost use mathlib.Core.Path.{_≡_};
 ghost use mathlib.Core.Bool.{true};
 ghost use Prim.Native.Nat.{_<_};
-ghost use lib.ListN.{length, getD};
+ghost use lib.ListN.{length};
 ghost use Rattle.protocol.specs.Folds.{listOf, update};
 ghost use Rattle.carts.specs.Words.{HasRow, placeIn, canonical};
 ghost use Rattle.carts.specs.Records.{seen, greeted, departed, arrived, numberAfter, received};
@@ -73,15 +73,12 @@ impl Cart {
         ensures { λ r. ⌜ r ≡ received self initiator n ⌝ }
     {
         let s = initiator.0 as usize;
-        if s < INITIATORS {
+        if s < products::INITIATORS {
             self.next[s] = number_after(n);
         }
         self
     }
 }
-
-// "Stations 1 to 16": as many initiators.
-const INITIATORS: usize = 16;
 
 // The number after a message's.
 fn number_after(n: MessageNumber) -> u64

@@ -14,7 +14,7 @@ use borrow.Author.Tests.{eqb-true, ne-eqb, lt-ltb, le-ltb}
 use Rattle.protocol.specs.CartSets.{has, with}
 use Rattle.protocol.proofs.Tests.{by-test, by-lt, by-eq, clash, and-false, or-right, eqb-self}
 use Rattle.protocol.proofs.SetLaws.{has-with, with-lt, same-members}
-use Rattle.cartset.proofs.Walk.{nothing-between}
+use Rattle.sets.proofs.Walk.{nothing-between}
 use Rattle.stations.specs.View.{Stations, withQueue}
 use Rattle.messages.specs.View.{Rooms}
 use Rattle.queue.specs.Rooms.{roomIn}

@@ -10,7 +10,7 @@ use borrow.Author.Tests.{lt-ltb, le-ltb}
 use Rattle.protocol.specs.CartSets.{has}
 use Rattle.protocol.specs.Floor.{Floor}
 use Rattle.protocol.proofs.Tests.{on-cond}
-use Rattle.cartset.proofs.Walk.{nothing-between}
+use Rattle.sets.proofs.Walk.{nothing-between}
 use Rattle.queue.specs.Rooms.{roomCode, roomIn}
 use Rattle.queue.proofs.Codes.{Below, room-in, no-room-in, decoded, code-fits, encoded}
 use Rattle.catchup.specs.Nearest.{wouldStop, nearerWith, nearestAmong}

@@ -9,7 +9,7 @@ use lib.ListN.{getD}
 use Rattle.protocol.specs.CartSets.{has, with}
 use Rattle.protocol.specs.Folds.{sum, listOf}
 use Rattle.protocol.specs.Floor.{Floor}
-use Rattle.stations.specs.View.{Stations, rooms}
+use Rattle.stations.specs.View.{Stations}
 use Rattle.messages.specs.View.{Rooms}
 use Rattle.queue.specs.Rooms.{roomCode, roomIn}
 use Rattle.catchup.specs.Nearest.{nearestAmong, stopBy}

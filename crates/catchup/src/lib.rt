@@ -17,9 +17,6 @@ ghost use Rattle.catchup.specs.Naming.{Covers, namedBy};
 ghost use Rattle.catchup.specs.Nearest.{wouldStop, nearerWith, nearestAmong, stopBy};
 ghost use Rattle.catchup.specs.Arrival.{stopsBefore, levelIn, nearestRow, stopIn, Rises, rise, isFound, occurs, OwnRooms, queuedFor};
 
-// "Stations 1 to 16": as many initiators.
-const INITIATORS: usize = 16;
-
 // Would the message in room m stop the cart at the station, on its way up from the next number among those of the initiator?
 fn would_stop(
     stations: &[u64],
@@ -41,14 +38,14 @@ fn would_stop(
         return false;
     }
     // It is buffered here while its number is below the expected one and its delete is not handled.
-    if !cartset::has(waiting, station.0) {
+    if !sets::has(waiting, station.0) {
         return false;
     }
     let number = messages::number_of(messages, m).0;
     if stations::expected_of(stations, station, initiator) <= number {
         return false;
     }
-    if !cartset::has(stations::copy_of(stations, m, station), cart.0) {
+    if !sets::has(stations::copy_of(stations, m, station), cart.0) {
         return false;
     }
     next <= number
@@ -97,8 +94,8 @@ pub fn nearest_of(
     let mut nearest = queue::NONE;
     let mut left = stations::rooms_naming(stations, station, cart);
     while 0 < left {
-        let m = cartset::first(left) as usize;
-        left = cartset::without_first(left);
+        let m = sets::first(left) as usize;
+        left = sets::without_first(left);
         nearest = nearer(
             stations,
             messages,
@@ -124,10 +121,10 @@ pub fn initiator_for(
     requires { ⌜ HasStation (now stations) (station .0) × HasRooms (now messages) × (cart .0 < 64) × (m < roomCount (now messages)) ⌝ }
     ensures { λ r. ⌜ r ≡ namedBy (stationsIn (now (stations .entry))) (roomsIn (now (messages .entry))) (station .0) (cart .0) m ⌝ }
 {
-    if cartset::has(stations::copy_of(stations, m, station), cart.0) {
+    if sets::has(stations::copy_of(stations, m, station), cart.0) {
         return messages::initiator_of(messages, m).0;
     }
-    INITIATORS as u64
+    products::INITIATORS as u64
 }
 
 // The later of two numbers.
@@ -144,7 +141,7 @@ pub fn levels(stations: &[u64], station: Station, row: [u64; 16]) -> [u64; 16]
 {
     let mut upto = row;
     let mut s: usize = 0;
-    while s < INITIATORS {
+    while s < products::INITIATORS {
         upto[s] = later(
             row[s],
             stations::expected_of(stations, station, Station(s as u64)),
@@ -166,7 +163,7 @@ fn stops_before(messages: &[u64], station: Station, m: usize, next: u64, upto: u
     if number < next {
         return false;
     }
-    cartset::has(messages::waiting_of(messages, m), station.0)
+    sets::has(messages::waiting_of(messages, m), station.0)
 }
 
 // Where each next number stops, and the nearest message of each initiator.
@@ -195,10 +192,10 @@ pub fn stops_of(
     let mut nearest = [queue::NONE; 16];
     let mut left = naming;
     while 0 < left {
-        let m = cartset::first(left) as usize;
-        left = cartset::without_first(left);
+        let m = sets::first(left) as usize;
+        left = sets::without_first(left);
         let s = initiator_for(stations, messages, station, cart, m) as usize;
-        if s < INITIATORS {
+        if s < products::INITIATORS {
             if stops_before(messages, station, m, row[s], upto[s]) {
                 upto[s] = messages::number_of(messages, m).0;
                 nearest[s] = m;
@@ -215,7 +212,7 @@ pub fn passed_over(row: [u64; 16], upto: [u64; 16]) -> u64
 {
     let mut passed: u64 = 0;
     let mut s: usize = 0;
-    while s < INITIATORS {
+    while s < products::INITIATORS {
         passed += upto[s] - row[s];
         s += 1;
     }
@@ -247,7 +244,7 @@ fn enqueue_for(stations: &mut [u64], station: Station, cart: CartNumber, m: usiz
     ensures { λ _. ⌜ headIn (now (stations .exit)) ≡ headIn (now (stations .entry)) ⌝ }
     ensures { λ _. ⌜ length (now (stations .exit)) ≡ length (now (stations .entry)) ⌝ }
 {
-    let carts = cartset::with_cart(stations::queue_of(stations, m, station), cart.0);
+    let carts = sets::with_member(stations::queue_of(stations, m, station), cart.0);
     stations::put_queue(stations, m, station, carts);
 }
 
@@ -280,10 +277,10 @@ pub fn enqueue_all(
 {
     let mut left = naming;
     while 0 < left {
-        let m = cartset::first(left) as usize;
-        left = cartset::without_first(left);
+        let m = sets::first(left) as usize;
+        left = sets::without_first(left);
         let s = messages::initiator_of(messages, m).0 as usize;
-        if s < INITIATORS {
+        if s < products::INITIATORS {
             if nearest[s] == m {
                 enqueue_for(stations, station, cart, m);
             }

@@ -8,10 +8,10 @@ use native.Mathlib.Omega.{arith}
 use lib.ListN.{length, take, drop, getD, set, length-drop}
 use lib.Seq.{paste, paste-suc, take-paste, drop-paste, getD-drop, take-add, take-at, drop-at, length-take-le}
 use borrow.Author.Tests.{lt-ltb, le-ltb, eq-eqb, ne-eqb}
-use Rattle.reader.specs.Checks.{Found, after, checked, checkIn, Fed}
-use Rattle.reader.specs.declared.Checked.{Checked}
+use Rattle.frame_reader.specs.Checks.{Found, after, checked, checkIn, Fed}
+use Rattle.frame_reader.specs.declared.Checked.{Checked}
 use Rattle.protocol.proofs.Tests.{by-lt, by-eq}
-use Rattle.reader.proofs.Pieces.{check-inside, short-left, stands, fed-more}
+use Rattle.frame_reader.proofs.Pieces.{check-inside, short-left, stands, fed-more}
 use Rattle.checkframes.specs.declared.Progress.{Progress}
 use Rattle.checkframes.specs.Progress.{stateAfter, Inside, Goes, Ended}
 

@@ -5,7 +5,7 @@ use mathlib.Core.List.{List, _++_}
 use Prim.Native.Nat.{ℕ, _≤_, _<_}
 use lib.Dec.{eqb, ltb}
 use lib.ListN.{length}
-use Rattle.reader.specs.Checks.{Found, checked, checkIn, Fed}
+use Rattle.frame_reader.specs.Checks.{Found, checked, checkIn, Fed}
 use Rattle.checkframes.specs.declared.Progress.{Progress}
 
 -- what is to be done after a read: nothing once it failed (3), once a frame is refused for what it says (2) or once it brought nothing (1)

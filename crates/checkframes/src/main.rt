@@ -1,14 +1,14 @@
 // THE PROGRAM CHECKFRAMES: for each file that its arguments name, or for standard input where they name none, how many whole frames it
 // begins with, and the refusal and the octet of what stands behind them. A file is read in pieces, and the memory is the same whatever its length.
+use frame_reader::Checked;
 use libc::STDIN_FILENO;
 use libc::STDOUT_FILENO;
-use reader::Checked;
 ghost use mathlib.Core.Path.{_≡_};
 ghost use mathlib.Core.Bool.{true};
 ghost use Prim.Native.Nat.{_+_, _-_, _≤_, _<_};
 ghost use lib.ListN.{length, take, drop};
 ghost use lib.Seq.{paste};
-ghost use Rattle.reader.specs.Checks.{checkIn, after};
+ghost use Rattle.frame_reader.specs.Checks.{checkIn, after};
 ghost use Rattle.checkframes.specs.Progress.{stateAfter, Inside, Goes, Ended};
 
 // How far a file was checked: what its octets so far come to, how many of them are kept at the front of the input for the next piece, and what is
@@ -107,7 +107,7 @@ fn turn(fd: i32, input: &mut [u8], p: Progress) -> Progress
     let kept = p.kept;
     let got = read_behind(fd, input, kept);
     let have = kept + got.count;
-    let piece = reader::check(&input[..have]);
+    let piece = frame_reader::check(&input[..have]);
     let left = keep(input, piece.at, have);
     let state = state_after(got.failed, got.count, piece.refusal);
     Progress {

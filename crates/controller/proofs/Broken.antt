@@ -12,8 +12,8 @@ use Rattle.protocol.specs.Events.{Event, enter, send, wire, radio, move, refuse
 use Rattle.protocol.specs.Form.{passesForm}
 use Rattle.protocol.specs.Refusals.{refusal, refusalIf}
 use Rattle.view.specs.View.{Lent, floorIn}
-use Rattle.answers.specs.Met.{Met}
-use Rattle.answers.proofs.Meets.{refusal-broken, meets-refused}
+use Rattle.event_answers.specs.Met.{Met}
+use Rattle.event_answers.proofs.Meets.{refusal-broken, meets-refused}
 
 -- what the form test answered, in the way of the code that asked
 module _ (L : Lent) (e : Event) (tested : Bool) (test-is : tested ≡ passesForm (limitsOf (L .product)) (floorIn L)) (no : tested ≡ false) where

@@ -1,5 +1,5 @@
 -- A RUN OF CALLS IS THE WRITTEN RUN over the same events, so demand 3 speaks of it.
-use mathlib.Core.Path.{_≡_, refl, sym, ap, ap₂, _∙_, subst}
+use mathlib.Core.Path.{_≡_, refl, sym, ap₂, _∙_, subst}
 use mathlib.Core.List.{List, [], _∷_, map}
 use Prim.Native.Nat.{ℕ}
 use Rattle.protocol.specs.Floor.{Product, limitsOf, Floor}
@@ -8,7 +8,7 @@ use Rattle.protocol.specs.Step.{floorAfter, answers}
 use Rattle.protocol.specs.TwoLists.{Lists, bothEmpty, listsStep, listsAfter, owes, TwoListRule}
 use Rattle.protocol.proofs.Theorems.{two-list-rule}
 use Rattle.view.specs.View.{Lent, floorIn}
-use Rattle.answers.specs.Met.{Met}
+use Rattle.event_answers.specs.Met.{Met}
 use Rattle.controller.specs.Run.{Call, Calls, leftBy, listsOf, eventsOf, RunIs}
 
 -- the floor

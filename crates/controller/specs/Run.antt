@@ -7,7 +7,7 @@ use Rattle.protocol.specs.Events.{Event, Answer}
 use Rattle.protocol.specs.Step.{floorAfter, answers}
 use Rattle.protocol.specs.TwoLists.{Lists, bothEmpty, listsStep, owes, TwoListRule}
 use Rattle.view.specs.View.{Lent, floorIn}
-use Rattle.answers.specs.Met.{Met}
+use Rattle.event_answers.specs.Met.{Met}
 
 -- a call: the event that it was made for, what it answered, and the lent parts that it left
 pub record Call : Type 0 where

@@ -3,5 +3,5 @@ use libc::STDIN_FILENO;
 use libc::STDOUT_FILENO;
 
 fn main() {
-    feeding::run(STDIN_FILENO, STDOUT_FILENO);
+    frame_stream::run(STDIN_FILENO, STDOUT_FILENO);
 }

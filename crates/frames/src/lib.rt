@@ -39,9 +39,6 @@ struct Halves {
 // "Sixteen octets."
 const FRAME: usize = 16;
 
-// "text 0 to 32 octets".
-const TEXT: u64 = 32;
-
 // The lowest bit of each field of the head: "kind 4 bits, station 4, cart 6, other 4, length 6, zero 40".
 const KIND_BIT: u64 = 1 << 60;
 
@@ -141,7 +138,7 @@ fn send_of(f: Halves, behind: usize) -> Reading
         return Reading::Refused(3);
     }
     let length = f.head / LENGTH_BIT % 64;
-    if TEXT < length {
+    if (products::TEXT as u64) < length {
         return Reading::Refused(4);
     }
     if (behind as u64) < length {

@@ -24,7 +24,6 @@ use Rattle.carts.specs.Words.{HasRow}
 use Rattle.carts.specs.View.{cartsIn, canonicalIn}
 use Rattle.messages.specs.View.{Rooms, roomsIn}
 use Rattle.view.specs.View.{Lent, lent, textsIn, floorOf, floorIn}
-use Rattle.view.proofs.Lengths.{Lengths}
 use Rattle.view.proofs.Laid.{Laid, local-stays, local-joins, laid-carts}
 use Rattle.view.proofs.Standing.{Standing, few-stations, few-carts}
 use Rattle.queue.specs.Rooms.{tablesFloor, roomCount, HasRooms}

@@ -11,7 +11,7 @@ use Rattle.protocol.specs.CartSets.{has, without}
 use Rattle.protocol.specs.Folds.{update2}
 use Rattle.protocol.proofs.Tests.{and-left, and-second-false, and-false, by-test, eqb-self, on-cond, on-update2}
 use Rattle.protocol.proofs.SetLaws.{same-members, without-lt, has-without}
-use Rattle.stations.specs.View.{Stations, rooms, stationsIn, withCopy}
+use Rattle.stations.specs.View.{Stations, stationsIn, withCopy}
 use Rattle.stations.proofs.TableLaws.{expected-beyond}
 use Rattle.messages.specs.View.{Rooms}
 use Rattle.catchup.specs.Naming.{Covers, namedBy}

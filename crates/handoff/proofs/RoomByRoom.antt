@@ -13,8 +13,8 @@ use Rattle.protocol.specs.Folds.{update2}
 use Rattle.protocol.specs.CartSets.{has, without}
 use Rattle.protocol.proofs.Tests.{by-test, by-lt, and-false, on-update2, eqb-self}
 use Rattle.protocol.proofs.SetLaws.{without-lt}
-use Rattle.cartset.specs.Masks.{least}
-use Rattle.cartset.proofs.Walk.{Ahead, nothing-between, ahead-start, ahead-next, ahead-skips, ahead-end}
+use Rattle.sets.specs.Masks.{least}
+use Rattle.sets.proofs.Walk.{Ahead, nothing-between, ahead-start, ahead-next, ahead-skips, ahead-end}
 use Rattle.stations.specs.View.{Stations, withQueue, withCopy}
 use Rattle.messages.specs.View.{Rooms}
 use Rattle.catchup.specs.Naming.{Covers}

@@ -22,9 +22,6 @@ ghost use Rattle.handoff.specs.Left.{unqueued, left, Left};
 ghost use Rattle.handoff.specs.Struck.{isBelow, struckIn, struckFrom};
 ghost use Rattle.handoff.specs.Arrived.{allZero, joined, Docked, Arrived};
 
-// "Stations 1 to 16": as many initiators.
-const INITIATORS: usize = 16;
-
 // A row of next numbers after catch-up, and "the numbers passed over in this step".
 struct Caught {
     row: [u64; 16],
@@ -56,9 +53,9 @@ fn unqueue(stations: &mut [u64], number: CartNumber, station: Station)
 {
     let mut left = stations::entries_of(stations, station);
     while 0 < left {
-        let m = cartset::first(left) as usize;
-        left = cartset::without_first(left);
-        let carts = cartset::without_cart(stations::queue_of(stations, m, station), number.0);
+        let m = sets::first(left) as usize;
+        left = sets::without_first(left);
+        let carts = sets::without_member(stations::queue_of(stations, m, station), number.0);
         stations::put_queue(stations, m, station, carts);
     }
 }
@@ -71,7 +68,7 @@ fn leave(stations: &mut [u64], number: CartNumber, station: Station)
     ensures { λ _. ⌜ length (now (stations .exit)) ≡ length (now (stations .entry)) ⌝ }
 {
     unqueue(stations, number, station);
-    let local = cartset::without_cart(stations::local_of(stations, station), number.0);
+    let local = sets::without_member(stations::local_of(stations, station), number.0);
     stations::put_local(stations, station, local);
 }
 
@@ -115,7 +112,7 @@ fn is_passed(
     requires { ⌜ initiator .0 ≡ roomsIn (now messages) .initiator m ⌝ }
     ensures { λ r. ⌜ r ≡ isBelow (stationsIn (now (stations .entry))) (roomsIn (now (messages .entry))) (station .0) m next ⌝ }
 {
-    if !cartset::has(messages::waiting_of(messages, m), station.0) {
+    if !sets::has(messages::waiting_of(messages, m), station.0) {
         return false;
     }
     let number = messages::number_of(messages, m).0;
@@ -147,9 +144,9 @@ fn strike_from(
     if !is_passed(stations, messages, station, initiator, next, m) {
         return naming;
     }
-    let copy = cartset::without_cart(stations::copy_of(stations, m, station), cart.0);
+    let copy = sets::without_member(stations::copy_of(stations, m, station), cart.0);
     stations::put_copy(stations, m, station, copy);
-    cartset::without_cart(naming, m as u64)
+    sets::without_member(naming, m as u64)
 }
 
 // "from each buffered copy naming the cart with a number below the cart's next number, the cart is struck". Only rooms that may
@@ -173,11 +170,11 @@ fn strike(
     let mut ahead = naming;
     let mut left = naming;
     while 0 < left {
-        let m = cartset::first(left) as usize;
-        left = cartset::without_first(left);
+        let m = sets::first(left) as usize;
+        left = sets::without_first(left);
         let initiator = catchup::initiator_for(stations, messages, station, cart, m);
         let s = initiator as usize;
-        if s < INITIATORS {
+        if s < products::INITIATORS {
             ahead = strike_from(
                 stations,
                 messages,
@@ -209,7 +206,7 @@ fn join(
     ensures { λ _. ⌜ length (now (stations .exit)) ≡ length (now (stations .entry)) ⌝ }
 {
     catchup::enqueue_all(stations, messages, station, cart, naming, nearest);
-    let local = cartset::with_cart(stations::local_of(stations, station), cart.0);
+    let local = sets::with_member(stations::local_of(stations, station), cart.0);
     stations::put_local(stations, station, local);
 }
 

@@ -1,6 +1,6 @@
 // THE DEMONSTRATION KIT: the six events over a small floor in lent memory, "at most 4 stations, 8 carts and 8 held messages". Every step is the floor's own:
 // only the limits are others.
-use answers::Answer;
+use event_answers::Answer;
 use ids::CartNumber;
 use ids::Station;
 ghost use mathlib.Core.Path.{_≡_};
@@ -9,18 +9,15 @@ ghost use Rattle.protocol.specs.Floor.{kit, limitsOf};
 ghost use Rattle.protocol.specs.Events.{start, enter, send, wire, move};
 ghost use Rattle.protocol.specs.Form.{passesForm};
 ghost use Rattle.view.specs.View.{lent, floorIn};
-ghost use Rattle.answers.specs.Answers.{answerIn};
-ghost use Rattle.answers.specs.Met.{Met};
-ghost use Rattle.answers.specs.Delivered.{Delivered};
-
-// "text 0 to 32 octets".
-const TEXT: usize = 32;
+ghost use Rattle.event_answers.specs.Answers.{answerIn};
+ghost use Rattle.event_answers.specs.Met.{Met};
+ghost use Rattle.event_answers.specs.Delivered.{Delivered};
 
 // The lent floor passes the form rule.
 fn passes(stations: &[u64], carts: &[u64], messages: &[u64], lines: &[u64], texts: &[u8]) -> bool
     ensures { λ r. ⌜ r ≡ passesForm (limitsOf kit) (floorIn (lent kit (now (stations .entry)) (now (carts .entry)) (now (messages .entry)) (now (lines .entry)) (now (texts .entry)))) ⌝ }
 {
-    formtest::passes(
+    form_test::passes(
         stations,
         carts,
         messages,
@@ -43,7 +40,7 @@ pub fn start(
 ) -> Answer
     ensures { λ a. ⌜ Met (lent kit (now (stations .entry)) (now (carts .entry)) (now (messages .entry)) (now (lines .entry)) (now (texts .entry))) (lent kit (now (stations .exit)) (now (carts .exit)) (now (messages .exit)) (now (lines .exit)) (now (texts .entry))) (start n k) (answerIn a []) ⌝ }
 {
-    starting::start(
+    event_start::start(
         stations,
         carts,
         messages,
@@ -70,7 +67,7 @@ pub fn enter(
     if !passes(stations, carts, messages, lines, texts) {
         return Answer::Refused(5);
     }
-    rolling::enter(stations, carts, messages, lines, texts, station, cart)
+    event_carts::enter(stations, carts, messages, lines, texts, station, cart)
 }
 
 // "Send (station, set, text)". A text longer than 32 octets is met before anything of the floor.
@@ -86,13 +83,13 @@ pub fn send(
 ) -> Answer
     ensures { λ a. ⌜ Met (lent kit (now (stations .entry)) (now (carts .entry)) (now (messages .entry)) (now (lines .entry)) (now (texts .entry))) (lent kit (now (stations .exit)) (now (carts .entry)) (now (messages .exit)) (now (lines .exit)) (now (texts .exit))) (send (station .0) set (now (text .entry))) (answerIn a []) ⌝ }
 {
-    if TEXT < text.len() {
+    if products::TEXT < text.len() {
         return Answer::Refused(4);
     }
     if !passes(stations, carts, messages, lines, texts) {
         return Answer::Refused(5);
     }
-    posting::send(
+    event_send::send(
         stations,
         carts,
         messages,
@@ -120,7 +117,7 @@ pub fn wire(
     if !passes(stations, carts, messages, lines, texts) {
         return Answer::Refused(5);
     }
-    wiring::wire(stations, carts, messages, lines, texts, from, to)
+    event_wire::wire(stations, carts, messages, lines, texts, from, to)
 }
 
 // "Radio (station, cart)": `Delivered` says of the lent text buffer, too, what it is afterwards.
@@ -139,7 +136,7 @@ pub fn radio(
     if !passes(stations, carts, messages, lines, texts) {
         return Answer::Refused(5);
     }
-    receiving::radio_into(
+    event_radio::radio_into(
         stations,
         carts,
         messages,
@@ -166,5 +163,5 @@ pub fn move_cart(
     if !passes(stations, carts, messages, lines, texts) {
         return Answer::Refused(5);
     }
-    rolling::move_cart(stations, carts, messages, lines, texts, cart, to)
+    event_carts::move_cart(stations, carts, messages, lines, texts, cart, to)
 }

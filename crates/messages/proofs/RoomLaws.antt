@@ -2,7 +2,7 @@
 use mathlib.Core.Path.{_≡_, ap, _∙_}
 use mathlib.Core.Bool.{cond}
 use mathlib.Core.List.{List}
-use Prim.Native.Nat.{ℕ, _*_, _≤_, _<_}
+use Prim.Native.Nat.{ℕ, _*_, _≤_}
 use native.Mathlib.Omega.{arith}
 use lib.Dec.{eqb}
 use lib.ListN.{length, getD}
@@ -11,7 +11,7 @@ use Rattle.protocol.proofs.Tests.{by-test}
 use Rattle.rows.specs.Rows.{cell}
 use Rattle.rows.proofs.RowLaws.{cell-zero, cell-past, update2-column}
 use Rattle.rows.proofs.ColumnLaws.{word-put}
-use Rattle.messages.specs.View.{width, HasRoom, roomsOf, roomsIn, noRooms, withAcked, withWaiting, withMessage}
+use Rattle.messages.specs.View.{width, roomsOf, roomsIn, noRooms, withAcked, withWaiting, withMessage}
 
 -- THE WORDS OF A ROW. W m k is word k of room m.
 

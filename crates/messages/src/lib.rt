@@ -23,14 +23,6 @@ const WAITING: usize = 4;
 
 const LENGTH: usize = 5;
 
-// A room's part of the texts has this many octets.
-const LONGEST: usize = 32;
-
-// The whole table, and all the texts: "At most 32 held messages".
-pub const WORDS: usize = 32 * WIDTH;
-
-pub const OCTETS: usize = 32 * LONGEST;
-
 // The initiator of the message in room m.
 pub fn initiator_of(messages: &[u64], m: usize) -> Station
     requires { ⌜ HasRoom (now messages) m ⌝ }
@@ -135,8 +127,8 @@ pub fn put_text(texts: &mut [u8], m: usize, text: &[u8])
     ensures { λ _. ⌜ ((k n : ℕ) → (k ≡ m → ⊥) → n ≤ longest → textIn (now (texts .exit)) n k ≡ textIn (now (texts .entry)) n k) ⌝ }
     ensures { λ _. ⌜ length (now (texts .exit)) ≡ length (now (texts .entry)) ⌝ }
 {
-    let at = m * LONGEST;
-    let end = at + LONGEST;
+    let at = m * products::TEXT;
+    let end = at + products::TEXT;
     bytes::copy(text, &mut texts[at..end]);
 }
 
@@ -147,7 +139,7 @@ pub fn copy_text(texts: &[u8], m: usize, n: usize, buffer: &mut [u8]) -> usize
     ensures { λ _. ⌜ now (buffer .exit) ≡ textIn (now (texts .entry)) n m ++ drop n (now (buffer .entry)) ⌝ }
     ensures { λ _. ⌜ length (now (buffer .exit)) ≡ length (now (buffer .entry)) ⌝ }
 {
-    let at = m * LONGEST;
+    let at = m * products::TEXT;
     let end = at + n;
     bytes::copy(&texts[at..end], buffer);
     n

@@ -1,6 +1,6 @@
 -- A PRODUCT'S LIMITS AS THE RUNNING CODE HAS THEM: four numbers, handed on by value.
 use mathlib.Core.Path.{_≡_}
-use Prim.Native.Nat.{ℕ, _≤_}
+use Prim.Native.Nat.{_≤_}
 use Rattle.protocol.specs.Floor.{Product}
 use Rattle.products.specs.declared.Bounds.{Bounds}
 

@@ -1,8 +1,8 @@
 -- Numbers of a width: every number that a floor or a record carries.
-use mathlib.Core.Path.{refl, subst, sym, _≡_}
-use mathlib.Core.Bool.{_&&_, cond, true, false}
+use mathlib.Core.Path.{subst, sym}
+use mathlib.Core.Bool.{_&&_}
 use mathlib.Core.List.{List, [], _∷_}
-use Prim.Native.Nat.{_<_, _^_, suc, zero, ℕ, _≤_}
+use Prim.Native.Nat.{_<_, suc, zero, ℕ}
 use native.Mathlib.Omega.{arith}
 use lib.Dec.{eqb}
 use Rattle.protocol.specs.Folds.{listOf}

@@ -10,7 +10,7 @@ use Rattle.protocol.specs.Floor.{Floor, isLocal, localTo}
 use Rattle.protocol.specs.Wireless.{allAcked}
 use Rattle.protocol.proofs.Tests.{by-test, by-lt, same-test, every-at, every-all, and-false}
 use Rattle.protocol.proofs.SetLaws.{has-minus, has-setOf, member-below}
-use Rattle.cartset.specs.Masks.{disjoint}
+use Rattle.sets.specs.Masks.{disjoint}
 use Rattle.stations.specs.View.{Stations, stationsIn}
 use Rattle.view.specs.View.{Lent, floorIn, localRight}
 

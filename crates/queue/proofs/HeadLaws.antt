@@ -8,7 +8,7 @@ use borrow.Author.Tests.{eq-eqb}
 use Rattle.protocol.specs.Floor.{Floor}
 use Rattle.protocol.specs.Wireless.{standsBefore, headWith, headAmong}
 use Rattle.protocol.proofs.Tests.{on-cond}
-use Rattle.cartset.proofs.Walk.{nothing-between}
+use Rattle.sets.proofs.Walk.{nothing-between}
 use Rattle.queue.proofs.Codes.{Below}
 
 module _ (F : Floor) (t : ℕ) where

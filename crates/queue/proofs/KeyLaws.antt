@@ -8,7 +8,7 @@ use native.Mathlib.Omega.{arith}
 use lib.Dec.{eqb, ltb}
 use borrow.Author.Tests.{lt-ltb, le-ltb, eq-eqb, ne-eqb, eqb-false}
 use Rattle.protocol.specs.Floor.{Floor}
-use Rattle.protocol.specs.Wireless.{standsBefore, headWith, headAmong, queueHead}
+use Rattle.protocol.specs.Wireless.{standsBefore, headWith, headAmong}
 use Rattle.protocol.proofs.Tests.{by-lt, by-eq, on-cond}
 use Rattle.queue.specs.declared.Best.{Best}
 use Rattle.queue.specs.Rooms.{roomCode}

@@ -4,14 +4,11 @@ ghost use mathlib.Core.Path.{_≡_};
 ghost use Prim.Native.Nat.{_<_};
 ghost use Rattle.protocol.specs.CartSets.{minus};
 ghost use Rattle.protocol.specs.Wireless.{headAmong};
-ghost use Rattle.cartset.specs.Masks.{disjoint};
+ghost use Rattle.sets.specs.Masks.{disjoint};
 ghost use Rattle.stations.specs.View.{rooms, HasStation, stationsIn};
 ghost use Rattle.messages.specs.View.{HasRoom, roomsIn};
 ghost use Rattle.queue.specs.Rooms.{tablesFloor, QueueRooms, roomCode};
 ghost use Rattle.queue.specs.Keys.{InKey, keyOf, Keyed, firstOf, bestWith};
-
-// "At most 32 held messages": as many rooms.
-pub const ROOMS: usize = 32;
 
 // The word for no room.
 pub const NONE: usize = 32;
@@ -64,8 +61,8 @@ pub fn head(stations: &[u64], messages: &[u64], station: Station) -> usize
     };
     let mut left = stations::entries_of(stations, station);
     while 0 < left {
-        let m = cartset::first(left) as usize;
-        left = cartset::without_first(left);
+        let m = sets::first(left) as usize;
+        left = sets::without_first(left);
         best = best_with(stations, messages, station, m, best);
     }
     best.head
@@ -78,8 +75,8 @@ pub fn all_acked(stations: &[u64], m: usize, station: Station) -> bool
 {
     let copy = stations::copy_of(stations, m, station);
     let acks = stations::acks_of(stations, m, station);
-    cartset::is_disjoint(
+    sets::is_disjoint(
         stations::local_of(stations, station),
-        cartset::minus(copy, acks),
+        sets::minus(copy, acks),
     )
 }

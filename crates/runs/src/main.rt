@@ -10,7 +10,7 @@ fn run_file(path: &[u8]) {
     }
     io::write_all(STDOUT_FILENO, path);
     io::write_all(STDOUT_FILENO, &[b'\n']);
-    feeding::run(fd, STDOUT_FILENO);
+    frame_stream::run(fd, STDOUT_FILENO);
     libc::close(fd);
 }
 

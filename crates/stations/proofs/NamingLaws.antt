@@ -9,7 +9,7 @@ use lib.Pow.{pow-mono}
 use Rattle.protocol.specs.CartSets.{digit, has, setOf}
 use Rattle.protocol.proofs.Tests.{by-test, by-lt, and-false}
 use Rattle.protocol.proofs.SetLaws.{has-zero, has-setOf, setOf-lt, member-below, same-members}
-use Rattle.cartset.proofs.MaskLaws.{digit-is, setOf-low, has-and}
+use Rattle.sets.proofs.MaskLaws.{digit-is, setOf-low, has-and}
 use Rattle.rows.proofs.ColumnLaws.{column-read}
 use Rattle.stations.specs.View.{rooms, copyAt, copiesAt, stationWord, stationsIn, wordNames, namingIn}
 

@@ -14,7 +14,7 @@ use Rattle.protocol.proofs.SetLaws.{has-zero, has-minus, has-with, has-without,
 use Rattle.rows.specs.Rows.{cell, column}
 use Rattle.rows.proofs.RowLaws.{cell-zero, cell-past, update2-column}
 use Rattle.rows.proofs.ColumnLaws.{word-put, column-read, column-put, column-put-turned, column-stays, column-beyond, column-zero}
-use Rattle.stations.specs.View.{width, HasHead, HasStation, initiators, rooms, headOf, head, stationsOf, expectedAt, copyAt, acksAt, queueAt, headIn, stationsIn, stationWord, noStations, withSent, withExpected, withLocal, withCopy, withAcks, withQueue, copiesAt, entriesAt, counted, countedWith, entriesIn}
+use Rattle.stations.specs.View.{width, initiators, rooms, headOf, head, stationsOf, expectedAt, copyAt, acksAt, queueAt, headIn, stationsIn, stationWord, noStations, withSent, withExpected, withLocal, withCopy, withAcks, withQueue, copiesAt, entriesAt, counted, countedWith, entriesIn}
 
 -- A STATION'S ROW AND THE FLOOR'S OWN
 

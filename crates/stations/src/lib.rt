@@ -11,10 +11,10 @@ ghost use Rattle.stations.specs.View.{width, initiators, rooms, HasHead,
 // A row of the table has this many words. Row 0 is the floor's own, row 1 + t is station t's.
 const WIDTH: usize = 116;
 
-// The whole table, for sixteen stations.
-pub const WORDS: usize = 17 * WIDTH;
+// The mark that says started.
+pub const STARTED: u64 = 1;
 
-// The floor's own row: the mark that says started, how many stations, how many carts. The rest is not used.
+// The floor's own row: the mark, how many stations, how many carts. The rest is not used.
 const MARK: usize = 0;
 
 const STATIONS: usize = 1;
@@ -41,10 +41,7 @@ const COPIES: usize = 114;
 
 const ENTRIES: usize = 115;
 
-// "At most 32 held messages": as many rooms.
-const ROOMS: u64 = 32;
-
-// Half of them, and the least number with a bit past these.
+// Half of the rooms, and the least number with a bit past these.
 const HALF: usize = 16;
 
 const PAST_HALF: u64 = 65536;
@@ -161,7 +158,10 @@ pub fn put_local(stations: &mut [u64], station: Station, carts: u64)
 fn rooms_among(word: u64) -> u64
     ensures { λ r. ⌜ r ≡ setOf rooms (has word) ⌝ }
 {
-    cartset::minus(word, cartset::minus(word, cartset::all_below(ROOMS)))
+    sets::minus(
+        word,
+        sets::minus(word, sets::all_below(products::ROOMS as u64)),
+    )
 }
 
 // The rooms that count once room m has that word.
@@ -170,9 +170,9 @@ fn counted_with(among: u64, m: usize, word: u64) -> u64
     ensures { λ r. ⌜ r ≡ countedWith among m word ⌝ }
 {
     if word == 0 {
-        cartset::without_cart(among, m as u64)
+        sets::without_member(among, m as u64)
     } else {
-        cartset::with_cart(among, m as u64)
+        sets::with_member(among, m as u64)
     }
 }
 
@@ -189,7 +189,7 @@ pub fn copy_of(stations: &[u64], m: usize, station: Station) -> u64
     requires { ⌜ HasStation (now stations) (station .0) × (m < rooms) ⌝ }
     ensures { λ r. ⌜ r ≡ stationsIn (now (stations .entry)) .copy m (station .0) ⌝ }
 {
-    if !cartset::has(word_of(stations, station, COPIES), m as u64) {
+    if !sets::has(word_of(stations, station, COPIES), m as u64) {
         return 0;
     }
     word_of(stations, station, COPY + ROOM * m)
@@ -222,7 +222,7 @@ pub fn rooms_naming(stations: &[u64], station: Station, cart: CartNumber) -> u64
     if copies < PAST_HALF {
         return words_naming(stations, station, cart, HALF) & copies;
     }
-    words_naming(stations, station, cart, ROOMS as usize) & copies
+    words_naming(stations, station, cart, products::ROOMS) & copies
 }
 
 // The station has another copy.
@@ -260,7 +260,7 @@ pub fn queue_of(stations: &[u64], m: usize, station: Station) -> u64
     requires { ⌜ HasStation (now stations) (station .0) × (m < rooms) ⌝ }
     ensures { λ r. ⌜ r ≡ stationsIn (now (stations .entry)) .queue m (station .0) ⌝ }
 {
-    if !cartset::has(word_of(stations, station, ENTRIES), m as u64) {
+    if !sets::has(word_of(stations, station, ENTRIES), m as u64) {
         return 0;
     }
     word_of(stations, station, QUEUE + ROOM * m)

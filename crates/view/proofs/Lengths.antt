@@ -7,7 +7,7 @@ use native.Mathlib.Omega.{arith}
 use lib.Dec.{eqb}
 use lib.ListN.{length}
 use borrow.Author.Tests.{eqb-true, eq-eqb}
-use Rattle.protocol.specs.Floor.{Product, limitsOf, mostRecords, outside}
+use Rattle.protocol.specs.Floor.{limitsOf, mostRecords, outside}
 use Rattle.protocol.specs.Blank.{BlankBeyond}
 use Rattle.protocol.proofs.Tests.{and-left, and-right, by-lt}
 use Rattle.rows.proofs.RowLaws.{cell-past}

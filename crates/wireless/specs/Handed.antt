@@ -7,7 +7,7 @@ use Prim.Native.Nat.{ℕ, _+_, _-_, _*_}
 use lib.ListN.{length}
 use Rattle.protocol.specs.CartSets.{minus, with, without}
 use Rattle.protocol.specs.Floor.{Floor}
-use Rattle.cartset.specs.Masks.{disjoint}
+use Rattle.sets.specs.Masks.{disjoint}
 use Rattle.stations.specs.View.{Stations, stationsIn, headIn, withCopy, withAcks, withQueue}
 use Rattle.carts.specs.View.{cartsIn, canonicalIn, withNext}
 use Rattle.lines.specs.Post.{Pushed}

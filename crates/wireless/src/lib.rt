@@ -15,9 +15,6 @@ ghost use Rattle.lines.specs.Lines.{used};
 ghost use Rattle.lines.specs.Words.{capacity};
 ghost use Rattle.wireless.specs.Handed.{tookFrom, Received, holdNone, AcksSent, CaughtUp, HandedOver};
 
-// "Stations 1 to 16": as many initiators.
-const INITIATORS: usize = 16;
-
 // "its next number rises": the cart's record is handed in and handed back. That number alone is new in it, so that alone is stored, and answered.
 fn rise(carts: &mut [u64], initiator: Station, n: MessageNumber, number: CartNumber) -> u64
     requires { ⌜ HasRow (now carts) (number .0) × (initiator .0 < initiators) × (n .0 < 4294967296) ⌝ }
@@ -28,7 +25,7 @@ fn rise(carts: &mut [u64], initiator: Station, n: MessageNumber, number: CartNum
 {
     let s = initiator.0 as usize;
     // This is never so. With it the compiler sees that the number which is read below is the one that was put, and loads no other of the record.
-    if INITIATORS <= s {
+    if products::INITIATORS <= s {
         return 0;
     }
     let cart = carts::cart_at(carts, number).receive(initiator, n);
@@ -53,9 +50,9 @@ fn receive(
     ensures { λ r. ⌜ Received (now (stations .entry)) (now (stations .exit)) (now (carts .entry)) (now (carts .exit)) m (initiator .0) (n .0) (station .0) (number .0) r ⌝ }
 {
     let queue = stations::queue_of(stations, m, station);
-    stations::put_queue(stations, m, station, cartset::without_cart(queue, number.0));
+    stations::put_queue(stations, m, station, sets::without_member(queue, number.0));
     let acks = stations::acks_of(stations, m, station);
-    stations::put_acks(stations, m, station, cartset::with_cart(acks, number.0));
+    stations::put_acks(stations, m, station, sets::with_member(acks, number.0));
     rise(carts, initiator, n, number)
 }
 
@@ -78,7 +75,7 @@ fn send_acks_if_all(
     }
     let acks = stations::acks_of(stations, m, station);
     let copy = stations::copy_of(stations, m, station);
-    stations::put_copy(stations, m, station, cartset::minus(copy, acks));
+    stations::put_copy(stations, m, station, sets::minus(copy, acks));
     stations::put_acks(stations, m, station, 0);
     lines::push_back(
         lines,

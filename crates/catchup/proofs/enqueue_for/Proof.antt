@@ -8,8 +8,8 @@ use Rattle.catchup.proofs.enqueue_for.Tie as tie
 queue-of-requires : tie.Need-queue-of-requires
 queue-of-requires c κs = search needs
 
-with-cart-requires : tie.Need-with-cart-requires
-with-cart-requires c κs = search needs
+with-member-requires : tie.Need-with-cart-requires
+with-member-requires c κs = search needs
 
 put-queue-requires : tie.Need-put-queue-requires
 put-queue-requires c κs = search needs
@@ -21,11 +21,11 @@ returns : tie.Need-returns
 returns c =
     let a = c .before .before .before .before .before .before .before .before .args in
     let q = c .before .before .before .before .before .queue-of in
-    let k = c .before .before .before .before .with-cart in
+    let k = c .before .before .before .before .with-member in
     let p = c .before .before .put-queue in
     (one-queued (stationsIn (a .stations .now)) (a .station .0) (a .cart .0) (a .m) (q .result) (k .result) (q .ensures) (k .ensures) (p .ensures .0), p .ensures .1)
 
 pub enqueue-for-spec : {M : Type 1} → statement M
 enqueue-for-spec =
     tie.close
-    (tie.spec queue-of-requires with-cart-requires put-queue-requires same-length returns)
+    (tie.spec queue-of-requires with-member-requires put-queue-requires same-length returns)

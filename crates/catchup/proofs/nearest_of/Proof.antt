@@ -3,7 +3,7 @@ use mathlib.Core.Path.{_≡_, refl, sym, ap, _∙_}
 use Prim.Native.Nat.{ℕ, _+_}
 use native.Mathlib.Omega.{arith}
 use borrow.Author.Needs.{needs}
-use Rattle.cartset.proofs.Walk.{Ahead, ahead-start, ahead-turn, ahead-end}
+use Rattle.sets.proofs.Walk.{Ahead, ahead-start, ahead-turn, ahead-end}
 use Rattle.stations.specs.View.{stationsIn, namingIn}
 use Rattle.queue.specs.Rooms.{tablesFloor, roomCode, roomCount}
 use Rattle.catchup.specs.Nearest.{nearestAmong}

@@ -3,7 +3,7 @@ use mathlib.Core.Path.{_≡_}
 use Prim.Native.Nat.{ℕ, _+_}
 use native.Mathlib.Omega.{arith}
 use borrow.Author.Needs.{needs}
-use Rattle.cartset.proofs.Walk.{Ahead, Turn, ahead-start, ahead-turn, ahead-end}
+use Rattle.sets.proofs.Walk.{Ahead, Turn, ahead-start, ahead-turn, ahead-end}
 use Rattle.protocol.specs.Floor.{Floor}
 use Rattle.stations.specs.View.{stationsIn}
 use Rattle.messages.specs.View.{roomsIn}

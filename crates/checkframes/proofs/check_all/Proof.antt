@@ -5,8 +5,8 @@ use Prim.Native.Nat.{ℕ}
 use native.Mathlib.Omega.{arith}
 use lib.ListN.{take}
 use borrow.Author.Needs.{needs}
-use Rattle.reader.specs.Checks.{checkIn, Fed}
-use Rattle.reader.proofs.Pieces.{fed-none}
+use Rattle.frame_reader.specs.Checks.{checkIn, Fed}
+use Rattle.frame_reader.proofs.Pieces.{fed-none}
 use Rattle.checkframes.specs.Progress.{Inside}
 use Rattle.checkframes.proofs.Turns.{has-ended}
 use Rattle.checkframes.proofs.check_all.Statement.{statement}

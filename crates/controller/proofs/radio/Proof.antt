@@ -5,7 +5,7 @@ use borrow.Author.Tests.{not-true, not-false}
 use denote.Ref.{now}
 use Rattle.protocol.specs.Floor.{wholeFloor}
 use Rattle.view.specs.View.{lent}
-use Rattle.answers.proofs.Delivers.{delivers-refused}
+use Rattle.event_answers.proofs.Delivers.{delivers-refused}
 use Rattle.controller.proofs.Broken.{broken-radio}
 use borrow.Author.Needs.{needs}
 use Rattle.controller.proofs.radio.Statement.{statement}

@@ -12,8 +12,8 @@ enqueue-all-requires c κs = search needs
 local-of-requires : tie.Need-local-of-requires
 local-of-requires c κs = search needs
 
-with-cart-requires : tie.Need-with-cart-requires
-with-cart-requires c κs = search needs
+with-member-requires : tie.Need-with-cart-requires
+with-member-requires c κs = search needs
 
 put-local-requires : tie.Need-put-local-requires
 put-local-requires c κs = search needs
@@ -26,7 +26,7 @@ returns c =
     let a = c .before .before .before .before .before .before .before .before .before .before .before .before .before .args in
     let q = c .before .before .before .before .before .before .before .before .before .enqueue-all in
     let l = c .before .before .before .before .before .local-of in
-    let k = c .before .before .before .before .with-cart in
+    let k = c .before .before .before .before .with-member in
     let p = c .before .before .put-local in (
       joins (stationsIn (a .stations .now)) (a .station .0) (a .cart .0) (l .result) (k .result) (a .nearest) (q .ensures .0) (l .ensures) (k .ensures) (p .ensures .0),
       (p .ensures .1 .0 ∙ q .ensures .1 .0, p .ensures .1 .1 ∙ q .ensures .1 .1),
@@ -38,7 +38,7 @@ join-spec =
     (tie.spec
     enqueue-all-requires
     local-of-requires
-    with-cart-requires
+    with-member-requires
     put-local-requires
     same-length
     returns)

@@ -12,8 +12,8 @@ unqueue-requires c κs = search needs
 local-of-requires : tie.Need-local-of-requires
 local-of-requires c κs = search needs
 
-without-cart-requires : tie.Need-without-cart-requires
-without-cart-requires c κs = search needs
+without-member-requires : tie.Need-without-cart-requires
+without-member-requires c κs = search needs
 
 put-local-requires : tie.Need-put-local-requires
 put-local-requires c κs = search needs
@@ -26,7 +26,7 @@ returns c =
     let a = c .before .before .before .before .before .before .before .before .before .before .before .before .args in
     let q = c .before .before .before .before .before .before .before .before .before .unqueue in
     let l = c .before .before .before .before .before .local-of in
-    let k = c .before .before .before .before .without-cart in
+    let k = c .before .before .before .before .without-member in
     let p = c .before .before .put-local in (
       leaves (stationsIn (a .stations .now)) (a .station .0) (a .number .0) (l .result) (k .result) (q .ensures .0) (l .ensures) (k .ensures) (p .ensures .0),
       (p .ensures .1 .0 ∙ q .ensures .1 .0, p .ensures .1 .1 ∙ q .ensures .1 .1),
@@ -38,7 +38,7 @@ leave-spec =
     (tie.spec
     unqueue-requires
     local-of-requires
-    without-cart-requires
+    without-member-requires
     put-local-requires
     same-length
     returns)

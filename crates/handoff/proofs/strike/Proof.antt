@@ -5,7 +5,7 @@ use native.Mathlib.Omega.{arith}
 use lib.ListN.{length}
 use borrow.Author.Needs.{needs}
 use Rattle.queue.specs.Rooms.{roomCount}
-use Rattle.cartset.proofs.Walk.{Ahead, ahead-start, ahead-turn}
+use Rattle.sets.proofs.Walk.{Ahead, ahead-start, ahead-turn}
 use Rattle.stations.specs.View.{stationsIn, headIn}
 use Rattle.messages.specs.View.{roomsIn}
 use Rattle.catchup.specs.Naming.{Covers}

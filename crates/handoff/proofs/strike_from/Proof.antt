@@ -29,8 +29,8 @@ returns c =
 copy-of-requires : tie.Need-copy-of-requires
 copy-of-requires c κs = search needs
 
-without-cart-requires : tie.Need-without-cart-requires
-without-cart-requires c κs = search needs
+without-member-requires : tie.Need-without-cart-requires
+without-member-requires c κs = search needs
 
 put-copy-requires : tie.Need-put-copy-requires
 put-copy-requires c κs = search needs
@@ -50,7 +50,7 @@ returns-2 c =
     let s = p .before .before .before .before in
     let a = s .args in
     let S = stationsIn (a .stations .now) in
-    let w = q .before .before .without-cart in
+    let w = q .before .before .without-member in
     let put = q .put-copy .ensures in (
       is-struck S (roomsIn (a .messages .now)) (a .station .0) (a .cart .0) (a .m) (a .next) (k .copy-of .result) (w .result) (p .is-passed .result) (p .is-passed .ensures)
           (not-false _ (e .if1 .left)) (k .copy-of .ensures) (w .ensures) (put .0),
@@ -68,7 +68,7 @@ strike-from-spec =
     same-length
     returns
     copy-of-requires
-    without-cart-requires
+    without-member-requires
     put-copy-requires
     without-cart-requires-2
     same-length-2

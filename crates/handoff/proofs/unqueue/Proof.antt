@@ -4,7 +4,7 @@ use Prim.Native.Nat.{ℕ, _+_}
 use native.Mathlib.Omega.{arith}
 use lib.ListN.{length}
 use borrow.Author.Needs.{needs}
-use Rattle.cartset.proofs.Walk.{Ahead, ahead-start, ahead-inside, ahead-step, ahead-less}
+use Rattle.sets.proofs.Walk.{Ahead, ahead-start, ahead-inside, ahead-step, ahead-less}
 use Rattle.stations.specs.View.{stationsIn, headIn, entriesIn}
 use Rattle.stations.proofs.TableLaws.{entries-word, entries-inside, not-in-entries}
 use Rattle.handoff.proofs.RoomByRoom.{unqueuedTo, unqueue-none, unqueue-one, unqueue-skips, unqueue-all}
@@ -53,8 +53,8 @@ queue-of-requires c κs =
     let i = ahead-inside 32 (entriesIn (a .stations .now) (a .station .0)) (l .left) (l .inv .0) (f .result) (l .inv .1) (omega arith) (f .ensures) in
     search needs
 
-without-cart-requires : tie.Need-without-cart-requires Inv-loop μ-loop
-without-cart-requires c κs = search needs
+without-member-requires : tie.Need-without-cart-requires Inv-loop μ-loop
+without-member-requires c κs = search needs
 
 put-queue-requires : tie.Need-put-queue-requires Inv-loop μ-loop
 put-queue-requires c κs =
@@ -85,7 +85,7 @@ loop-again c =
     let m = f .result in
     let w = c .before .before .before .before .before .before .before .without-first in
     let q = c .before .before .before .before .before .queue-of in
-    let k = c .before .before .before .before .without-cart in
+    let k = c .before .before .before .before .without-member in
     let p = c .before .before .put-queue in
     let come =
     unqueue-skips S t (a .number .0) E (λ r. not-in-entries (a .stations .now) r t) (l .inv .0) (l .inv .4)
@@ -123,7 +123,7 @@ unqueue-spec =
     first-requires
     without-first-requires
     queue-of-requires
-    without-cart-requires
+    without-member-requires
     put-queue-requires
     loop-less
     loop-again

@@ -1,6 +1,5 @@
 -- `queue::best_with` meets its contract.
 use borrow.Author.Needs.{needs}
-use native.Mathlib.Omega.{arith}
 use mathlib.Core.Path.{_∙_}
 use Rattle.queue.specs.Rooms.{tablesFloor}
 use Rattle.queue.proofs.KeyLaws.{empty-entry, looked-at}

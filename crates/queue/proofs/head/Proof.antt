@@ -4,7 +4,7 @@ use Prim.Native.Nat.{ℕ, _+_}
 use native.Mathlib.Omega.{arith}
 use borrow.Author.Needs.{needs}
 use Rattle.protocol.specs.Wireless.{headAmong}
-use Rattle.cartset.proofs.Walk.{Ahead, ahead-start, ahead-turn, ahead-end}
+use Rattle.sets.proofs.Walk.{Ahead, ahead-start, ahead-turn, ahead-end}
 use Rattle.stations.specs.View.{entriesIn}
 use Rattle.stations.proofs.TableLaws.{entries-word, entries-inside, not-in-entries}
 use Rattle.queue.specs.Rooms.{tablesFloor}

@@ -4,17 +4,17 @@ use borrow.Author.Tests.{eq-eqb, ne-eqb}
 use Rattle.stations.proofs.counted_with.Statement.{statement}
 use Rattle.stations.proofs.counted_with.Tie as tie
 
-without-cart-requires : tie.Need-without-cart-requires
-without-cart-requires c κs = search needs
+without-member-requires : tie.Need-without-cart-requires
+without-member-requires c κs = search needs
 
-with-cart-requires : tie.Need-with-cart-requires
-with-cart-requires c κs = search needs
+with-member-requires : tie.Need-with-cart-requires
+with-member-requires c κs = search needs
 
 returns : tie.Need-returns
-returns c = rw (eq-eqb (c .before .before .args .word) 0 (c .before .if1 .taken)) (c .without-cart .ensures)
+returns c = rw (eq-eqb (c .before .before .args .word) 0 (c .before .if1 .taken)) (c .without-member .ensures)
 
 returns-2 : tie.Need-returns-2
-returns-2 c = rw (ne-eqb (c .before .before .args .word) 0 (c .before .if1 .left)) (c .with-cart .ensures)
+returns-2 c = rw (ne-eqb (c .before .before .args .word) 0 (c .before .if1 .left)) (c .with-member .ensures)
 
 pub counted-with-spec : {M : Type 1} → statement M
-counted-with-spec = tie.close (tie.spec without-cart-requires with-cart-requires returns returns-2)
+counted-with-spec = tie.close (tie.spec without-member-requires with-member-requires returns returns-2)

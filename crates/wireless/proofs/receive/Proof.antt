@@ -10,8 +10,8 @@ use Rattle.wireless.proofs.receive.Tie as tie
 queue-of-requires : tie.Need-queue-of-requires
 queue-of-requires c κs = search needs
 
-without-cart-requires : tie.Need-without-cart-requires
-without-cart-requires c κs = search needs
+without-member-requires : tie.Need-without-cart-requires
+without-member-requires c κs = search needs
 
 put-queue-requires : tie.Need-put-queue-requires
 put-queue-requires c κs = search needs
@@ -19,8 +19,8 @@ put-queue-requires c κs = search needs
 acks-of-requires : tie.Need-acks-of-requires
 acks-of-requires c κs = search needs
 
-with-cart-requires : tie.Need-with-cart-requires
-with-cart-requires c κs = search needs
+with-member-requires : tie.Need-with-cart-requires
+with-member-requires c κs = search needs
 
 put-acks-requires : tie.Need-put-acks-requires
 put-acks-requires c κs = search needs
@@ -38,10 +38,10 @@ returns : tie.Need-returns
 returns c =
     let a = c .before .before .before .before .before .before .before .before .before .before .before .before .before .before .before .before .before .before .before .before .args in
     let queue = c .before .before .before .before .before .before .before .before .before .before .before .before .before .before .before .before .queue-of in
-    let left = c .before .before .before .before .before .before .before .before .before .before .before .before .before .before .without-cart in
+    let left = c .before .before .before .before .before .before .before .before .before .before .before .before .before .before .without-member in
     let queued = c .before .before .before .before .before .before .before .before .before .before .before .before .before .put-queue in
     let acks = c .before .before .before .before .before .before .before .before .before .acks-of in
-    let joined = c .before .before .before .before .before .before .before .with-cart in
+    let joined = c .before .before .before .before .before .before .before .with-member in
     let acked = c .before .before .before .before .before .before .put-acks in
     let risen = c .before .before .rise .ensures in
     record {
@@ -61,10 +61,10 @@ receive-spec =
     tie.close
     (tie.spec
     queue-of-requires
-    without-cart-requires
+    without-member-requires
     put-queue-requires
     acks-of-requires
-    with-cart-requires
+    with-member-requires
     put-acks-requires
     rise-requires
     same-length

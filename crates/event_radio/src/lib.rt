@@ -1,0 +1,158 @@
+// WHAT A CART RECEIVES on a floor that passes the form rule: a radio step. It is refused first, "Checks run down the table", and then is its
+// step of the wireless module.
+use carts::Place;
+use event_answers::Answer;
+use ids::CartNumber;
+use ids::MessageNumber;
+use ids::Station;
+ghost use mathlib.Core.Path.{_≡_};
+ghost use Prim.Native.Nat.{_*_, _≤_, _<_};
+ghost use lib.ListN.{length};
+ghost use Rattle.protocol.specs.Events.{radio, bufferAfter};
+ghost use Rattle.stations.specs.View.{HasHead, HasStation, headIn};
+ghost use Rattle.messages.specs.View.{HasRoom};
+ghost use Rattle.view.specs.View.{lent};
+ghost use Rattle.queue.specs.Rooms.{roomIn};
+ghost use Rattle.event_answers.specs.Answers.{answerIn, octetsIn, textOf};
+ghost use Rattle.event_answers.specs.Met.{Passing, MetByEach};
+ghost use Rattle.event_answers.specs.Delivered.{DeliveredByEach};
+ghost use Rattle.event_radio.specs.Checks.{notHere, notServed};
+ghost use Rattle.event_radio.specs.Handing.{handingIn, refusalOfHanding, Fits, HasPart};
+
+// What a radio step comes to: a refusal's number, or the message that was handed over: its room, how many octets its text has, its initiator
+// and number, p and w. The text stays in its room's part of the lent octets, and `deliver` copies it.
+pub enum Handing {
+    Refused(u64),
+    Over(usize, usize, Station, MessageNumber, u64, u64),
+}
+
+// The number of a refusal, 0 if a message was handed over.
+fn refusal(handing: Handing) -> u64
+    ensures { λ r. ⌜ r ≡ refusalOfHanding handing ⌝ }
+{
+    match handing {
+        Handing::Refused(number) => number,
+        _ => 0,
+    }
+}
+
+// 8, 9 or 16, or 0. "cart is not at this station (leaving counts as not at)".
+fn not_here(stations: &[u64], carts: &[u64], station: Station, cart: CartNumber) -> u64
+    requires { ⌜ HasHead (now stations) × (headIn (now stations) .carts * 19 ≤ length (now carts)) ⌝ }
+    ensures { λ r. ⌜ r ≡ notHere (now (stations .entry)) (now (carts .entry)) (station .0) (cart .0) ⌝ }
+{
+    if stations::station_count(stations) <= station.0 {
+        return 8;
+    }
+    if stations::cart_count(stations) <= cart.0 {
+        return 9;
+    }
+    let place = carts::place_of(carts, cart);
+    match place {
+        Place::At(here) => { if here.0 == station.0 { 0 } else { 16 } }
+        Place::Leaving(_, _) => 16,
+        _ => 16,
+    }
+}
+
+// 17 or 21, or 0, of the room of the queue's head: "queue empty, or its head entry lacks the cart", "lent text buffer shorter than the text".
+fn not_served(
+    stations: &[u64],
+    messages: &[u64],
+    station: Station,
+    cart: CartNumber,
+    buffer: usize,
+    head: usize,
+) -> u64
+    requires { ⌜ HasStation (now stations) (station .0) × (head < 32 → HasRoom (now messages) head) × (cart .0 < 64) × (head ≤ 32) ⌝ }
+    ensures { λ r. ⌜ r ≡ notServed (now (stations .entry)) (now (messages .entry)) (station .0) (cart .0) buffer (roomIn head) ⌝ }
+{
+    if head == queue::NONE {
+        return 17;
+    }
+    let queued = stations::queue_of(stations, head, station);
+    if !sets::has(queued, cart.0) {
+        return 17;
+    }
+    if buffer < messages::length_of(messages, head) as usize {
+        21
+    } else {
+        0
+    }
+}
+
+// "Radio (station, cart)", with a lent buffer of so many octets: "the head message of the queue is handed to the cart".
+pub fn radio(
+    stations: &mut [u64],
+    carts: &mut [u64],
+    messages: &[u64],
+    lines: &mut [u64],
+    texts: &[u8],
+    station: Station,
+    cart: CartNumber,
+    buffer: usize,
+) -> Handing
+    requires { ⌜ Passing (λ P. lent P (now stations) (now carts) (now messages) (now lines) (now texts)) ⌝ }
+    ensures { λ h. ⌜ MetByEach (λ P. lent P (now (stations .entry)) (now (carts .entry)) (now (messages .entry)) (now (lines .entry)) (now (texts .entry))) (λ P. lent P (now (stations .exit)) (now (carts .exit)) (now (messages .entry)) (now (lines .exit)) (now (texts .entry))) (radio (station .0) (cart .0) buffer) (handingIn (now (texts .entry)) h) ⌝ }
+    ensures { λ h. ⌜ Fits buffer h ⌝ }
+    ensures { λ h. ⌜ HasPart (now (texts .entry)) h ⌝ }
+{
+    let elsewhere = not_here(stations, carts, station, cart);
+    if elsewhere != 0 {
+        return Handing::Refused(elsewhere);
+    }
+    let m = queue::head(stations, messages, station);
+    let unserved = not_served(stations, messages, station, cart, buffer, m);
+    if unserved != 0 {
+        return Handing::Refused(unserved);
+    }
+    let size = messages::length_of(messages, m) as usize;
+    let initiator = messages::initiator_of(messages, m);
+    let n = messages::number_of(messages, m);
+    let handed = wireless::hand_over(
+        stations,
+        carts,
+        messages,
+        lines,
+        m,
+        initiator,
+        n,
+        station,
+        cart,
+    );
+    Handing::Over(m, size, initiator, n, handed.passed, handed.sent)
+}
+
+// The answer of a radio step, its text in the lent buffer.
+fn deliver(texts: &[u8], handing: Handing, buffer: &mut [u8]) -> Answer
+    requires { ⌜ Fits (length (now buffer)) handing × HasPart (now texts) handing ⌝ }
+    ensures { λ a. ⌜ answerIn a (now (buffer .exit)) ≡ handingIn (now (texts .entry)) handing ⌝ }
+    ensures { λ a. ⌜ octetsIn a ≡ length (textOf (handingIn (now (texts .entry)) handing)) ⌝ }
+    ensures { λ _. ⌜ now (buffer .exit) ≡ bufferAfter (handingIn (now (texts .entry)) handing) (now (buffer .entry)) ⌝ }
+{
+    let Handing::Over(m, size, initiator, number, p, w) = handing else {
+        return Answer::Refused(refusal(handing));
+    };
+    let octets = messages::copy_text(texts, m, size, buffer);
+    Answer::Received(initiator, number, p, w, octets)
+}
+
+// "Radio (station, cart)", with a lent buffer: "writes the text at the front of the lent buffer and leaves the rest"; a refusal "changes no octet
+// of a lent text buffer".
+pub fn radio_into(
+    stations: &mut [u64],
+    carts: &mut [u64],
+    messages: &[u64],
+    lines: &mut [u64],
+    texts: &[u8],
+    station: Station,
+    cart: CartNumber,
+    buffer: &mut [u8],
+) -> Answer
+    requires { ⌜ Passing (λ P. lent P (now stations) (now carts) (now messages) (now lines) (now texts)) ⌝ }
+    ensures { λ a. ⌜ DeliveredByEach (λ P. lent P (now (stations .entry)) (now (carts .entry)) (now (messages .entry)) (now (lines .entry)) (now (texts .entry))) (λ P. lent P (now (stations .exit)) (now (carts .exit)) (now (messages .entry)) (now (lines .exit)) (now (texts .entry))) (station .0) (cart .0) a (now (buffer .entry)) (now (buffer .exit)) ⌝ }
+{
+    let room = buffer.len();
+    let handing = radio(stations, carts, messages, lines, texts, station, cart, room);
+    deliver(texts, handing, buffer)
+}

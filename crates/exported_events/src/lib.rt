@@ -1,0 +1,356 @@
+// The events under C names, for bench/events, which tries them on damaged floors and measures them. Each does what it calls does, on a floor
+// lent by a program in another language. An answer cannot cross as it is, so each asks for seven words to put it into: this crate is for
+// measuring alone, and asks for them by `requires`. A name with `step` leaves the form test out and asks that the floor passes it.
+use event_answers::Answer;
+use ids::CartNumber;
+use ids::Station;
+ghost use mathlib.Core.Path.{_≡_};
+ghost use mathlib.Core.Bool.{true};
+ghost use mathlib.Core.List.{[]};
+ghost use Prim.Native.Nat.{_≤_};
+ghost use lib.ListN.{length};
+ghost use Rattle.protocol.specs.Floor.{wholeFloor, limits};
+ghost use Rattle.protocol.specs.Events.{start, enter, send, wire, move};
+ghost use Rattle.protocol.specs.Form.{passesForm};
+ghost use Rattle.view.specs.View.{lent, floorIn};
+ghost use Rattle.exported_events.specs.Told.{sevenWords, answerWords, Told, ToldText};
+
+// Seven words, at the front of the lent ones.
+fn put_words(out: &mut [u64], refusal: u64, kind: u64, a: u64, b: u64, p: u64, w: u64, size: u64)
+    requires { ⌜ 7 ≤ length (now out) ⌝ }
+    ensures { λ _. ⌜ now (out .exit) ≡ sevenWords (now (out .entry)) refusal kind a b p w size ⌝ }
+    ensures { λ _. ⌜ length (now (out .exit)) ≡ length (now (out .entry)) ⌝ }
+{
+    out[0] = refusal;
+    out[1] = kind;
+    out[2] = a;
+    out[3] = b;
+    out[4] = p;
+    out[5] = w;
+    out[6] = size;
+}
+
+// The words of an answer: the refusal's number, or 0; "kind, a, b, p, w"; how many octets of text.
+fn put_answer_words(out: &mut [u64], answer: Answer)
+    requires { ⌜ 7 ≤ length (now out) ⌝ }
+    ensures { λ _. ⌜ now (out .exit) ≡ answerWords (now (out .entry)) answer ⌝ }
+    ensures { λ _. ⌜ length (now (out .exit)) ≡ length (now (out .entry)) ⌝ }
+{
+    let refusal = event_answers::refusal_of(answer);
+    let said = frame_report::report_of(answer);
+    let size = frame_report::octets_of(answer) as u64;
+    put_words(
+        out,
+        refusal,
+        said.kind,
+        said.a,
+        said.b,
+        said.p,
+        said.w,
+        size,
+    );
+}
+
+// Start, of so many stations and carts.
+#[no_mangle]
+pub extern "C" fn mekhturia_start(
+    stations: &mut [u64],
+    carts: &mut [u64],
+    messages: &mut [u64],
+    lines: &mut [u64],
+    texts: &[u8],
+    n: u64,
+    k: u64,
+    out: &mut [u64],
+)
+    requires { ⌜ 7 ≤ length (now out) ⌝ }
+    ensures { λ _. ⌜ Told (lent wholeFloor (now (stations .entry)) (now (carts .entry)) (now (messages .entry)) (now (lines .entry)) (now (texts .entry))) (lent wholeFloor (now (stations .exit)) (now (carts .exit)) (now (messages .exit)) (now (lines .exit)) (now (texts .entry))) (start n k) [] (now (out .entry)) (now (out .exit)) ⌝ }
+{
+    let answer = controller::start(stations, carts, messages, lines, texts, n, k);
+    put_answer_words(out, answer);
+}
+
+// "Enter (station, cart)".
+#[no_mangle]
+pub extern "C" fn mekhturia_enter(
+    stations: &mut [u64],
+    carts: &mut [u64],
+    messages: &[u64],
+    lines: &[u64],
+    texts: &[u8],
+    station: u64,
+    cart: u64,
+    out: &mut [u64],
+)
+    requires { ⌜ 7 ≤ length (now out) ⌝ }
+    ensures { λ _. ⌜ Told (lent wholeFloor (now (stations .entry)) (now (carts .entry)) (now (messages .entry)) (now (lines .entry)) (now (texts .entry))) (lent wholeFloor (now (stations .exit)) (now (carts .exit)) (now (messages .entry)) (now (lines .entry)) (now (texts .entry))) (enter station cart) [] (now (out .entry)) (now (out .exit)) ⌝ }
+{
+    let answer = controller::enter(
+        stations,
+        carts,
+        messages,
+        lines,
+        texts,
+        Station(station),
+        CartNumber(cart),
+    );
+    put_answer_words(out, answer);
+}
+
+// "Send (station, set, text)".
+#[no_mangle]
+pub extern "C" fn mekhturia_send(
+    stations: &mut [u64],
+    carts: &[u64],
+    messages: &mut [u64],
+    lines: &mut [u64],
+    texts: &mut [u8],
+    station: u64,
+    set: u64,
+    text: &[u8],
+    out: &mut [u64],
+)
+    requires { ⌜ 7 ≤ length (now out) ⌝ }
+    ensures { λ _. ⌜ Told (lent wholeFloor (now (stations .entry)) (now (carts .entry)) (now (messages .entry)) (now (lines .entry)) (now (texts .entry))) (lent wholeFloor (now (stations .exit)) (now (carts .entry)) (now (messages .exit)) (now (lines .exit)) (now (texts .exit))) (send station set (now (text .entry))) [] (now (out .entry)) (now (out .exit)) ⌝ }
+{
+    let answer = controller::send(
+        stations,
+        carts,
+        messages,
+        lines,
+        texts,
+        Station(station),
+        set,
+        text,
+    );
+    put_answer_words(out, answer);
+}
+
+// "Wire (from, to)".
+#[no_mangle]
+pub extern "C" fn mekhturia_wire(
+    stations: &mut [u64],
+    carts: &mut [u64],
+    messages: &mut [u64],
+    lines: &mut [u64],
+    texts: &[u8],
+    from: u64,
+    to: u64,
+    out: &mut [u64],
+)
+    requires { ⌜ 7 ≤ length (now out) ⌝ }
+    ensures { λ _. ⌜ Told (lent wholeFloor (now (stations .entry)) (now (carts .entry)) (now (messages .entry)) (now (lines .entry)) (now (texts .entry))) (lent wholeFloor (now (stations .exit)) (now (carts .exit)) (now (messages .exit)) (now (lines .exit)) (now (texts .entry))) (wire from to) [] (now (out .entry)) (now (out .exit)) ⌝ }
+{
+    let answer = controller::wire(
+        stations,
+        carts,
+        messages,
+        lines,
+        texts,
+        Station(from),
+        Station(to),
+    );
+    put_answer_words(out, answer);
+}
+
+// "Radio (station, cart)".
+#[no_mangle]
+pub extern "C" fn mekhturia_radio(
+    stations: &mut [u64],
+    carts: &mut [u64],
+    messages: &[u64],
+    lines: &mut [u64],
+    texts: &[u8],
+    station: u64,
+    cart: u64,
+    buffer: &mut [u8],
+    out: &mut [u64],
+)
+    requires { ⌜ 7 ≤ length (now out) ⌝ }
+    ensures { λ _. ⌜ ToldText (lent wholeFloor (now (stations .entry)) (now (carts .entry)) (now (messages .entry)) (now (lines .entry)) (now (texts .entry))) (lent wholeFloor (now (stations .exit)) (now (carts .exit)) (now (messages .entry)) (now (lines .exit)) (now (texts .entry))) station cart (now (buffer .entry)) (now (buffer .exit)) (now (out .entry)) (now (out .exit)) ⌝ }
+{
+    let answer = controller::radio(
+        stations,
+        carts,
+        messages,
+        lines,
+        texts,
+        Station(station),
+        CartNumber(cart),
+        buffer,
+    );
+    put_answer_words(out, answer);
+}
+
+// "Move (cart, to)".
+#[no_mangle]
+pub extern "C" fn mekhturia_move(
+    stations: &[u64],
+    carts: &mut [u64],
+    messages: &[u64],
+    lines: &mut [u64],
+    texts: &[u8],
+    cart: u64,
+    to: u64,
+    out: &mut [u64],
+)
+    requires { ⌜ 7 ≤ length (now out) ⌝ }
+    ensures { λ _. ⌜ Told (lent wholeFloor (now (stations .entry)) (now (carts .entry)) (now (messages .entry)) (now (lines .entry)) (now (texts .entry))) (lent wholeFloor (now (stations .entry)) (now (carts .exit)) (now (messages .entry)) (now (lines .exit)) (now (texts .entry))) (move cart to) [] (now (out .entry)) (now (out .exit)) ⌝ }
+{
+    let answer = controller::move_cart(
+        stations,
+        carts,
+        messages,
+        lines,
+        texts,
+        CartNumber(cart),
+        Station(to),
+    );
+    put_answer_words(out, answer);
+}
+
+// "Enter (station, cart)", on a floor that passes the form rule.
+#[no_mangle]
+pub extern "C" fn mekhturia_step_enter(
+    stations: &mut [u64],
+    carts: &mut [u64],
+    messages: &[u64],
+    lines: &[u64],
+    texts: &[u8],
+    station: u64,
+    cart: u64,
+    out: &mut [u64],
+)
+    requires { ⌜ passesForm limits (floorIn (lent wholeFloor (now stations) (now carts) (now messages) (now lines) (now texts))) ≡ true ⌝ }
+    requires { ⌜ 7 ≤ length (now out) ⌝ }
+    ensures { λ _. ⌜ Told (lent wholeFloor (now (stations .entry)) (now (carts .entry)) (now (messages .entry)) (now (lines .entry)) (now (texts .entry))) (lent wholeFloor (now (stations .exit)) (now (carts .exit)) (now (messages .entry)) (now (lines .entry)) (now (texts .entry))) (enter station cart) [] (now (out .entry)) (now (out .exit)) ⌝ }
+{
+    let answer = event_carts::enter(
+        stations,
+        carts,
+        messages,
+        lines,
+        texts,
+        Station(station),
+        CartNumber(cart),
+    );
+    put_answer_words(out, answer);
+}
+
+// "Send (station, set, text)", on a floor that passes the form rule.
+#[no_mangle]
+pub extern "C" fn mekhturia_step_send(
+    stations: &mut [u64],
+    carts: &[u64],
+    messages: &mut [u64],
+    lines: &mut [u64],
+    texts: &mut [u8],
+    station: u64,
+    set: u64,
+    text: &[u8],
+    out: &mut [u64],
+)
+    requires { ⌜ passesForm limits (floorIn (lent wholeFloor (now stations) (now carts) (now messages) (now lines) (now texts))) ≡ true ⌝ }
+    requires { ⌜ length (now text) ≤ 32 ⌝ }
+    requires { ⌜ 7 ≤ length (now out) ⌝ }
+    ensures { λ _. ⌜ Told (lent wholeFloor (now (stations .entry)) (now (carts .entry)) (now (messages .entry)) (now (lines .entry)) (now (texts .entry))) (lent wholeFloor (now (stations .exit)) (now (carts .entry)) (now (messages .exit)) (now (lines .exit)) (now (texts .exit))) (send station set (now (text .entry))) [] (now (out .entry)) (now (out .exit)) ⌝ }
+{
+    let answer = event_send::send(
+        stations,
+        carts,
+        messages,
+        lines,
+        texts,
+        Station(station),
+        set,
+        text,
+        products::floor_bounds(),
+    );
+    put_answer_words(out, answer);
+}
+
+// "Wire (from, to)", on a floor that passes the form rule.
+#[no_mangle]
+pub extern "C" fn mekhturia_step_wire(
+    stations: &mut [u64],
+    carts: &mut [u64],
+    messages: &mut [u64],
+    lines: &mut [u64],
+    texts: &[u8],
+    from: u64,
+    to: u64,
+    out: &mut [u64],
+)
+    requires { ⌜ passesForm limits (floorIn (lent wholeFloor (now stations) (now carts) (now messages) (now lines) (now texts))) ≡ true ⌝ }
+    requires { ⌜ 7 ≤ length (now out) ⌝ }
+    ensures { λ _. ⌜ Told (lent wholeFloor (now (stations .entry)) (now (carts .entry)) (now (messages .entry)) (now (lines .entry)) (now (texts .entry))) (lent wholeFloor (now (stations .exit)) (now (carts .exit)) (now (messages .exit)) (now (lines .exit)) (now (texts .entry))) (wire from to) [] (now (out .entry)) (now (out .exit)) ⌝ }
+{
+    let answer = event_wire::wire(
+        stations,
+        carts,
+        messages,
+        lines,
+        texts,
+        Station(from),
+        Station(to),
+    );
+    put_answer_words(out, answer);
+}
+
+// "Radio (station, cart)", on a floor that passes the form rule.
+#[no_mangle]
+pub extern "C" fn mekhturia_step_radio(
+    stations: &mut [u64],
+    carts: &mut [u64],
+    messages: &[u64],
+    lines: &mut [u64],
+    texts: &[u8],
+    station: u64,
+    cart: u64,
+    buffer: &mut [u8],
+    out: &mut [u64],
+)
+    requires { ⌜ passesForm limits (floorIn (lent wholeFloor (now stations) (now carts) (now messages) (now lines) (now texts))) ≡ true ⌝ }
+    requires { ⌜ 7 ≤ length (now out) ⌝ }
+    ensures { λ _. ⌜ ToldText (lent wholeFloor (now (stations .entry)) (now (carts .entry)) (now (messages .entry)) (now (lines .entry)) (now (texts .entry))) (lent wholeFloor (now (stations .exit)) (now (carts .exit)) (now (messages .entry)) (now (lines .exit)) (now (texts .entry))) station cart (now (buffer .entry)) (now (buffer .exit)) (now (out .entry)) (now (out .exit)) ⌝ }
+{
+    let answer = event_radio::radio_into(
+        stations,
+        carts,
+        messages,
+        lines,
+        texts,
+        Station(station),
+        CartNumber(cart),
+        buffer,
+    );
+    put_answer_words(out, answer);
+}
+
+// "Move (cart, to)", on a floor that passes the form rule.
+#[no_mangle]
+pub extern "C" fn mekhturia_step_move(
+    stations: &[u64],
+    carts: &mut [u64],
+    messages: &[u64],
+    lines: &mut [u64],
+    texts: &[u8],
+    cart: u64,
+    to: u64,
+    out: &mut [u64],
+)
+    requires { ⌜ passesForm limits (floorIn (lent wholeFloor (now stations) (now carts) (now messages) (now lines) (now texts))) ≡ true ⌝ }
+    requires { ⌜ 7 ≤ length (now out) ⌝ }
+    ensures { λ _. ⌜ Told (lent wholeFloor (now (stations .entry)) (now (carts .entry)) (now (messages .entry)) (now (lines .entry)) (now (texts .entry))) (lent wholeFloor (now (stations .entry)) (now (carts .exit)) (now (messages .entry)) (now (lines .exit)) (now (texts .entry))) (move cart to) [] (now (out .entry)) (now (out .exit)) ⌝ }
+{
+    let answer = event_carts::move_cart(
+        stations,
+        carts,
+        messages,
+        lines,
+        texts,
+        CartNumber(cart),
+        Station(to),
+    );
+    put_answer_words(out, answer);
+}

@@ -1,0 +1,59 @@
+-- THE RULES OVER A RUN OF FRAMES: the events that the frames are, behind the start that was accepted.
+use mathlib.Core.Path.{_≡_, refl, sym, ap, _∙_, subst}
+use mathlib.Core.List.{List, [], _∷_, _++_}
+use Prim.Native.Nat.{ℕ, zero, suc, _<_}
+use lib.ListN.{drop}
+use Rattle.protocol.specs.Floor.{Floor, limits, justStarted}
+use Rattle.protocol.specs.Events.{Event, Report, start, accepted}
+use Rattle.protocol.specs.Step.{step, answer, floorAfter}
+use Rattle.protocol.specs.Frames.{Reading, end, refusedFrame, taken, frameOf}
+use Rattle.protocol.specs.SumRule.{total, gains}
+use Rattle.protocol.specs.TwoLists.{bothEmpty, listsAfter, owes, TwoListRule}
+use Rattle.protocol.proofs.Theorems.{start-afresh, two-list-rule, sum-rule}
+use Rattle.frame_run.specs.Piece.{runFrom, eventsFrom}
+
+-- the floor that a run of frames leaves is that of their events
+pub floor-of-frames : (n : ℕ) (F : Floor) (index : ℕ) (l : List ℕ) → runFrom n F index l .floor ≡ floorAfter limits F (eventsFrom n l)
+unfolding runFrom eventsFrom floorAfter
+floor-of-frames zero F index l = refl
+floor-of-frames (suc n) F index l = by (frameOf limits l) refl (λ e size. floor-of-frames n (step limits F e) (suc index) (drop size l))
+  where
+    by : (r : Reading) → frameOf limits l ≡ r
+        → ((e : Event) (size : ℕ) → runFrom n (step limits F e) (suc index) (drop size l) .floor ≡ floorAfter limits (step limits F e) (eventsFrom n (drop size l)))
+        → runFrom (suc n) F index l .floor ≡ floorAfter limits F (eventsFrom (suc n) l)
+    by end q h = rw (q, runFrom, eventsFrom) refl
+    by (refusedFrame r) q h = rw (q, runFrom, eventsFrom) refl
+    by (taken e size) q h = rw (q, runFrom, eventsFrom) (h e size)
+
+-- some events, and then others
+after-both : (F : Floor) (a b : List Event) → floorAfter limits F (a ++ b) ≡ floorAfter limits (floorAfter limits F a) b
+unfolding floorAfter
+after-both F [] b = refl
+after-both F (e ∷ a) b = after-both (step limits F e) a b
+
+-- the events of the frames: some, a start of n stations and k carts that is accepted behind them, and then others
+module _ (count : ℕ) (F : Floor) (index : ℕ) (l : List ℕ) (before : List Event) (n k : ℕ) (behind : List Event) (report : Report)
+    (events : eventsFrom count l ≡ before ++ (start n k ∷ behind)) (begun : answer limits (floorAfter limits F before) (start n k) ≡ accepted report) where
+  started : step limits (floorAfter limits F before) (start n k) ≡ justStarted n k
+  started = start-afresh limits (floorAfter limits F before) n k report begun .0
+
+  pub floor-behind : runFrom count F index l .floor ≡ floorAfter limits (justStarted n k) behind
+  unfolding floorAfter
+  floor-behind =
+      floor-of-frames count F index l ∙ ap (floorAfter limits F) events ∙ after-both F before (start n k ∷ behind)
+      ∙ ap (λ (X : Floor). floorAfter limits X behind) started
+
+  -- DEMAND 3 over a run of frames: what the events behind the start sent and received, on the floor that the run left
+  pub two-lists-of-frames : (s c : ℕ) → c < k
+      → TwoListRule (owes limits (runFrom count F index l .floor) s c)
+      (listsAfter limits (justStarted n k) bothEmpty behind .sent s c) (listsAfter limits (justStarted n k) bothEmpty behind .received s c)
+  two-lists-of-frames s c lc =
+      subst (λ (X : Floor). TwoListRule (owes limits X s c) (listsAfter limits (justStarted n k) bothEmpty behind .sent s c) (listsAfter limits (justStarted n k) bothEmpty behind .received s c)) (sym floor-behind)
+      (subst (λ (X : Floor). TwoListRule (owes limits (floorAfter limits X behind) s c) (listsAfter limits X bothEmpty behind .sent s c) (listsAfter limits X bothEmpty behind .received s c)) started
+      (two-list-rule limits (floorAfter limits F before) n k report begun behind s c lc))
+
+  -- THE SUM RULE over a run of frames
+  pub sums-of-frames : total (runFrom count F index l .floor) ≡ gains limits (justStarted n k) behind
+  sums-of-frames =
+      ap total floor-behind
+      ∙ subst (λ (X : Floor). total (floorAfter limits X behind) ≡ gains limits X behind) started (sum-rule limits (floorAfter limits F before) n k report begun behind)

@@ -1,0 +1,301 @@
+-- A PIECE BOUNDARY IS NOTHING: what was run of a piece is what is run of the whole input, and the rest follows from there.
+use mathlib.Core.Path.{_≡_, refl, sym, ap, ap₂, _∙_, subst}
+use mathlib.Core.Bool.{Bool, true, false, not}
+use mathlib.Core.List.{List, _++_, append-assoc}
+use Prim.Native.Nat.{ℕ, zero, suc, _+_, _-_, _/_, _%_, _≤_, _<_}
+use native.Mathlib.Omega.{arith}
+use lib.Dec.{eqb, ltb}
+use lib.ListN.{length, take, drop, length-append, length-drop}
+use lib.Seq.{take-append-le, drop-append-le, drop-drop}
+use borrow.Author.Tests.{lt-ltb, le-ltb, ltb-true, ltb-false, eqb-true}
+use Rattle.protocol.specs.Floor.{Floor, limits}
+use Rattle.protocol.specs.Events.{Event}
+use Rattle.protocol.specs.Refusals.{check}
+use Rattle.protocol.specs.Step.{step, answer}
+use Rattle.protocol.specs.Frames.{Fields, Reading, bigEndian, fieldsOf, unlisted, eventOf, fieldsRefusal, end, refusedFrame, taken, frameOf, readAt}
+use Rattle.protocol.specs.Printed.{lineOf, linesFrom}
+use Rattle.protocol.proofs.Tests.{by-lt, by-eq, clash}
+use Rattle.frames.proofs.Laws.{nothing-left, cut-frame, refused-frame, taken-frame, text-there}
+use Rattle.frames.proofs.Values.{taken-inside}
+use Rattle.view.specs.View.{Lent, floorIn}
+use Rattle.frame_run.specs.declared.Progress.{Progress}
+use Rattle.frame_run.specs.Piece.{Ran, still, runFrom}
+use Rattle.frame_run.specs.Went.{NoneWhole, EndsRun, Went}
+use Rattle.frame_run.proofs.Pieces.{prints, behind}
+
+-- the fields are in the first sixteen octets
+fields-stand : (p q : List ℕ) → 16 ≤ length p → fieldsOf p ≡ fieldsOf (p ++ q)
+unfolding fieldsOf
+fields-stand p q h =
+    let head : take 3 p ≡ take 3 (p ++ q) = sym (take-append-le 3 p q (omega arith)) in
+    let zeros : take 5 (drop 3 p) ≡ take 5 (drop 3 (p ++ q)) =
+    sym (take-append-le 5 (drop 3 p) q (let z = length-drop 3 p in omega arith)) ∙ ap (take 5) (sym (drop-append-le 3 p q (omega arith))) in
+    let set : take 8 (drop 8 p) ≡ take 8 (drop 8 (p ++ q)) =
+    sym (take-append-le 8 (drop 8 p) q (let z = length-drop 8 p in omega arith)) ∙ ap (take 8) (sym (drop-append-le 8 p q (omega arith))) in
+    λ i.
+    record {
+      kind = bigEndian 0 (head i) / 1048576;
+      station = bigEndian 0 (head i) / 65536 % 16;
+      cart = bigEndian 0 (head i) / 1024 % 64;
+      other = bigEndian 0 (head i) / 64 % 16;
+      length = bigEndian 0 (head i) % 64;
+      zero = bigEndian 0 (zeros i);
+      set = bigEndian 0 (set i);
+    }
+
+-- of the checks of fields only the last looks behind them
+same-check : (a b c : Bool) (x y r : ℕ) → check 2 a (check 3 b (check 4 c x)) ≡ r → (x ≡ r → ⊥) → check 2 a (check 3 b (check 4 c y)) ≡ r
+same-check true b c x y r e n = e
+same-check false true c x y r e n = e
+same-check false false true x y r e n = e
+same-check false false false x y r e n = absurd (n e)
+
+-- as long as the text is there, how many octets are behind does not matter
+none-with : (f : Fields) (x y : ℕ) → f .length ≤ x → f .length ≤ y → fieldsRefusal limits f x ≡ 0 → fieldsRefusal limits f y ≡ 0
+unfolding fieldsRefusal
+none-with f x y h k e = rw (le-ltb y (f .length) k) (rw (le-ltb x (f .length) h) at e)
+
+-- with more octets behind them, a refusal of the fields other than "fewer text octets than the length" stays, and so does none
+refusal-stands : (f : Fields) (behind more r : ℕ) → fieldsRefusal limits f behind ≡ r → (r ≡ 0 → ⊥) → (r ≡ 1 → ⊥) → fieldsRefusal limits f (behind + more) ≡ r
+unfolding fieldsRefusal
+refusal-stands f behind more r e n m =
+    same-check (ltb 5 (f .kind)) (not (eqb (unlisted f) 0)) (ltb 32 (f .length)) (check 1 (ltb behind (f .length)) 0) (check 1 (ltb (behind + more) (f .length)) 0) r e
+    (by-lt behind (f .length) (λ l q. m (sym q ∙ rw (lt-ltb behind (f .length) l) refl)) (λ l q. n (sym q ∙ rw (le-ltb behind (f .length) l) refl)))
+
+none-stands : (f : Fields) (behind more : ℕ) → fieldsRefusal limits f behind ≡ 0 → fieldsRefusal limits f (behind + more) ≡ 0
+none-stands f behind more e = none-with f behind (behind + more) (text-there f behind e) (let z = text-there f behind e in omega arith) e
+
+-- A FRAME at the front of a piece stands, whatever follows it, unless it is cut
+frame-stands : (p q : List ℕ) → (readAt limits p 0 ≡ end → ⊥) → (readAt limits p 0 ≡ refusedFrame 1 → ⊥) → readAt limits (p ++ q) 0 ≡ readAt limits p 0
+frame-stands p q some whole =
+    by-lt (length p) 1
+    (λ l. absurd (some (sym (nothing-left p 0 (omega arith)))))
+    (λ l. by-lt (length p) 16
+    (λ s. absurd (whole (sym (cut-frame p 0 (omega arith) (omega arith)))))
+    (λ s.
+    let f = fieldsOf p in
+    let sizes = length-append p q in
+    let behind : length (p ++ q) - 0 - 16 ≡ length p - 0 - 16 + length q = omega arith in
+    let fields = fields-stand p q s in
+    by-eq (fieldsRefusal limits f (length p - 0 - 16)) 0
+    (λ z.
+    let later : fieldsRefusal limits f (length (p ++ q) - 0 - 16) ≡ 0 = ap (fieldsRefusal limits f) behind ∙ none-stands f (length p - 0 - 16) (length q) z in
+    let there = text-there f (length p - 0 - 16) z in
+    let text : take (f .length) (drop 16 (p ++ q)) ≡ take (f .length) (drop 16 p) =
+    ap (take (f .length)) (drop-append-le 16 p q s) ∙ take-append-le (f .length) (drop 16 p) q (let y = length-drop 16 p in omega arith) in
+    sym (taken-frame (p ++ q) 0 f (omega arith) fields (sym later))
+    ∙ ap (λ (t : List ℕ). taken (eventOf limits f t) (16 + f .length)) text
+    ∙ taken-frame p 0 f (omega arith) refl (sym z))
+    (λ n. by-eq (fieldsRefusal limits f (length p - 0 - 16)) 1
+    (λ one. absurd (whole (sym (refused-frame p 0 f (omega arith) refl 1 (sym one) (λ z. omega arith)))))
+    (λ other.
+    let r = fieldsRefusal limits f (length p - 0 - 16) in
+    sym (refused-frame (p ++ q) 0 f (omega arith) fields r (sym (ap (fieldsRefusal limits f) behind ∙ refusal-stands f (length p - 0 - 16) (length q) r refl n other)) n)
+    ∙ refused-frame p 0 f (omega arith) refl r refl n))))
+
+-- a frame that is taken has sixteen octets at least, and they are there
+taken-front : (l : List ℕ) (e : Event) (size : ℕ) → frameOf limits l ≡ taken e size → (16 ≤ size) × (size ≤ length l)
+unfolding readAt
+taken-front l e size q =
+    let inside = taken-inside l 0 e size q in (
+      by-lt (length l) 1
+          (λ h. absurd (let z : _≡_ {A = ℕ} 0 1 = cc (nothing-left l 0 (omega arith)) in omega arith))
+          (λ h. by-lt (length l) 16
+          (λ s. absurd (let z : _≡_ {A = ℕ} 0 1 = cc (cut-frame l 0 (omega arith) (omega arith)) in omega arith))
+          (λ s. by-eq (fieldsRefusal limits (fieldsOf l) (length l - 0 - 16)) 0
+          (λ r. let w : size ≡ 16 + fieldsOf l .length = cc (taken-frame l 0 (fieldsOf l) (omega arith) refl (sym r)) in omega arith)
+          (λ r. absurd (let z : _≡_ {A = ℕ} 0 1 = cc (refused-frame l 0 (fieldsOf l) (omega arith) refl _ refl r) in omega arith)))),
+      (let y = inside .0 in omega arith),
+    )
+
+-- SO MANY FRAMES of a piece, all of them there and none cut, are as many frames of the whole
+pub stands : (n : ℕ) (F : Floor) (index : ℕ) (p q : List ℕ) → runFrom n F index p .count ≡ n
+    → (runFrom n F index p .ended ≡ true → readAt limits p (runFrom n F index p .octets) ≡ refusedFrame 1 → ⊥) → runFrom n F index (p ++ q) ≡ runFrom n F index p
+unfolding runFrom readAt
+stands zero F index p q all uncut = refl
+stands (suc n) F index p q all uncut =
+    by (frameOf limits p) refl (λ e size. stands n (step limits F e) (suc index) (drop size p) q) all uncut
+  where
+    by : (r : Reading) → frameOf limits p ≡ r
+        → ((e : Event) (size : ℕ) → runFrom n (step limits F e) (suc index) (drop size p) .count ≡ n
+        → (runFrom n (step limits F e) (suc index) (drop size p) .ended ≡ true
+        → readAt limits (drop size p) (runFrom n (step limits F e) (suc index) (drop size p) .octets) ≡ refusedFrame 1 → ⊥)
+        → runFrom n (step limits F e) (suc index) (drop size p ++ q) ≡ runFrom n (step limits F e) (suc index) (drop size p))
+        → runFrom (suc n) F index p .count ≡ suc n
+        → (runFrom (suc n) F index p .ended ≡ true → readAt limits p (runFrom (suc n) F index p .octets) ≡ refusedFrame 1 → ⊥)
+        → runFrom (suc n) F index (p ++ q) ≡ runFrom (suc n) F index p
+    by end e h all uncut = absurd (let z : 0 ≡ suc n = rw (e, runFrom) at all in omega arith)
+    by (refusedFrame r) e h all uncut =
+        let one : (r ≡ 1 → ⊥) = λ z. (rw (e, runFrom) at uncut) refl (e ∙ ap refusedFrame z) in
+        let same : frameOf limits (p ++ q) ≡ refusedFrame r =
+        frame-stands p q (λ z. (let y : _≡_ {A = ℕ} 0 1 = cc (sym e ∙ z) in omega arith)) (λ z. one (let y : refusedFrame r ≡ refusedFrame 1 = sym e ∙ z in cc)) ∙ e in
+        rw (same, e, runFrom) refl
+    by (taken ev size) e h all uncut =
+        let same : frameOf limits (p ++ q) ≡ taken ev size =
+        frame-stands p q (λ z. (let y : _≡_ {A = ℕ} 0 1 = cc (sym e ∙ z) in omega arith)) (λ z. (let y : _≡_ {A = ℕ} 0 1 = cc (sym e ∙ z) in omega arith)) ∙ e in
+        let inside = taken-inside p 0 ev size e in
+        let apart : drop size (p ++ q) ≡ drop size p ++ q = drop-append-le size p q (let y = inside .0 in omega arith) in
+        let count : suc (runFrom n (step limits F ev) (suc index) (drop size p) .count) ≡ suc n = rw (e, runFrom) at all in
+        let later = rw (e, runFrom) at uncut in
+        let rest = ap (runFrom n (step limits F ev) (suc index)) apart ∙ h ev size (omega arith)
+        (λ ended cut. later ended (ap (frameOf limits) (sym (drop-drop (runFrom n (step limits F ev) (suc index) (drop size p) .octets) size p)) ∙ cut)) in
+        rw (same, e, runFrom)
+        (ap (λ (X : Ran). record { count = suc (X .count); printed = lineOf index (answer limits F ev) ++ X .printed; floor = X .floor; octets = size + X .octets; ended = X .ended }) rest)
+
+-- THE PIECE OF A WHOLE: where more input comes, what was run of the piece is so many frames of all of it
+pub piece-of-whole : (input : List ℕ) (index : ℕ) (L L′ : Lent) (out out′ : List ℕ) (p : Progress) → Went input index false L L′ out out′ p
+    → (later : List ℕ) → runFrom (p .frames) (floorIn L) index (input ++ later) ≡ runFrom (p .frames) (floorIn L) index input
+piece-of-whole input index L L′ out out′ p w later =
+    stands (p .frames) (floorIn L) index input later (sym (w .run .counted))
+    (λ ended cut.
+    let over = w .ends (eqb-true (p .state) 2 (sym (w .run .ended) ∙ ended)) in
+    let there : readAt limits input (p .read) ≡ refusedFrame 1 = ap (readAt limits input) (w .run .read) ∙ cut in
+    let never : _≡_ {A = Bool} false true = subst (λ (x : Reading). EndsRun false x) there over refl in
+    clash false never refl)
+
+-- a run, and one behind it
+abbrev pub joined : Ran → Ran → Ran
+joined R X = record { count = R .count + X .count; printed = R .printed ++ X .printed; floor = X .floor; octets = R .octets + X .octets; ended = X .ended }
+
+joined-still : (F : Floor) (X : Ran) → X ≡ joined (still F) X
+joined-still F X =
+    let counts : X .count ≡ 0 + X .count = omega arith in
+    let sizes : X .octets ≡ 0 + X .octets = omega arith in
+    λ i. record { count = counts i; printed = X .printed; floor = X .floor; octets = sizes i; ended = X .ended }
+
+behind-joined : (line : List ℕ) (size : ℕ) (R X : Ran) → behind line size (joined R X) ≡ joined (behind line size R) X
+behind-joined line size R X =
+    let counts : suc (R .count + X .count) ≡ suc (R .count) + X .count = omega arith in
+    let sizes : size + (R .octets + X .octets) ≡ size + R .octets + X .octets = omega arith in
+    λ i. record { count = counts i; printed = sym (append-assoc line (R .printed) (X .printed)) i; floor = X .floor; octets = sizes i; ended = X .ended }
+
+-- AND THE REST FOLLOWS: the run of n + k frames is the run of n, and then that of k over the octets behind them
+pub runs-go-on : (n k : ℕ) (F : Floor) (index : ℕ) (l : List ℕ) → runFrom n F index l .count ≡ n → runFrom n F index l .ended ≡ false
+    → runFrom (n + k) F index l ≡ joined (runFrom n F index l) (runFrom k (runFrom n F index l .floor) (index + n) (drop (runFrom n F index l .octets) l))
+unfolding runFrom
+runs-go-on zero k F index l all goes =
+    let none : 0 + k ≡ k = omega arith in
+    let plus : index ≡ index + 0 = omega arith in
+    ap₂ (λ (m i : ℕ). runFrom m F i l) none plus ∙ joined-still F (runFrom k F (index + 0) l)
+runs-go-on (suc n) k F index l all goes =
+    by (frameOf limits l) refl (λ e size. runs-go-on n k (step limits F e) (suc index) (drop size l)) all goes
+  where
+    by : (r : Reading) → frameOf limits l ≡ r
+        → ((e : Event) (size : ℕ) → runFrom n (step limits F e) (suc index) (drop size l) .count ≡ n → runFrom n (step limits F e) (suc index) (drop size l) .ended ≡ false
+        → runFrom (n + k) (step limits F e) (suc index) (drop size l)
+        ≡ joined (runFrom n (step limits F e) (suc index) (drop size l))
+        (runFrom k (runFrom n (step limits F e) (suc index) (drop size l) .floor) (suc index + n) (drop (runFrom n (step limits F e) (suc index) (drop size l) .octets) (drop size l))))
+        → runFrom (suc n) F index l .count ≡ suc n → runFrom (suc n) F index l .ended ≡ false
+        → runFrom (suc n + k) F index l
+        ≡ joined (runFrom (suc n) F index l) (runFrom k (runFrom (suc n) F index l .floor) (index + suc n) (drop (runFrom (suc n) F index l .octets) l))
+    by end e h all goes = absurd (let z : 0 ≡ suc n = rw (e, runFrom) at all in omega arith)
+    by (refusedFrame r) e h all goes = absurd (let z : _≡_ {A = Bool} true false = rw (e, runFrom) at goes in clash true refl z)
+    by (taken ev size) e h all goes =
+        let R = runFrom n (step limits F ev) (suc index) (drop size l) in
+        let count : suc (R .count) ≡ suc n = rw (e, runFrom) at all in
+        let on : R .ended ≡ false = rw (e, runFrom) at goes in
+        let line = lineOf index (answer limits F ev) in
+        let one-more : suc n + k ≡ suc (n + k) = omega arith in
+        let sums : suc index + n ≡ index + suc n = omega arith in
+        let rest = h ev size (omega arith) on in
+        ap (λ (m : ℕ). runFrom m F index l) one-more
+        ∙ rw (e, runFrom)
+        (ap (behind line size) rest
+        ∙ behind-joined line size R (runFrom k (R .floor) (suc index + n) (drop (R .octets) (drop size l)))
+        ∙ ap₂ (λ (i : ℕ) (m : List ℕ). joined (behind line size R) (runFrom k (R .floor) i m)) sums (drop-drop (R .octets) size l))
+
+-- so the printed run is what n frames print, and then the printed run of the octets behind them
+pub lines-go-on : (n k : ℕ) (F : Floor) (index : ℕ) (l : List ℕ) → runFrom n F index l .count ≡ n → runFrom n F index l .ended ≡ false
+    → linesFrom limits (n + k) F index l ≡ runFrom n F index l .printed ++ linesFrom limits k (runFrom n F index l .floor) (index + n) (drop (runFrom n F index l .octets) l)
+lines-go-on n k F index l all goes =
+    let R = runFrom n F index l in
+    sym (prints (n + k) F index l)
+    ∙ ap (λ (X : Ran). X .printed) (runs-go-on n k F index l all goes)
+    ∙ ap (λ (x : List ℕ). R .printed ++ x) (prints k (R .floor) (index + n) (drop (R .octets) l))
+
+-- behind a frame that ended the run nothing is run
+pub runs-end : (n k : ℕ) (F : Floor) (index : ℕ) (l : List ℕ) → runFrom n F index l .ended ≡ true → runFrom (n + k) F index l ≡ runFrom n F index l
+unfolding runFrom
+runs-end zero k F index l over = clash false over refl
+runs-end (suc n) k F index l over = by (frameOf limits l) refl (λ e size. runs-end n k (step limits F e) (suc index) (drop size l)) over
+  where
+    one-more : suc n + k ≡ suc (n + k)
+    one-more = omega arith
+
+    by : (r : Reading) → frameOf limits l ≡ r
+        → ((e : Event) (size : ℕ) → runFrom n (step limits F e) (suc index) (drop size l) .ended ≡ true
+        → runFrom (n + k) (step limits F e) (suc index) (drop size l) ≡ runFrom n (step limits F e) (suc index) (drop size l))
+        → runFrom (suc n) F index l .ended ≡ true → runFrom (suc n + k) F index l ≡ runFrom (suc n) F index l
+    by end e h over = let z : _≡_ {A = Bool} false true = rw (e, runFrom) at over in clash false z refl
+    by (refusedFrame r) e h over = ap (λ (m : ℕ). runFrom m F index l) one-more ∙ rw (e, runFrom) refl
+    by (taken ev size) e h over =
+        let ended : runFrom n (step limits F ev) (suc index) (drop size l) .ended ≡ true = rw (e, runFrom) at over in
+        ap (λ (m : ℕ). runFrom m F index l) one-more ∙ rw (e, runFrom) (ap (behind (lineOf index (answer limits F ev)) size) (h ev size ended))
+
+-- no more octets are run than there are
+pub octets-inside : (n : ℕ) (F : Floor) (index : ℕ) (l : List ℕ) → runFrom n F index l .octets ≤ length l
+unfolding runFrom
+octets-inside zero F index l = omega arith
+octets-inside (suc n) F index l = by (frameOf limits l) refl (λ e size. octets-inside n (step limits F e) (suc index) (drop size l))
+  where
+    by : (r : Reading) → frameOf limits l ≡ r → ((e : Event) (size : ℕ) → runFrom n (step limits F e) (suc index) (drop size l) .octets ≤ length (drop size l))
+        → runFrom (suc n) F index l .octets ≤ length l
+    by end e h = rw (e, runFrom) (omega arith)
+    by (refusedFrame r) e h = rw (e, runFrom) (omega arith)
+    by (taken ev size) e h =
+        let inside = taken-front l ev size e in
+        let rest = h ev size in
+        let z = length-drop size l in
+        rw (e, runFrom) (omega arith)
+
+-- with more turns than octets there are enough: every frame has an octet at least
+pub turns-enough : (n k : ℕ) (F : Floor) (index : ℕ) (l : List ℕ) → length l < n → runFrom (n + k) F index l ≡ runFrom n F index l
+unfolding runFrom
+turns-enough zero k F index l few = absurd (omega arith)
+turns-enough (suc n) k F index l few = by (frameOf limits l) refl (λ e size. turns-enough n k (step limits F e) (suc index) (drop size l))
+  where
+    one-more : suc n + k ≡ suc (n + k)
+    one-more = omega arith
+
+    by : (r : Reading) → frameOf limits l ≡ r
+        → ((e : Event) (size : ℕ) → length (drop size l) < n → runFrom (n + k) (step limits F e) (suc index) (drop size l) ≡ runFrom n (step limits F e) (suc index) (drop size l))
+        → runFrom (suc n + k) F index l ≡ runFrom (suc n) F index l
+    by end e h = ap (λ (m : ℕ). runFrom m F index l) one-more ∙ rw (e, runFrom) refl
+    by (refusedFrame r) e h = ap (λ (m : ℕ). runFrom m F index l) one-more ∙ rw (e, runFrom) refl
+    by (taken ev size) e h =
+        let inside = taken-front l ev size e in
+        let z = length-drop size l in
+        ap (λ (m : ℕ). runFrom m F index l) one-more ∙ rw (e, runFrom) (ap (behind (lineOf index (answer limits F ev)) size) (h ev size (omega arith)))
+
+-- WHAT IS LESS THAN A WHOLE FRAME
+-- "fewer text octets than the length", which is at most 32
+cut-text : (a b c d : Bool) → check 2 a (check 3 b (check 4 c (check 1 d 0))) ≡ 1 → (c ≡ false) × (d ≡ true)
+cut-text true b c d e = absurd (omega arith)
+cut-text false true c d e = absurd (omega arith)
+cut-text false false true d e = absurd (omega arith)
+cut-text false false false true e = (refl, refl)
+cut-text false false false false e = absurd (omega arith)
+
+cut-short : (f : Fields) (behind : ℕ) → fieldsRefusal limits f behind ≡ 1 → behind < 32
+unfolding fieldsRefusal
+cut-short f behind e =
+    let z = cut-text (ltb 5 (f .kind)) (not (eqb (unlisted f) 0)) (ltb 32 (f .length)) (ltb behind (f .length)) e in
+    let a = ltb-false 32 (f .length) (z .0) in
+    let b = ltb-true behind (f .length) (z .1) in
+    omega arith
+
+-- so what is less than a whole frame has at most 47 octets
+pub few-left : (last : Bool) (l : List ℕ) (at : ℕ) → NoneWhole last (readAt limits l at) → length l - at < 48
+few-left last l at h =
+    by-lt at (length l)
+    (λ s. by-lt (length l - at) 16 (λ z. omega arith)
+    (λ w. by-eq (fieldsRefusal limits f (length l - at - 16)) 0
+    (λ z. absurd (subst (λ (x : Reading). NoneWhole last x) (sym (taken-frame l at f w refl (sym z))) h))
+    (λ z.
+    let one = subst (λ (x : Reading). NoneWhole last x) (sym (refused-frame l at f w refl _ refl z)) h .0 in
+    let short = cut-short f (length l - at - 16) one in
+    omega arith)))
+    (λ s. omega arith)
+  where
+    f : Fields
+    f = fieldsOf (drop at l)

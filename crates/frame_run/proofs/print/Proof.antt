@@ -1,0 +1,64 @@
+-- `frame_run::print` meets its contract.
+use denote.Ref.{now}
+use Rattle.frame_run.proofs.Events.{told-refused, told-accepted}
+use borrow.Author.Needs.{needs}
+use Rattle.frame_run.proofs.print.Statement.{statement}
+use Rattle.frame_run.proofs.print.Tie as tie
+
+end-refused-requires : tie.Need-end-refused-requires
+end-refused-requires c κs = search needs
+
+same-length : tie.Need-same-length
+same-length c = search needs
+
+returns : tie.Need-returns
+returns c =
+    let e = c .before .before in
+    let t = e .before .before in
+    let a = t .before .before .before .before .args in
+    told-refused (now (a .texts)) (a .told) _ _ (a .at) _ (t .if1 .taken) (e .end-refused .ensures)
+
+mul-from : tie.Need-mul-from
+mul-from c = search needs
+
+add-end : tie.Need-add-end
+add-end c = search needs
+
+sub-end-accepted : tie.Need-sub-end-accepted
+sub-end-accepted c = search needs
+
+part-end-accepted-start : tie.Need-part-end-accepted-start
+part-end-accepted-start c = search needs
+
+part-end-accepted-end : tie.Need-part-end-accepted-end
+part-end-accepted-end c = search needs
+
+end-accepted-requires : tie.Need-end-accepted-requires
+end-accepted-requires c κs = search needs
+
+same-length-2 : tie.Need-same-length-2
+same-length-2 c = search needs
+
+returns-2 : tie.Need-returns-2
+returns-2 c =
+    let e = c .before .before in
+    let t = e .before .before .before .before in
+    let s = t .before .before .before .before in
+    let a = s .args in
+    told-accepted (now (a .texts)) (a .told) _ _ (a .at) _ (t .if1 .left) (s .pre .3 .size) (e .end-accepted .ensures)
+
+pub print-spec : {M : Type 1} → statement M
+print-spec =
+    tie.close
+    (tie.spec
+    end-refused-requires
+    same-length
+    returns
+    mul-from
+    add-end
+    sub-end-accepted
+    part-end-accepted-start
+    part-end-accepted-end
+    end-accepted-requires
+    same-length-2
+    returns-2)

@@ -1,0 +1,72 @@
+-- THE PIECE OF INPUT AND THE STREAM: what the code's numbers say of it.
+use mathlib.Core.Path.{_≡_}
+use mathlib.Core.Bool.{Bool, true, false, cond}
+use mathlib.Core.List.{List}
+use mathlib.Core.Logic.{_⊎_}
+use Prim.Native.Nat.{ℕ, _+_, _-_, _<_, _≤_}
+use lib.Dec.{eqb}
+use lib.IntN.{ℤ, pos, negsuc}
+use lib.ListN.{length, take, drop}
+use Rattle.io.specs.Counts.{clamped}
+use Rattle.protocol.specs.Floor.{Floor}
+use Rattle.view.specs.View.{Lent, floorIn}
+use Rattle.frame_run.specs.declared.Progress.{Progress}
+use Rattle.frame_run.specs.Ready.{Unstarted}
+use Rattle.frame_stream.specs.declared.Feed.{Feed}
+use Rattle.frame_stream.specs.declared.Got.{Got}
+use Rattle.frame_stream.specs.declared.Handed.{Handed}
+use Rattle.frame_stream.specs.declared.Outcome.{Outcome}
+use Rattle.frame_stream.specs.Stream.{Stream, begin, Turn, stateAfter, after, handed, May, Turns, streamAfter, StreamIs}
+
+-- the feed stands in a piece of n octets; where a read is wanted, what is left is less than a whole frame, so the read has room
+pub record Inside (n : ℕ) (f : Feed) : Type 0 where
+  pub run : f .at ≤ f .have
+  pub read : f .have ≤ n
+  pub few : f .state ≡ 1 → f .have - f .at < 48
+
+-- THE STREAM that a piece of input, the lent floor and the feed say: what is left are the octets from `at` up to `have`
+abbrev pub streamOf : List ℕ → Lent → Feed → Stream
+streamOf input L f = record { left = take (f .have - f .at) (drop (f .at) input); floor = floorIn L; index = f .index; state = f .state; last = f .last }
+
+-- ONE TURN WAS MADE, from S to S′, and these octets were handed on
+pub record Made (S S′ : Stream) (octets : List ℕ) : Type 0 where
+  pub turn : Turn
+  pub may : May S turn
+  pub leads : S′ ≡ after S turn
+  pub hands : octets ≡ handed S turn
+
+-- what a read's answer says, where it was handed `room` octets to fill; a negative one says that it failed
+abbrev pub isFailure : ℤ → Bool
+isFailure (pos n) = false
+isFailure (negsuc n) = true
+
+abbrev pub gotOf : ℤ → ℕ → Got
+gotOf answer room = record { count = clamped answer room; failed = isFailure answer; room = room }
+
+-- the feed after a read, this many octets having been kept at the front: what it brought stands behind them, and if that is nothing the input has ended
+abbrev pub afterRead : ℕ → Got → Feed → Feed
+afterRead kept got f =
+    cond (got .failed)
+    (record { at = 0; have = kept; index = f .index; state = 3; last = f .last; handed = 0 })
+    (record { at = 0; have = kept + got .count; index = f .index; state = 0; last = eqb (got .count) 0; handed = 0 })
+
+-- the feed after a run: behind the octets and frames that were run
+abbrev pub afterRun : Feed → Progress → Handed → Feed
+afterRun f p h =
+    record { at = f .at + p .read; have = f .have; index = f .index + p .frames; state = stateAfter (p .state) (f .last) (h .accepted); last = f .last; handed = h .size }
+
+-- THE WHOLE RUN from a floor: the turns that were made, and how it came out. It stopped since nothing was to be done, or since 2^63 frames were run or
+-- 2^64 − 1 turns made, which no input uses up
+pub record Finished (F : Floor) (r : Outcome) : Type 0 where
+  pub turns : List Turn
+  pub made : Turns (begin F) turns
+  pub frames : r .frames ≡ streamAfter (begin F) turns .index
+  pub state : r .state ≡ streamAfter (begin F) turns .state
+  pub stopped : (2 ≤ r .state) ⊎ ((9223372036854775808 ≤ r .frames) ⊎ (length turns ≡ 18446744073709551615))
+
+-- and it prints the printed run
+pub record Streamed (r : Outcome) : Type 0 where
+  pub floor : Floor
+  pub fresh : Unstarted floor
+  pub finished : Finished floor r
+  pub is : StreamIs floor (finished .turns)

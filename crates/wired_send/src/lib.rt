@@ -1,0 +1,129 @@
+// START, AND SEND (of the wired module) over the lent parts.
+use ids::MessageNumber;
+use ids::Station;
+ghost use mathlib.Core.Path.{_≡_};
+ghost use mathlib.Core.Bool.{true};
+ghost use Prim.Native.Nat.{_+_, _*_, _<_, _≤_};
+ghost use lib.ListN.{length};
+ghost use Rattle.lines.specs.Form.{form, sized};
+ghost use Rattle.lines.specs.Lines.{used};
+ghost use Rattle.lines.specs.Words.{capacity};
+ghost use Rattle.messages.specs.View.{HasRoom};
+ghost use Rattle.messages.specs.Texts.{HasText};
+ghost use Rattle.stations.specs.View.{rooms, HasHead, HasStation, headIn, stationsIn};
+ghost use Rattle.wired_send.specs.Rooms.{firstFree};
+ghost use Rattle.wired_send.specs.Copies.{withoutCopy, withoutCopies};
+ghost use Rattle.wired_send.specs.Begun.{Begun};
+ghost use Rattle.wired_send.specs.Sent.{Kept, Sent};
+
+// "Its room is then used again": the first of the rooms whose message no station waits for any more; 32 where every room is taken.
+pub fn free_room(messages: &[u64], held: usize) -> usize
+    requires { ⌜ (held * 6 ≤ length (now messages)) × (held ≤ 32) ⌝ }
+    ensures { λ r. ⌜ r ≡ firstFree held (now (messages .entry)) ⌝ }
+{
+    let mut m: usize = 0;
+    while m < held {
+        if messages::waiting_of(messages, m) == 0 {
+            return m;
+        }
+        m += 1;
+    }
+    queue::NONE
+}
+
+// One station has no copy of the message in room m, no ack list and no entry for it.
+fn clear_copy(stations: &mut [u64], m: usize, station: Station)
+    requires { ⌜ HasStation (now stations) (station .0) × (m < rooms) ⌝ }
+    ensures { λ _. ⌜ stationsIn (now (stations .exit)) ≡ withoutCopy (stationsIn (now (stations .entry))) m (station .0) ⌝ }
+    ensures { λ _. ⌜ headIn (now (stations .exit)) ≡ headIn (now (stations .entry)) ⌝ }
+    ensures { λ _. ⌜ length (now (stations .exit)) ≡ length (now (stations .entry)) ⌝ }
+{
+    stations::put_copy(stations, m, station, 0);
+    stations::put_acks(stations, m, station, 0);
+    stations::put_queue(stations, m, station, 0);
+}
+
+// No station that the table has a row for has a copy of the message in room m yet, an ack list or an entry for it.
+fn clear_copies(stations: &mut [u64], rows: u64, m: usize)
+    requires { ⌜ (length (now stations) ≡ 116 + rows * 116) × (rows ≤ 16) × (m < rooms) ⌝ }
+    ensures { λ _. ⌜ stationsIn (now (stations .exit)) ≡ withoutCopies (stationsIn (now (stations .entry))) m ⌝ }
+    ensures { λ _. ⌜ headIn (now (stations .exit)) ≡ headIn (now (stations .entry)) ⌝ }
+    ensures { λ _. ⌜ length (now (stations .exit)) ≡ length (now (stations .entry)) ⌝ }
+{
+    let mut t: u64 = 0;
+    while t < rows {
+        clear_copy(stations, m, Station(t));
+        t += 1;
+    }
+}
+
+// "it writes all the rest afresh": a floor of n stations and k carts, with nothing on it but its mark. Texts have no length, so none is there.
+pub fn start_floor(
+    stations: &mut [u64],
+    carts: &mut [u64],
+    messages: &mut [u64],
+    lines: &mut [u64],
+    n: u64,
+    k: u64,
+)
+    requires { ⌜ HasHead (now stations) × (sized (now lines) ≡ true) ⌝ }
+    ensures { λ _. ⌜ Begun (now (stations .entry)) (now (stations .exit)) (now (carts .entry)) (now (carts .exit)) (now (messages .entry)) (now (messages .exit)) (now (lines .entry)) (now (lines .exit)) n k ⌝ }
+{
+    stations::clear_stations(stations);
+    stations::put_head(stations, stations::STARTED, n, k);
+    carts::clear_carts(carts);
+    messages::clear_messages(messages);
+    lines::clear(lines);
+}
+
+// A message that is sent: the room that it gets, its initiator, its number and the set.
+pub struct NewMessage {
+    pub room: usize,
+    pub initiator: Station,
+    pub number: MessageNumber,
+    pub set: u64,
+}
+
+// The message and its text, into its room: "The initiator keeps the set as sent"; nobody has acknowledged it, and none of n stations has handled
+// its delete.
+fn keep_message(messages: &mut [u64], texts: &mut [u8], n: u64, message: NewMessage, text: &[u8])
+    requires { ⌜ HasRoom (now messages) (message .room) × HasText (now texts) (message .room) × (length (now text) ≤ 32) × (n ≤ 16) ⌝ }
+    ensures { λ _. ⌜ Kept (now (messages .entry)) (now (messages .exit)) (now (texts .entry)) (now (texts .exit)) (message .room) (message .initiator .0) n (message .number .0) (message .set) (now (text .entry)) ⌝ }
+{
+    messages::put_message(
+        messages,
+        message.room,
+        message.initiator,
+        message.number,
+        message.set,
+        sets::all_below(n),
+        text.len() as u64,
+    );
+    messages::put_text(texts, message.room, text);
+}
+
+// "Send (station, set, text): the message takes the station's number; a multicast goes on the line to every station", on a floor of n stations
+// in a table that has rows for as many or more.
+pub fn on_send(
+    stations: &mut [u64],
+    messages: &mut [u64],
+    lines: &mut [u64],
+    texts: &mut [u8],
+    rows: u64,
+    n: u64,
+    message: NewMessage,
+    text: &[u8],
+)
+    requires { ⌜ (length (now stations) ≡ 116 + rows * 116) × (rows ≤ 16) × HasStation (now stations) (message .initiator .0) × HasRoom (now messages) (message .room) × HasText (now texts) (message .room) × (length (now text) ≤ 32) ⌝ }
+    requires { ⌜ (message .room < rooms) × (message .initiator .0 < 16) × (n ≤ 16) × (message .number .0 < 4294967296) ⌝ }
+    requires { ⌜ (form (now lines) ≡ true) × (used (now lines) + n ≤ capacity (now lines)) ⌝ }
+    ensures { λ _. ⌜ Sent (now (stations .entry)) (now (stations .exit)) (now (messages .entry)) (now (messages .exit)) (now (lines .entry)) (now (lines .exit)) (now (texts .entry)) (now (texts .exit)) (message .room) (message .initiator .0) n (message .number .0) (message .set) (now (text .entry)) ⌝ }
+{
+    keep_message(messages, texts, n, message, text);
+    let m = message.room;
+    let s = message.initiator;
+    let number = message.number;
+    clear_copies(stations, rows, m);
+    stations::put_sent(stations, s, number.next().0);
+    wired_lines::push_to_every(lines, s, n, view::multicast(m, number));
+}
