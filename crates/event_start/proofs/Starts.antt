@@ -14,9 +14,9 @@ use Rattle.protocol.proofs.Tests.{by-lt}
 use Rattle.stations.specs.View.{HasHead, headIn}
 use Rattle.lines.specs.Form.{sized}
 use Rattle.view.specs.View.{Lent, lent, lengthsIn, floorIn}
-use Rattle.view.proofs.Lengths.{Lengths, lengths-of}
+use Rattle.view.proofs.Lengths.{Lengths, lengths-of, pool-sized}
 use Rattle.wired_send.specs.Begun.{Begun}
-use Rattle.wired_send.proofs.StartIs.{pool-sized, accepted-start}
+use Rattle.wired_send.proofs.StartIs.{accepted-start}
 use Rattle.event_answers.specs.Answers.{says}
 use Rattle.event_answers.specs.Met.{Met}
 use Rattle.event_answers.proofs.Meets.{meets-refused, meets-done}

@@ -9,10 +9,11 @@ use lib.ListN.{length, getD}
 use lib.Seq.{ext-getD}
 use borrow.Author.Tests.{eqb-true, eq-eqb}
 use Rattle.protocol.specs.Folds.{sum, listOf}
-use Rattle.protocol.specs.Floor.{Place, outside, at, leaving, travelling, Carts, Record, multicast, ackList, delete, deregister, register, moving}
+use Rattle.protocol.specs.Floor.{Place, outside, at, leaving, travelling, Carts, moving}
 use Rattle.protocol.specs.Claims.{True}
 use Rattle.protocol.specs.Form.{HandoffRecord, deregistering, registering, bit, countLine, handoffs, handoffOf, sameHandoffs}
 use Rattle.protocol.specs.Ranges.{PlaceInRange}
+use Rattle.protocol.proofs.RecordBound.{count-handoffs}
 use Rattle.protocol.proofs.Tests.{by-test, clash, and-left, and-right, and-intro, both-equal, eqb-self, on-cond, every-at, every-all, length-listOf, listOf-at}
 use Rattle.protocol.proofs.Counting.{sum-nil, sum-term, sum2-only}
 use Rattle.protocol.proofs.LineFacts.{isHandoffOf}
@@ -38,15 +39,6 @@ pub numbers-same : (f g : ℕ → ℕ) → listOf 16 f ≡ listOf 16 g → sameN
 numbers-same f g e =
     every-all 16 (λ s. eqb (f s) (g s))
     (λ s h. eq-eqb (f s) (g s) (sym (listOf-at 16 f 0 s h) ∙ ap (λ (l : List ℕ). getD l s 0) e ∙ listOf-at 16 g 0 s h))
-
--- how many hand-offs of a cart are on a line
-pub count-handoffs : (c : ℕ) (l : List Record) → countLine (isHandoffOf c) l ≡ length (handoffs c l)
-count-handoffs c [] = refl
-count-handoffs c (multicast n ∷ l) = let z = count-handoffs c l in omega arith
-count-handoffs c (ackList n x ∷ l) = let z = count-handoffs c l in omega arith
-count-handoffs c (delete n ∷ l) = let z = count-handoffs c l in omega arith
-count-handoffs c (deregister d ∷ l) = let z = count-handoffs c l in by-test (eqb d c) (λ e. rw e (omega arith)) (λ e. rw e (omega arith))
-count-handoffs c (register d row ∷ l) = let z = count-handoffs c l in by-test (eqb d c) (λ e. rw e (omega arith)) (λ e. rw e (omega arith))
 
 -- THE LINE OF A CART ON ITS WAY
 

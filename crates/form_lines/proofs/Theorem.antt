@@ -17,7 +17,8 @@ use Rattle.protocol.specs.Form.{HandoffRecord, bit, countLine, countLines, isDe
 use Rattle.protocol.specs.Ranges.{PlaceInRange}
 use Rattle.protocol.proofs.ClaimLaws.{reflect}
 use Rattle.protocol.proofs.Tests.{same-test, by-test, by-lt, clash, and-false, and-left, and-right, and-intro, eqb-self, every-at, every-all, length-listOf, listOf-at}
-use Rattle.protocol.proofs.SetLaws.{has-zero, has-setOf, setOf-lt, member-below, same-members}
+use Rattle.protocol.proofs.RecordBound.{count-handoffs}
+use Rattle.protocol.proofs.SetLaws.{has-setOf, has-zero, no-member, same-members, setOf-lt}
 use Rattle.protocol.proofs.Counting.{bit-le, sum-ext, count-none, countLines-none}
 use Rattle.protocol.proofs.Updates.{all-map}
 use Rattle.protocol.proofs.LineFacts.{isHandoffOf}
@@ -40,7 +41,7 @@ use Rattle.form_lines.proofs.Totals.{found-all-yes, found-all-no, seen-
 use Rattle.form_lines.proofs.Order.{order-of, of-order}
 use Rattle.form_lines.proofs.Gathered.{gathered-yes, gathered-no}
 use Rattle.protocol.proofs.FormTest.{same-handoffs-are}
-use Rattle.form_lines.proofs.Handoffs.{are-same-handoffs, count-handoffs, due, due-total, handoffs-due, Placed, CartBelow, placed-of}
+use Rattle.form_lines.proofs.Handoffs.{are-same-handoffs, due, due-total, handoffs-due, Placed, CartBelow, placed-of}
 use Rattle.form_lines.proofs.Clauses.{TableClauses, LineClauses}
 use Rattle.form_lines.proofs.RecordRule.{all-read, each-read, slot, one-room, fits-room, fits-rule, rule-below, rule-fits}
 use Rattle.form_lines.proofs.Middle.{start, seenLast, Middle, middle-of, of-middle}
@@ -64,9 +65,6 @@ same-bits true true e = refl
 same-bits true false e = absurd (omega arith)
 same-bits false true e = absurd (omega arith)
 same-bits false false e = refl
-
-no-member : (n x c : ℕ) → x < 2 ^ n → n ≤ c → has x c ≡ false
-no-member n x c h l = by-test (has x c) (λ e. absurd (let z = member-below n x c h e in omega arith)) (λ e. e)
 
 -- COUNTS OF ONE OF MANY
 and-count : (b : Bool) (f : Record → Bool) (l : List Record) → b ≡ true → countLine (λ r. b && f r) l ≡ countLine f l

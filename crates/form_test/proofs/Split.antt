@@ -2,7 +2,7 @@
 use mathlib.Core.Path.{_≡_, refl, sym, ap, _∙_}
 use mathlib.Core.Bool.{Bool, true, false, _&&_}
 use mathlib.Core.List.{List, []}
-use Prim.Native.Nat.{ℕ, _+_, _-_, _*_, _/_, _≤_, _<_}
+use Prim.Native.Nat.{ℕ, _*_, _≤_, _<_}
 use native.Mathlib.Omega.{arith}
 use lib.ListN.{length, drop, length-take}
 use borrow.Author.Tests.{eqb-true, eq-eqb, leb-true, le-leb}
@@ -17,9 +17,7 @@ use Rattle.stations.specs.View.{stationsIn}
 use Rattle.carts.specs.View.{cartsIn}
 use Rattle.messages.specs.View.{roomsIn}
 use Rattle.messages.specs.Texts.{textIn}
-use Rattle.lines.specs.Words.{capacity}
-use Rattle.lines.specs.Form.{sized, form}
-use Rattle.lines.proofs.Formed.{of-sized}
+use Rattle.lines.specs.Form.{form}
 use Rattle.view.specs.View.{Lent, lent, floorIn, lengthsIn, localRight, shortText, lineRight}
 use Rattle.view.proofs.Laid.{Laid, laid-of, words-right}
 use Rattle.view.proofs.Lengths.{lengths-of}
@@ -34,14 +32,6 @@ use Rattle.form_lines.proofs.Theorem.{pass-is-test}
 text-fits : (T : List ℕ) (n m : ℕ) → n ≤ 32 → length (textIn T n m) ≤ 32
 unfolding textIn
 text-fits T n m h = omega (arith, length-take n (drop (m * 32) T))
-
--- a pool of whole rows, no more than there are bits for
-all-rows : (W : List ℕ) (m : ℕ) → length W ≡ 1842 + m * 3 → capacity W ≡ m
-unfolding capacity
-all-rows W m e = ap (λ (n : ℕ). (n - 1842) / 3) e ∙ (let z : (1842 + m * 3 - 1842) / 3 ≡ m = omega arith in z)
-
-pub pool-sized : (W : List ℕ) (m : ℕ) → length W ≡ 1842 + m * 3 → m ≤ 3136 → sized W ≡ true
-pool-sized W m e few = let q = all-rows W m e in of-sized W (omega arith) (omega arith)
 
 module _ (P : Product) (S C M W T : List ℕ) where
   abbrev L : Lent

@@ -12,7 +12,8 @@ use Rattle.protocol.specs.Floor.{limits}
 use Rattle.protocol.specs.Events.{Event}
 use Rattle.protocol.specs.Frames.{Reading, fieldsOf, frameRefusal, end, refusedFrame, taken, frameOf, readAt, movedTo}
 use Rattle.frames.proofs.Values.{taken-inside}
-use Rattle.frame_reader.specs.Checks.{refusalNumber, Found, noFrame, whole, after, checkFrom, checked}
+use Rattle.frames.specs.Decoded.{refusalNumber}
+use Rattle.frame_reader.specs.Checks.{Found, noFrame, whole, after, checkFrom, checked}
 
 -- WHAT IS FOUND
 

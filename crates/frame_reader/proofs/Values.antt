@@ -11,21 +11,13 @@ use Rattle.protocol.specs.Frames.{readAt, movedTo}
 use Rattle.frames.specs.declared.Event.{Event}
 use Rattle.frames.specs.declared.Reading.{Reading}
 use Rattle.frames.specs.declared.Reading.the-variants.{End, Refused, Taken}
-use Rattle.frames.specs.Decoded.{readingIn, sizeOf}
+use Rattle.frames.specs.Decoded.{readingIn, sizeOf, refusalOf, refusalNumber}
+use Rattle.frames.proofs.Values.{same-number}
 use Rattle.frames.proofs.Reading.{the-type as reading-type}
-use Rattle.frame_reader.specs.Checks.{refusalOf, refusalNumber}
 
 module _ (l : List ℕ) (at : ℕ) (r : Reading) (read : readingIn (drop at l) r ≡ readAt limits l at) where
   pub moved-taken : (e : Event) (n : ℕ) → r ≡ Taken e → n ≡ sizeOf e → at + n ≡ movedTo at (readAt limits l at)
   moved-taken e n q s = ap (λ (k : ℕ). at + k) s ∙ ap (λ (x : Reading). movedTo at (readingIn (drop at l) x)) (sym q) ∙ ap (movedTo at) read
-
-  pub same-number : refusalOf r ≡ refusalNumber (readAt limits l at)
-  same-number = written r ∙ ap refusalNumber read
-    where
-      written : (x : Reading) → refusalOf x ≡ refusalNumber (readingIn (drop at l) x)
-      written End = refl
-      written (Refused n) = refl
-      written (Taken e) = refl
 
 -- the end and a refused frame do not move the reader
 not-moved : (l : List ℕ) (at : ℕ) (r : Reading) → OneOf (0 ∷ 1 ∷ []) (tagOf reading-type r) → at ≡ movedTo at (readingIn l r)

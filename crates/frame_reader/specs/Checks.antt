@@ -6,19 +6,7 @@ use lib.ListN.{length, drop}
 use Rattle.protocol.specs.Floor.{limits}
 use Rattle.protocol.specs.Frames.{end, refusedFrame, taken, frameOf}
 use Rattle.protocol.specs.Frames as frames
-use Rattle.frames.specs.declared.Reading.{Reading}
-use Rattle.frames.specs.Decoded.{readingIn}
 use Rattle.frame_reader.specs.declared.Checked.{Checked}
-
--- the refusal number of what was read, 0 for an event and for "end"
-abbrev pub refusalNumber : frames.Reading → ℕ
-refusalNumber end = 0
-refusalNumber (refusedFrame r) = r
-refusalNumber (taken e size) = 0
-
--- the same of the decoder's reading, for which the octets do not matter
-abbrev pub refusalOf : Reading → ℕ
-refusalOf r = refusalNumber (readingIn [] r)
 
 -- what a check finds: how many whole frames stand at the front, how many octets they take, and the refusal number of what stands behind them
 pub record Found : Type 0 where

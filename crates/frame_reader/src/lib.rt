@@ -4,18 +4,8 @@ use frames::Reading;
 ghost use mathlib.Core.Path.{_≡_};
 ghost use Rattle.protocol.specs.Floor.{limits};
 ghost use Rattle.protocol.specs.Frames.{readAt, movedTo};
-ghost use Rattle.frame_reader.specs.Checks.{refusalOf, refusalNumber, checkIn, checked};
-
-// The refusal number of a reading, 0 for an event and at the end.
-fn refusal(reading: Reading) -> u64
-    ensures { λ r. ⌜ r ≡ refusalOf reading ⌝ }
-{
-    match reading {
-        Reading::End => 0,
-        Reading::Refused(number) => number,
-        Reading::Taken(_) => 0,
-    }
-}
+ghost use Rattle.frames.specs.Decoded.{refusalNumber};
+ghost use Rattle.frame_reader.specs.Checks.{checkIn, checked};
 
 // The refusal number of what stands at a place, 0 for an event and at the end.
 fn refusal_at(octets: &[u8], at: usize) -> u64
@@ -23,7 +13,7 @@ fn refusal_at(octets: &[u8], at: usize) -> u64
 {
     let reading = frames::frame_at(octets, at);
     let Reading::Taken(_) = reading else {
-        return refusal(reading);
+        return frames::refusal(reading);
     };
     0
 }

@@ -1,4 +1,4 @@
-// FRAMES FROM ONE DESCRIPTOR, LINES TO ANOTHER: "reads frames from standard input and prints one line each". The run itself is `running`; here
+// FRAMES FROM ONE DESCRIPTOR, LINES TO ANOTHER: "reads frames from standard input and prints one line each". The run itself is `frame_run`; here
 // octets go between it and the descriptors, in large pieces, and the memory is the same whatever the input's length. Two functions touch a
 // descriptor, `read` and `hand_on`. All the others are about slices and numbers, and what they come to is the written stream (specs/Stream).
 use frame_run::Progress;

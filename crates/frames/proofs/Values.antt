@@ -19,9 +19,9 @@ use Rattle.protocol.specs.Events.{send}
 use Rattle.frames.specs.declared.Event.{Event}
 use Rattle.frames.specs.declared.Event.the-variants.{Start, Enter, Send, Wire, Radio, Move}
 use Rattle.frames.specs.declared.Reading.{Reading}
-use Rattle.frames.specs.declared.Reading.the-variants.{Taken}
+use Rattle.frames.specs.declared.Reading.the-variants.{Taken, End, Refused}
 use Rattle.frames.specs.declared.Halves.{Halves}
-use Rattle.frames.specs.Decoded.{fieldsIn, ifListed, frameIn, eventIn, readingIn, sizeOf}
+use Rattle.frames.specs.Decoded.{fieldsIn, ifListed, frameIn, eventIn, readingIn, sizeOf, refusalNumber, refusalOf}
 use Rattle.frames.proofs.Event.{the-type as event-type}
 use Rattle.frames.proofs.Laws.{low-fields, send-fields, unlisted-send, unlisted-wire, unlisted-move, unlisted-else}
 use Rattle.frames.proofs.Laws.{no-kind, stray-field, long-text, cut-text, no-refusal, text-short, text-there}
@@ -151,3 +151,12 @@ module _ (l : List ℕ) (at : ℕ) (r : Reading) (read : readingIn (drop at l) r
   -- the same for the decoder's event
   pub event-inside : (e : Event) → r ≡ Taken e → (at + sizeOf e ≤ length l) × (sizeOf e ≤ 48)
   event-inside e q = taken-inside l at _ (sizeOf e) (sym read ∙ ap (λ (x : Reading). readingIn (drop at l) x) q)
+
+  -- its refusal number
+  pub same-number : refusalOf r ≡ refusalNumber (readAt limits l at)
+  same-number = written r ∙ ap refusalNumber read
+    where
+      written : (x : Reading) → refusalOf x ≡ refusalNumber (readingIn (drop at l) x)
+      written End = refl
+      written (Refused n) = refl
+      written (Taken e) = refl

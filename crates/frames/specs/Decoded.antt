@@ -43,6 +43,16 @@ readingIn l End = end
 readingIn l (Refused r) = refusedFrame r
 readingIn l (Taken e) = takenIn l e
 
+-- the refusal number of what was read, 0 for an event and for "end"
+abbrev pub refusalNumber : frames.Reading → ℕ
+refusalNumber end = 0
+refusalNumber (refusedFrame r) = r
+refusalNumber (taken e size) = 0
+
+-- the same of the decoder's reading, for which the octets do not matter
+abbrev pub refusalOf : Reading → ℕ
+refusalOf r = refusalNumber (readingIn [] r)
+
 -- FRAMES
 
 -- n octets of a number, least significant first

@@ -7,7 +7,7 @@ ghost use Prim.Native.Nat.{ℕ, _+_, _<_, _≤_};
 ghost use lib.ListN.{length, take, drop};
 ghost use Rattle.protocol.specs.Floor.{limits};
 ghost use Rattle.protocol.specs.Frames.{bigEndian, fieldsOf, readAt};
-ghost use Rattle.frames.specs.Decoded.{octetsOf, fieldsIn, ifListed, frameIn, sizeOf, readingIn};
+ghost use Rattle.frames.specs.Decoded.{octetsOf, fieldsIn, ifListed, frameIn, sizeOf, readingIn, refusalOf};
 
 // An event.
 pub enum Event {
@@ -203,5 +203,16 @@ pub fn size_of(e: Event) -> usize
     match e {
         Event::Send(_, _, length) => FRAME + length,
         _ => FRAME,
+    }
+}
+
+// The refusal number of a reading, 0 for an event and at the end.
+pub fn refusal(reading: Reading) -> u64
+    ensures { λ r. ⌜ r ≡ refusalOf reading ⌝ }
+{
+    match reading {
+        Reading::End => 0,
+        Reading::Refused(number) => number,
+        Reading::Taken(_) => 0,
     }
 }

@@ -15,7 +15,7 @@ use Rattle.protocol.specs.Form.{HandoffRecord, acksOf, acksTo, bit, cart
 use Rattle.protocol.specs.Blank.{BlankBeyond}
 use Rattle.protocol.specs.Ranges.{PlaceInRange}
 use Rattle.protocol.proofs.Tests.{and-false, both-equal, by-eq, by-lt, by-test, clash, on-cond, on-option}
-use Rattle.protocol.proofs.SetLaws.{has-zero, member-below, some-member}
+use Rattle.protocol.proofs.SetLaws.{has-zero, member-below, no-member, some-member}
 use Rattle.protocol.proofs.FloorLaws.{outside-is}
 use Rattle.protocol.proofs.Invariant.{Held, Holds}
 use Rattle.protocol.proofs.Updates.{all-map, counts-up-le}
@@ -78,9 +78,6 @@ none-handed-off c (ackList n x ∷ l) a = none-handed-off c l (a .1)
 none-handed-off c (delete n ∷ l) a = none-handed-off c l (a .1)
 none-handed-off c (deregister d ∷ l) a = rw (a .0) (none-handed-off c l (a .1))
 none-handed-off c (register d row ∷ l) a = rw (a .0) (none-handed-off c l (a .1))
-
-no-member : (n x c : ℕ) → x < 2 ^ n → n ≤ c → has x c ≡ false
-no-member n x c h l = by-test (has x c) (λ e. absurd (let z = member-below n x c h e in omega arith)) (λ e. e)
 
 -- a set that nobody is in is empty
 nobody : (x : ℕ) → ((c : ℕ) → has x c ≡ true → ⊥) → x ≡ 0

@@ -87,8 +87,8 @@ one-multicast e (delete k ∷ l) top n r = let z = one-multicast e l top n r in 
 one-multicast e (deregister c ∷ l) top n r = let z = one-multicast e l top n r in omega arith
 one-multicast e (register c row ∷ l) top n r = let z = one-multicast e l top n r in omega arith
 
--- a hand-off has one record
-count-handoffs : (c : ℕ) (l : List Record) → countLine (isHandoffOf c) l ≡ length (handoffs c l)
+-- how many hand-off records of a cart are on a line
+pub count-handoffs : (c : ℕ) (l : List Record) → countLine (isHandoffOf c) l ≡ length (handoffs c l)
 count-handoffs c [] = refl
 count-handoffs c (multicast n ∷ l) = let z = count-handoffs c l in omega arith
 count-handoffs c (ackList n x ∷ l) = let z = count-handoffs c l in omega arith
@@ -96,6 +96,7 @@ count-handoffs c (delete n ∷ l) = let z = count-handoffs c l in omega arith
 count-handoffs c (deregister d ∷ l) = let z = count-handoffs c l in by-test (eqb d c) (λ e. rw e (omega arith)) (λ e. rw e (omega arith))
 count-handoffs c (register d row ∷ l) = let z = count-handoffs c l in by-test (eqb d c) (λ e. rw e (omega arith)) (λ e. rw e (omega arith))
 
+-- a hand-off has one record
 one-handoff : (n : ℕ) (p : Place) (f : List ℕ) → sum n (λ i. sum n (λ j. length (handoffOf p i j f))) ≤ 1
 one-handoff n outside f = sum2-only n (λ i j. 0) 0 0 1 (λ i j li lj ne. refl) (omega arith)
 one-handoff n (at s) f = sum2-only n (λ i j. 0) 0 0 1 (λ i j li lj ne. refl) (omega arith)

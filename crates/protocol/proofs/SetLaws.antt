@@ -1,7 +1,7 @@
 -- The laws of sets as numbers: who is in a union, a difference, a set with or without one; sets below 2^n; equal sets.
 use mathlib.Core.Path.{ap, ap₂, refl, subst, sym, _∙_, _≡_}
 use mathlib.Core.Bool.{_&&_, Bool, cond, false, not, true, _||_}
-use Prim.Native.Nat.{_%_, _*_, _+_, _/_, _<_, _^_, max, min, suc, zero, ℕ}
+use Prim.Native.Nat.{_%_, _*_, _+_, _/_, _<_, _≤_, _^_, max, min, suc, zero, ℕ}
 use native.Mathlib.Nat.{div-add-mod', div-eq-of-lt, div-one, le-of-suc-le-suc, lt-of-le-of-lt, mod-lt, mul-div-cancel, mul-mod-left, not-suc-le-zero, pow-suc, zero-div, zero-lt-suc}
 use native.Mathlib.Omega.{arith}
 use lib.Dec.{eqb, eqb·suc-suc, eqb·suc-zero, eqb·zero-suc}
@@ -127,6 +127,10 @@ member-below n x c h e =
     (λ l. let z : x < 2 ^ c = (let y = pow-mono l in omega arith) in
     let q : eqb (digit x c) 1 ≡ false = ap (λ (y : ℕ). eqb (y % 2) 1) (div-eq-of-lt z) in
     clash (eqb (digit x c) 1) e q)
+
+-- so none from n on is
+pub no-member : (n x c : ℕ) → x < 2 ^ n → n ≤ c → has x c ≡ false
+no-member n x c h l = by-test (has x c) (λ e. absurd (let z = member-below n x c h e in omega arith)) (λ e. e)
 
 -- SETS GIVEN BY A TEST
 

@@ -183,6 +183,19 @@ first-least (suc n) f m e k h =
     (λ t. absurd (let z : _≡_ {A = ℕ} 0 1 = cc (first-go n f none q) in omega arith)))
     (λ j q. let z : j ≡ m = cc (first-go n f (some j) q) in first-least n f j q k (omega arith))
 
+-- one that passes where none before it does is found
+pub first-is : (n : ℕ) (f : ℕ → Bool) (m : ℕ) → m < n → f m ≡ true → ((k : ℕ) → k < m → f k ≡ false) → first n f ≡ some m
+first-is n f m l e none-before =
+    by-option (first n f)
+    (λ q. clash (f m) e (first-none n f q m l))
+    (λ k q. by-lt k m
+    (λ before. clash (f k) (first-some n f k q .1) (none-before k before))
+    (λ later. by-eq k m (λ z. q ∙ ap some z) (λ z. clash (f m) e (first-least n f k q m (omega arith)))))
+
+-- where none passes, none is found
+pub first-nowhere : (n : ℕ) (f : ℕ → Bool) → ((k : ℕ) → k < n → f k ≡ false) → first n f ≡ none
+first-nowhere n f h = by-option (first n f) (λ q. q) (λ k q. let z = first-some n f k q in clash (f k) (z .1) (h k (z .0)))
+
 -- where only m passes, m is found
 pub first-only : (n : ℕ) (f : ℕ → Bool) (m : ℕ) → m < n → f m ≡ true → ((k : ℕ) → k < n → f k ≡ true → k ≡ m) → first n f ≡ some m
 first-only n f m h e only =

@@ -1,7 +1,7 @@
 -- The questions on sets, each answered by one operation on the word.
 use mathlib.Core.Path.{_≡_, refl, sym, ap, ap₂, _∙_, fun-ext}
 use mathlib.Core.Bool.{Bool, true, false, cond, not, _&&_, _||_}
-use mathlib.Core.Option.{none, some}
+use mathlib.Core.Option.{some}
 use Prim.Native.Nat.{ℕ, zero, suc, _+_, _-_, _*_, _/_, _%_, _^_, _≤_, _<_, min}
 use native.Mathlib.Nat.{pow-suc, div-one, lt-of-lt-of-le, one-mul, mod-eq-of-lt}
 use native.Mathlib.Omega.{arith}
@@ -11,9 +11,9 @@ use lib.Pow.{shr-shr, pow-pos, pow-mono, pow-lt}
 use lib.Bits.{bitAnd, and-step, and-shr, or-add-and, and-le-l, and-le-r}
 use lib.Count.{ones, ones-step, trailingZeros}
 use borrow.Author.Tests.{eq-eqb, eqb-true, ne-eqb}
-use Rattle.protocol.specs.Folds.{every, first, count}
+use Rattle.protocol.specs.Folds.{every, count}
 use Rattle.protocol.specs.CartSets.{digit, has, union, minus, without, setOf}
-use Rattle.protocol.proofs.Tests.{by-test, by-lt, by-option, clash, and-false, same-test, eqb-self, every-at, every-all, first-some}
+use Rattle.protocol.proofs.Tests.{by-test, by-lt, clash, and-false, same-test, eqb-self, every-at, every-all, first-is}
 use Rattle.protocol.proofs.SetLaws.{digit-lt, op-digit, by-digits, min-small, has-zero, has-union, has-minus, has-power, has-without, union-lt, minus-lt, without-lt, member-below, same-members, zero-below}
 use Rattle.sets.specs.Masks.{within, disjoint, least, size}
 
@@ -153,21 +153,6 @@ ones-size (suc n) x h =
 
 -- THE LEAST
 
-first-nothing : (n : ℕ) (f : ℕ → Bool) → ((k : ℕ) → k < n → f k ≡ false) → first n f ≡ none
-first-nothing n f h = by-option (first n f) (λ e. e) (λ k e. let r = first-some n f k e in clash (f k) (r .1) (h k (r .0)))
-
--- one that passes, and before which none does, is the first
-first-least : (n : ℕ) (f : ℕ → Bool) (m : ℕ) → m < n → f m ≡ true → ((k : ℕ) → k < m → f k ≡ false) → first n f ≡ some m
-unfolding first
-first-least zero f m h e before = absurd (omega arith)
-first-least (suc n) f m h e before =
-    by-lt m n
-    (λ l. let z = first-least n f m l e before in rw (z, first))
-    (λ l. let q : m ≡ n = omega arith in
-    let z = first-nothing n f (λ k d. before k (omega arith)) in
-    let y : f n ≡ true = ap f (sym q) ∙ e in
-    rw (z, first, y) (ap some (sym q)))
-
 -- the lowest set digit: it is a member, and none below it is
 pub record Lowest (n x t : ℕ) : Type 0 where
   pub inside : t < n
@@ -193,7 +178,7 @@ lowest (suc n) x h pos =
 pub trailing-least : (n x : ℕ) → x < 2 ^ n → 0 < x → least n x ≡ some (trailingZeros n x)
 unfolding least
 trailing-least n x h pos =
-    let r = lowest n x h pos in first-least n (has x) (trailingZeros n x) (r .inside) (r .member) (r .before)
+    let r = lowest n x h pos in first-is n (has x) (trailingZeros n x) (r .inside) (r .member) (r .before)
 
 -- the least of a set that is not empty is a member, and none below it is
 pub least-lowest : (n x t : ℕ) → x < 2 ^ n → 0 < x → least n x ≡ some t → Lowest n x t

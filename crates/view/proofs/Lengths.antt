@@ -2,21 +2,44 @@
 use mathlib.Core.Path.{_≡_, refl}
 use mathlib.Core.Bool.{true, _&&_}
 use mathlib.Core.List.{List}
-use Prim.Native.Nat.{ℕ, _+_, _*_, _≤_}
+use Prim.Native.Nat.{ℕ, _+_, _*_, _-_, _/_, _≤_}
+use native.Mathlib.Nat.{mul-le-mul-left}
 use native.Mathlib.Omega.{arith}
-use lib.Dec.{eqb}
+use lib.Dec.{eqb, leb}
 use lib.ListN.{length}
-use borrow.Author.Tests.{eqb-true, eq-eqb}
-use Rattle.protocol.specs.Floor.{limitsOf, mostRecords, outside}
+use borrow.Author.Tests.{eqb-true, eq-eqb, le-leb}
+use Rattle.protocol.specs.Floor.{Product, limitsOf, mostRecords, outside}
 use Rattle.protocol.specs.Blank.{BlankBeyond}
-use Rattle.protocol.proofs.Tests.{and-left, and-right, by-lt}
+use Rattle.protocol.proofs.Tests.{and-intro, and-left, and-right, by-lt}
 use Rattle.rows.proofs.RowLaws.{cell-past}
 use Rattle.carts.specs.View.{cartsIn}
 use Rattle.carts.proofs.TableLaws.{next-beyond}
+use Rattle.lines.specs.Form.{sized}
+use Rattle.lines.specs.Words.{capacity}
 use Rattle.stations.proofs.TableLaws.{sent-past, queue-past, expected-beyond, queue-beyond}
 use Rattle.view.specs.View.{Lent, lengthsIn, floorIn}
 use Rattle.view.proofs.LinesView.{line-beyond}
 use Rattle.view.proofs.Laid.{Laid}
+
+-- no product has more records than the pool has bits for
+pub few-records : (P : Product) → mostRecords (limitsOf P) ≤ 3136
+few-records P =
+    let a = P .stations-fit in
+    let b = P .carts-fit in
+    let d = P .held-fit in
+    let most : P .stations + P .stations + P .carts ≤ 96 = omega arith in
+    let x = mul-le-mul-left (P .held) most in
+    let y : P .held * 96 ≤ 3072 = omega arith in
+    omega arith
+
+-- a pool of the right length is sized
+pub pool-sized : (P : Product) (l : List ℕ) → length l ≡ 1842 + mostRecords (limitsOf P) * 3 → sized l ≡ true
+unfolding sized capacity
+pool-sized P l h =
+    let few = few-records P in
+    and-intro (eqb (length l) (1842 + (length l - 1842) / 3 * 3)) (leb ((length l - 1842) / 3) 3136)
+    (eq-eqb (length l) (1842 + (length l - 1842) / 3 * 3) (omega arith))
+    (le-leb ((length l - 1842) / 3) 3136 (omega arith))
 
 -- the lengths, one by one
 pub record Lengths (L : Lent) : Type 0 where

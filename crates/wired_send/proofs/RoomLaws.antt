@@ -1,35 +1,20 @@
 -- THE FREE ROOM: a search that passes the taken rooms one by one finds the first free one.
 use mathlib.Core.Path.{_≡_, sym, ap, _∙_}
-use mathlib.Core.Bool.{Bool, true, false}
+use mathlib.Core.Bool.{Bool, false}
 use mathlib.Core.Option.{Option, none, some}
 use mathlib.Core.List.{List}
 use Prim.Native.Nat.{ℕ, _+_, _≤_, _<_}
 use native.Mathlib.Omega.{arith}
 use lib.Dec.{eqb}
 use borrow.Author.Tests.{eq-eqb, ne-eqb}
-use Rattle.protocol.specs.Folds.{first, isNone}
+use Rattle.protocol.specs.Folds.{isNone}
 use Rattle.protocol.specs.Floor.{Limits, limitsOf}
 use Rattle.protocol.specs.Wired.{freeRoom}
-use Rattle.protocol.proofs.Tests.{by-lt, by-eq, by-option, clash, first-some, first-none, first-least}
+use Rattle.protocol.proofs.Tests.{by-lt, by-eq, by-option, first-some, first-is, first-nowhere}
 use Rattle.messages.specs.View.{roomsIn}
 use Rattle.view.specs.View.{Lent, floorIn}
 use Rattle.queue.specs.Rooms.{roomCode}
 use Rattle.wired_send.specs.Rooms.{firstFree}
-
--- FIRST
-
--- the one that passes where none before it does
-found-first : (n : ℕ) (f : ℕ → Bool) (m : ℕ) → m < n → f m ≡ true → ((k : ℕ) → k < m → f k ≡ false) → first n f ≡ some m
-found-first n f m l e none-before =
-    by-option (first n f)
-    (λ q. clash (f m) e (first-none n f q m l))
-    (λ k q. by-lt k m
-    (λ before. clash (f k) (first-some n f k q .1) (none-before k before))
-    (λ later. by-eq k m (λ z. q ∙ ap some z) (λ z. clash (f m) e (first-least n f k q m (omega arith)))))
-
--- none passes
-found-none : (n : ℕ) (f : ℕ → Bool) → ((k : ℕ) → k < n → f k ≡ false) → first n f ≡ none
-found-none n f h = by-option (first n f) (λ q. q) (λ k q. let z = first-some n f k q in clash (f k) (z .1) (h k (z .0)))
 
 -- THE SEARCH in a table of rooms
 
@@ -51,12 +36,12 @@ module _ (held : ℕ) (messages : List ℕ) (m : ℕ) where
   pub free-here : (w : ℕ) → w ≡ roomsIn messages .waiting m → w ≡ 0 → m < held → TakenTo messages m → m ≡ firstFree held messages
   unfolding firstFree
   free-here w e nobody l before =
-      sym (ap roomCode (found-first held (isFree messages) m l (eq-eqb (roomsIn messages .waiting m) 0 (sym e ∙ nobody)) before))
+      sym (ap roomCode (first-is held (isFree messages) m l (eq-eqb (roomsIn messages .waiting m) 0 (sym e ∙ nobody)) before))
 
   -- no room is
   pub free-nowhere : held ≤ m → TakenTo messages m → 32 ≡ firstFree held messages
   unfolding firstFree
-  free-nowhere g before = sym (ap roomCode (found-none held (isFree messages) (λ k h. before k (omega arith))))
+  free-nowhere g before = sym (ap roomCode (first-nowhere held (isFree messages) (λ k h. before k (omega arith))))
 
 -- so of the floor that the lent parts say
 module _ (L : Lent) (m : ℕ) (e : m ≡ firstFree (L .product .held) (L .messages)) where

@@ -8,7 +8,7 @@ use Rattle.catchup.proofs.enqueue_for.Tie as tie
 queue-of-requires : tie.Need-queue-of-requires
 queue-of-requires c κs = search needs
 
-with-member-requires : tie.Need-with-cart-requires
+with-member-requires : tie.Need-with-member-requires
 with-member-requires c κs = search needs
 
 put-queue-requires : tie.Need-put-queue-requires

@@ -35,7 +35,7 @@ returns c =
     let P = hasEntered (cartsIn (a .carts .now) .place) in
     walk-no 64 (a .set) P (l .rest) (c .before .before .first .result) (l .inv .1) (omega arith) (omega arith) (c .before .before .first .ensures) (walk-below 64 (a .set) P (l .rest) (c .before .before .first .result) (l .inv .1) (omega arith) (omega arith) (c .before .before .first .ensures)) (stays-out (c .before .is-outside .result) _ (c .before .is-outside .ensures) (c .if1 .taken))
 
-without-member-requires : tie.Need-without-cart-requires Inv-loop μ-loop
+without-member-requires : tie.Need-without-member-requires Inv-loop μ-loop
 without-member-requires c κs =
     let a = c .before .before .before .before .before .before .args in
     let l = c .before .before .before .before .loop in

@@ -3,7 +3,7 @@ use borrow.Author.Needs.{needs}
 use Rattle.form_lines.proofs.joined.Statement.{statement}
 use Rattle.form_lines.proofs.joined.Tie as tie
 
-with-member-requires : tie.Need-with-cart-requires
+with-member-requires : tie.Need-with-member-requires
 with-member-requires c κs = search needs
 
 returns : tie.Need-returns

@@ -34,7 +34,7 @@ returns-2 : tie.Need-returns-2
 unfolding fresh
 returns-2 c = λ seen. off-second (c .before .before .before .before .before .before .args .right) (ltb (c .before .before .before .before .before .before .args .number) ((c .before .before .before .before .before .before .args .way) .next) && not (has ((c .before .before .before .before .before .before .args .way) .gone) (c .before .before .before .before .before .before .args .m))) (metOf (c .before .before .before .before .before .before .args .way) seen) (aDelete (c .before .before .before .before .before .before .args .m) (c .before .before .before .before .before .before .args .number)) (metOf (c .failed2 .result) seen) (sym (c .before .before .both .ensures ∙ ap (λ (y : Bool). ltb (c .before .before .before .before .before .before .args .number) ((c .before .before .before .before .before .before .args .way) .next) && not y) (c .before .before .before .before .has .ensures)) ∙ not-true (c .before .before .both .result) (c .before .if2 .taken)) (c .failed2 .ensures seen)
 
-with-member-requires : tie.Need-with-cart-requires
+with-member-requires : tie.Need-with-member-requires
 with-member-requires c κs = omega (arith, c .before .before .before .before .before .pre (not-false (c .before .before .before .before .before .args .right) (c .before .before .before .before .if1 .left)))
 
 returns-3 : tie.Need-returns-3

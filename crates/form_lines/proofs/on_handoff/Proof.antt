@@ -30,7 +30,7 @@ returns-2 : tie.Need-returns-2
 unfolding fresh
 returns-2 c = λ seen. off-second (c .before .before .before .before .args .right) (not (has ((c .before .before .before .before .args .way) .found) (c .before .before .before .before .args .cart))) (metOf (c .before .before .before .before .args .way) seen) (aDeregister (c .before .before .before .before .args .cart)) (metOf (c .failed2 .result) seen) (ap not (sym (c .before .before .has .ensures) ∙ c .before .if2 .taken)) (c .failed2 .ensures seen)
 
-with-member-requires : tie.Need-with-cart-requires
+with-member-requires : tie.Need-with-member-requires
 with-member-requires c κs = omega (arith, c .before .before .before .pre (not-false (c .before .before .before .args .right) (c .before .before .if1 .left)))
 
 returns-3 : tie.Need-returns-3

@@ -21,13 +21,13 @@ loop-holds c = (omega arith, refl, locals-none (cartsIn (c .before .args .carts 
 home-of-requires : tie.Need-home-of-requires Inv-loop μ-loop
 home-of-requires c κs = omega arith
 
-mul-with-cart : tie.Need-mul-with-cart Inv-loop μ-loop
-mul-with-cart c = omega arith
+mul-with-member : tie.Need-mul-with-member Inv-loop μ-loop
+mul-with-member c = omega arith
 
-array-read-with-cart : tie.Need-array-read-with-cart Inv-loop μ-loop
-array-read-with-cart c = omega arith
+array-read-with-member : tie.Need-array-read-with-member Inv-loop μ-loop
+array-read-with-member c = omega arith
 
-with-member-requires : tie.Need-with-cart-requires Inv-loop μ-loop
+with-member-requires : tie.Need-with-member-requires Inv-loop μ-loop
 with-member-requires c κs = omega arith
 
 mul-locals : tie.Need-mul-locals Inv-loop μ-loop
@@ -70,8 +70,8 @@ locals-of-spec =
     μ-loop
     loop-holds
     home-of-requires
-    mul-with-cart
-    array-read-with-cart
+    mul-with-member
+    array-read-with-member
     with-member-requires
     mul-locals
     array-write-locals

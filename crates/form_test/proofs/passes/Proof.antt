@@ -4,17 +4,17 @@ use mathlib.Core.List.{List}
 use Prim.Native.Nat.{ℕ}
 use native.Mathlib.Omega.{arith}
 use borrow.Author.Tests.{not-true, not-false}
-use Rattle.protocol.specs.Floor.{Product, limitsOf, mostRecords}
+use Rattle.protocol.specs.Floor.{Product, limitsOf}
 use Rattle.protocol.specs.Claims.{test}
 use Rattle.view.specs.View.{Lent, lent}
-use Rattle.view.proofs.Lengths.{Lengths}
+use Rattle.view.proofs.Lengths.{Lengths, pool-sized}
 use Rattle.form_tables.specs.Tables.{tablesRule}
 use Rattle.form_tables.proofs.Answers.{passed}
 use Rattle.products.specs.declared.Bounds.{Bounds}
 use Rattle.products.specs.Numbers.{NumbersOf}
 use Rattle.products.proofs.Numbers.{productOf, its-numbers}
-use Rattle.form_test.proofs.Lengths.{few-records, right-lengths}
-use Rattle.form_test.proofs.Split.{pool-sized, fails-lengths, fails-tables, rests-on-lines}
+use Rattle.form_test.proofs.Lengths.{right-lengths}
+use Rattle.form_test.proofs.Split.{fails-lengths, fails-tables, rests-on-lines}
 use Rattle.form_test.proofs.passes.Statement.{statement}
 use Rattle.form_test.proofs.passes.Tie as tie
 
@@ -59,7 +59,6 @@ lines-pass-requires c κs =
     let L : Lent = lent P (a .stations .now) (a .carts .now) (a .messages .now) (a .lines .now) (a .texts .now) in
     let h : Lengths L = right-lengths L (t .result) (t .ensures P (its-numbers (a .bounds) f)) (not-false _ (c .before .before .if1 .left)) in
     let counts = passed (tablesRule (limitsOf P) (a .bounds .stations) (a .bounds .carts) (a .bounds .held) (a .stations .now) (a .carts .now) (a .messages .now)) (s .result) (s .ensures (limitsOf P) refl) (not-false _ (c .if2 .left)) .0 in
-    let few = few-records (a .bounds) f in
     let b = f .few-carts in
     let on = counts .1 .1 .1 in
     let rows = h .carts in (
@@ -69,7 +68,7 @@ lines-pass-requires c κs =
       omega arith,
       omega arith,
       record { rows = a .bounds .held; few = f .few-held; words = h .messages },
-      pool-sized (a .lines .now) (mostRecords (limitsOf P)) (h .lines) (omega arith),
+      pool-sized P (a .lines .now) (h .lines),
     )
 
 returns-3 : tie.Need-returns-3

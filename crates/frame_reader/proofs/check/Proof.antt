@@ -51,9 +51,10 @@ use borrow.Author.Tests.{lt-ltb, le-ltb}
 use Rattle.protocol.specs.Floor.{limits}
 use Rattle.protocol.specs.Frames.{readAt, movedTo}
 use Rattle.protocol.proofs.Tests.{by-lt}
+use Rattle.frames.specs.Decoded.{refusalNumber}
 use Rattle.frame_reader.specs.declared.Reader.{Reader}
 use Rattle.frame_reader.specs.declared.Checked.{Checked}
-use Rattle.frame_reader.specs.Checks.{refusalNumber, checkIn, checked}
+use Rattle.frame_reader.specs.Checks.{checkIn, checked}
 use Rattle.frame_reader.proofs.Stream.{Stand, next, next-inside, further, no-further}
 use Rattle.frame_reader.proofs.Stream.{first as first-stand}
 use Rattle.frame_reader.proofs.Reader as T
@@ -360,6 +361,6 @@ check-spec 𝓤 H 𝓜 𝓖 𝓡 =
     entered 𝓤 H (tripleOf 𝓤 H (𝓖 .A) check.signature (check.spec 𝓤 H (𝓖 .A) (𝓜 .mem) (𝓡 .run)))
     (tables 𝓤 H 𝓜 𝓡 code.env .C) (tables 𝓤 H 𝓜 𝓡 code.env .Λ) #reader·check code.function (code.unfolded 𝓤 H 𝓜 𝓡)
     (check-meets 𝓤 H (𝓖 .A) (givenOf 𝓤 H 𝓜 𝓖) (𝓜 .mem) (𝓡 .run) (tablesOf 𝓤 H 𝓜 (tables 𝓤 H 𝓜 𝓡 code.env))
-    (cited 𝓤 H (New 𝓤 H (𝓖 .A) (𝓜 .mem) (𝓡 .run)) 𝓜 𝓡 code.env #reader·new new-def.routine code.calls-reader·Reader·new (new-thm.met 𝓤 H 𝓜 𝓖 𝓡))
-    (cited 𝓤 H (Moved 𝓤 H (𝓖 .A) (𝓜 .mem) (𝓡 .run)) 𝓜 𝓡 code.env #reader·moved moved-def.routine code.calls-reader·Reader·moved (moved-thm.met 𝓤 H 𝓜 𝓖 𝓡))
-    (cited 𝓤 H (Refusal 𝓤 H (𝓖 .A) (𝓜 .mem) (𝓡 .run)) 𝓜 𝓡 code.env #reader·refusal refusal-def.routine code.calls-reader·Reader·refusal (refusal-thm.met 𝓤 H 𝓜 𝓖 𝓡)))
+    (cited 𝓤 H (New 𝓤 H (𝓖 .A) (𝓜 .mem) (𝓡 .run)) 𝓜 𝓡 code.env #reader·new new-def.routine code.calls-frame-reader·Reader·new (new-thm.met 𝓤 H 𝓜 𝓖 𝓡))
+    (cited 𝓤 H (Moved 𝓤 H (𝓖 .A) (𝓜 .mem) (𝓡 .run)) 𝓜 𝓡 code.env #reader·moved moved-def.routine code.calls-frame-reader·Reader·moved (moved-thm.met 𝓤 H 𝓜 𝓖 𝓡))
+    (cited 𝓤 H (Refusal 𝓤 H (𝓖 .A) (𝓜 .mem) (𝓡 .run)) 𝓜 𝓡 code.env #reader·refusal refusal-def.routine code.calls-frame-reader·Reader·refusal (refusal-thm.met 𝓤 H 𝓜 𝓖 𝓡)))

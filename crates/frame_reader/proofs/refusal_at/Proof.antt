@@ -1,6 +1,7 @@
 -- `frame_reader::refusal_at` meets its contract.
 use mathlib.Core.Path.{_∙_}
-use Rattle.frame_reader.proofs.Values.{same-number, event-number}
+use Rattle.frames.proofs.Values.{same-number}
+use Rattle.frame_reader.proofs.Values.{event-number}
 use borrow.Author.Needs.{needs}
 use Rattle.frame_reader.proofs.refusal_at.Statement.{statement}
 use Rattle.frame_reader.proofs.refusal_at.Tie as tie

@@ -12,7 +12,7 @@ enqueue-all-requires c κs = search needs
 local-of-requires : tie.Need-local-of-requires
 local-of-requires c κs = search needs
 
-with-member-requires : tie.Need-with-cart-requires
+with-member-requires : tie.Need-with-member-requires
 with-member-requires c κs = search needs
 
 put-local-requires : tie.Need-put-local-requires

@@ -12,7 +12,7 @@ unqueue-requires c κs = search needs
 local-of-requires : tie.Need-local-of-requires
 local-of-requires c κs = search needs
 
-without-member-requires : tie.Need-without-cart-requires
+without-member-requires : tie.Need-without-member-requires
 without-member-requires c κs = search needs
 
 put-local-requires : tie.Need-put-local-requires

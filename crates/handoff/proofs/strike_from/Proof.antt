@@ -29,7 +29,7 @@ returns c =
 copy-of-requires : tie.Need-copy-of-requires
 copy-of-requires c κs = search needs
 
-without-member-requires : tie.Need-without-cart-requires
+without-member-requires : tie.Need-without-member-requires
 without-member-requires c κs = search needs
 
 put-copy-requires : tie.Need-put-copy-requires
@@ -38,8 +38,8 @@ put-copy-requires c κs = search needs
 same-length-2 : tie.Need-same-length-2
 same-length-2 c = search needs
 
-without-cart-requires-2 : tie.Need-without-cart-requires-2
-without-cart-requires-2 c κs = search needs
+without-member-requires-2 : tie.Need-without-member-requires-2
+without-member-requires-2 c κs = search needs
 
 returns-2 : tie.Need-returns-2
 returns-2 c =
@@ -56,7 +56,7 @@ returns-2 c =
           (not-false _ (e .if1 .left)) (k .copy-of .ensures) (w .ensures) (put .0),
       (
         put .1 .0,
-        (put .1 .1, struck-covers S (a .station .0) (a .cart .0) (a .m) (a .naming) (w .result) _ (s .pre .1 .1) (w .ensures ∙ ap (λ (x : ℕ). without x (a .cart .0)) (k .copy-of .ensures)) (put .0) (c .without-cart2 .ensures)),
+        (put .1 .1, struck-covers S (a .station .0) (a .cart .0) (a .m) (a .naming) (w .result) _ (s .pre .1 .1) (w .ensures ∙ ap (λ (x : ℕ). without x (a .cart .0)) (k .copy-of .ensures)) (put .0) (c .without-member2 .ensures)),
       ),
     )
 
@@ -70,6 +70,6 @@ strike-from-spec =
     copy-of-requires
     without-member-requires
     put-copy-requires
-    without-cart-requires-2
+    without-member-requires-2
     same-length-2
     returns-2)

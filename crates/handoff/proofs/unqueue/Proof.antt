@@ -53,7 +53,7 @@ queue-of-requires c κs =
     let i = ahead-inside 32 (entriesIn (a .stations .now) (a .station .0)) (l .left) (l .inv .0) (f .result) (l .inv .1) (omega arith) (f .ensures) in
     search needs
 
-without-member-requires : tie.Need-without-cart-requires Inv-loop μ-loop
+without-member-requires : tie.Need-without-member-requires Inv-loop μ-loop
 without-member-requires c κs = search needs
 
 put-queue-requires : tie.Need-put-queue-requires Inv-loop μ-loop

@@ -6,7 +6,7 @@ use Rattle.protocol.specs.CartSets.{with}
 use Rattle.sets.proofs.with_if.Statement.{statement}
 use Rattle.sets.proofs.with_if.Tie as tie
 
-with-member-requires : tie.Need-with-cart-requires
+with-member-requires : tie.Need-with-member-requires
 with-member-requires c κs = search needs
 
 returns : tie.Need-returns

@@ -4,10 +4,10 @@ use borrow.Author.Tests.{eq-eqb, ne-eqb}
 use Rattle.stations.proofs.counted_with.Statement.{statement}
 use Rattle.stations.proofs.counted_with.Tie as tie
 
-without-member-requires : tie.Need-without-cart-requires
+without-member-requires : tie.Need-without-member-requires
 without-member-requires c κs = search needs
 
-with-member-requires : tie.Need-with-cart-requires
+with-member-requires : tie.Need-with-member-requires
 with-member-requires c κs = search needs
 
 returns : tie.Need-returns

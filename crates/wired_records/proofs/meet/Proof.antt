@@ -117,7 +117,7 @@ loop-again c =
           (n .ensures) equal (h .ensures) (b .ensures) refl (l .passed) (hand .below) (i .counts);
     }
 
-with-member-requires : tie.Need-with-cart-requires Inv-loop μ-loop
+with-member-requires : tie.Need-with-member-requires Inv-loop μ-loop
 with-member-requires c κs =
     let hand = at-hand (c .before .before .before .before .before .before .before .before .args .local) (c .before .before .before .before .before .before .loop .left) (c .before .before .before .before .first .result) (c .before .before .before .before .before .before .loop .inv .rest) (omega arith) (c .before .before .before .before .first .ensures) in
     hand .below

@@ -11,7 +11,7 @@ index-of-requires c κs = search needs
 waiting-of-requires : tie.Need-waiting-of-requires
 waiting-of-requires c κs = search needs
 
-without-member-requires : tie.Need-without-cart-requires
+without-member-requires : tie.Need-without-member-requires
 without-member-requires c κs = search needs
 
 put-waiting-requires : tie.Need-put-waiting-requires

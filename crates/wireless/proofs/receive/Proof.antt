@@ -10,7 +10,7 @@ use Rattle.wireless.proofs.receive.Tie as tie
 queue-of-requires : tie.Need-queue-of-requires
 queue-of-requires c κs = search needs
 
-without-member-requires : tie.Need-without-cart-requires
+without-member-requires : tie.Need-without-member-requires
 without-member-requires c κs = search needs
 
 put-queue-requires : tie.Need-put-queue-requires
@@ -19,7 +19,7 @@ put-queue-requires c κs = search needs
 acks-of-requires : tie.Need-acks-of-requires
 acks-of-requires c κs = search needs
 
-with-member-requires : tie.Need-with-cart-requires
+with-member-requires : tie.Need-with-member-requires
 with-member-requires c κs = search needs
 
 put-acks-requires : tie.Need-put-acks-requires

@@ -44,7 +44,7 @@ use denote.Exit.{yes}
 use denote.Triple.Clauses.{ensured, lasts}
 use Rattle.protocol.specs.Floor.{limits}
 use Rattle.protocol.specs.Frames.{readAt}
-use Rattle.frame_reader.specs.Checks.{refusalNumber}
+use Rattle.frames.specs.Decoded.{refusalNumber}
 use Rattle.frame_reader.specs.declared.Reader.{Reader}
 use Rattle.frame_reader.proofs.Reader as T
 use Rattle.frame_reader.proofs.Reader.Laws as T′
@@ -162,4 +162,4 @@ refusal-spec 𝓤 H 𝓜 𝓖 𝓡 =
     entered 𝓤 H (tripleOf 𝓤 H (𝓖 .A) refusal.signature (refusal.spec 𝓤 H (𝓖 .A) (𝓜 .mem) (𝓡 .run)))
     (tables 𝓤 H 𝓜 𝓡 code.env .C) (tables 𝓤 H 𝓜 𝓡 code.env .Λ) #reader·refusal code.function (code.unfolded 𝓤 H 𝓜 𝓡)
     (refusal-meets 𝓤 H (𝓖 .A) (givenOf 𝓤 H 𝓜 𝓖) (𝓜 .mem) (𝓡 .run) (tablesOf 𝓤 H 𝓜 (tables 𝓤 H 𝓜 𝓡 code.env))
-    (cited 𝓤 H (RefusalAt 𝓤 H (𝓖 .A) (𝓜 .mem) (𝓡 .run)) 𝓜 𝓡 code.env #reader·refusal-at refusal-def.routine code.calls-reader·refusal-at (refusal-thm.met 𝓤 H 𝓜 𝓖 𝓡)))
+    (cited 𝓤 H (RefusalAt 𝓤 H (𝓖 .A) (𝓜 .mem) (𝓡 .run)) 𝓜 𝓡 code.env #reader·refusal-at refusal-def.routine code.calls-frame-reader·refusal-at (refusal-thm.met 𝓤 H 𝓜 𝓖 𝓡)))

@@ -1,7 +1,7 @@
--- `frame_reader::refusal` meets its contract: the end and an event have no number.
+-- `frames::refusal` meets its contract: the end and an event have no number.
 use borrow.Author.Needs.{needs}
-use Rattle.frame_reader.proofs.refusal.Statement.{statement}
-use Rattle.frame_reader.proofs.refusal.Tie as tie
+use Rattle.frames.proofs.refusal.Statement.{statement}
+use Rattle.frames.proofs.refusal.Tie as tie
 
 enum-told : tie.Need-enum-told
 enum-told c = search needs
