@@ -1,0 +1,6 @@
+pub mod Gcd
+pub mod Joins
+pub mod Sums
+pub mod Ratios
+pub mod Theorems
+pub mod Examples

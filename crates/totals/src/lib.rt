@@ -1,0 +1,78 @@
+// PASSED OVER PER RECEIPT: "how many numbers a cart passes over for each correction it receives, over all sites". Finished runs come as a
+// list of cart results, a site's list is summed into two totals, totals of several sites are joined, and their ratio is what is asked for.
+// This is no part of the floor: nothing here reads one. What each answer is, is written in specs/Totals.
+ghost use mathlib.Core.Path.{_≡_};
+ghost use Rattle.totals.specs.Totals.{joined, gcd, ratioOf};
+
+// "cart results, each with cart, received and passed, both at most 4,294,967,295". The cart is not looked at.
+#[repr(C)]
+pub struct CartResult {
+    pub cart: u32,
+    pub received: u32,
+    pub passed: u32,
+}
+
+// "totals as counted": how many corrections were received, and how many numbers passed over.
+pub struct Tally {
+    pub received: u64,
+    pub passed: u64,
+}
+
+// What a sum or a join answers: the number of a refusal, or the totals.
+pub enum Outcome {
+    Refused(u64),
+    Of(Tally),
+}
+
+// "total passed over total received, in lowest terms, or none where nothing was received".
+pub enum Fraction {
+    None,
+    Over(u64, u64),
+}
+
+const MOST_TOTAL: u64 = 18446744073709551615;
+
+// Two sites' totals joined, or "23 a join whose total exceeds 64 bits".
+pub fn join(a: Tally, b: Tally) -> Outcome
+    ensures { λ r. ⌜ r ≡ joined a b ⌝ }
+{
+    let received = a.received;
+    let passed = a.passed;
+    if MOST_TOTAL - received < b.received {
+        return Outcome::Refused(23);
+    }
+    if MOST_TOTAL - passed < b.passed {
+        return Outcome::Refused(23);
+    }
+    Outcome::Of(Tally {
+        received: received + b.received,
+        passed: passed + b.passed,
+    })
+}
+
+// The greatest common divisor, by remainders.
+fn common_divisor(a: u64, b: u64) -> u64
+    ensures { λ r. ⌜ r ≡ gcd a b ⌝ }
+{
+    let mut x = a;
+    let mut y = b;
+    while y != 0 {
+        let rest = x % y;
+        x = y;
+        y = rest;
+    }
+    x
+}
+
+// The ratio of the totals.
+pub fn ratio(totals: Tally) -> Fraction
+    ensures { λ r. ⌜ r ≡ ratioOf totals ⌝ }
+{
+    let received = totals.received;
+    let passed = totals.passed;
+    if received == 0 {
+        return Fraction::None;
+    }
+    let divisor = common_divisor(passed, received);
+    Fraction::Over(passed / divisor, received / divisor)
+}
