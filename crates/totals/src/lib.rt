@@ -2,7 +2,10 @@
 // list of cart results, a site's list is summed into two totals, totals of several sites are joined, and their ratio is what is asked for.
 // This is no part of the floor: nothing here reads one. What each answer is, is written in specs/Totals.
 ghost use mathlib.Core.Path.{_≡_};
-ghost use Rattle.totals.specs.Totals.{joined, gcd, ratioOf};
+ghost use mathlib.Core.Bool.{cond};
+ghost use Prim.Native.Nat.{_+_, _≤_};
+ghost use lib.Dec.{ltb};
+ghost use Rattle.totals.specs.Totals.{added, counted, mostCounted, mostResults, mostTotal, totalsOf, joined, gcd, ratioOf};
 
 // "cart results, each with cart, received and passed, both at most 4,294,967,295". The cart is not looked at.
 #[repr(C)]
@@ -30,7 +33,61 @@ pub enum Fraction {
     Over(u64, u64),
 }
 
+const MOST_RESULTS: usize = 4096;
+
 const MOST_TOTAL: u64 = 18446744073709551615;
+
+// How many results of a list are added: none of one that is too long.
+fn results_taken(count: usize) -> usize
+    ensures { λ r. ⌜ r ≡ cond (ltb mostResults count) 0 count ⌝ }
+{
+    if MOST_RESULTS < count {
+        return 0;
+    }
+    count
+}
+
+// The totals with one result more.
+fn add_result(totals: Tally, result: CartResult) -> Tally
+    requires { ⌜ (totals .received + mostCounted ≤ mostTotal) × (totals .passed + mostCounted ≤ mostTotal) ⌝ }
+    ensures { λ r. ⌜ r ≡ added totals (counted result) ⌝ }
+{
+    let received = result.received as u64;
+    let passed = result.passed as u64;
+    Tally {
+        received: totals.received + received,
+        passed: totals.passed + passed,
+    }
+}
+
+// What is answered of a list of so many results, whose totals are these.
+fn sum_answer(count: usize, totals: Tally) -> Outcome
+    ensures { λ r. ⌜ r ≡ cond (ltb mostResults count) (Outcome.Refused 22) (Outcome.Of totals) ⌝ }
+{
+    if MOST_RESULTS < count {
+        return Outcome::Refused(22);
+    }
+    Outcome::Of(totals)
+}
+
+// The totals of a lent list, or "22 a list longer than 4,096, before any adding". A slice of structs is outside what the borrow checker
+// covers, so this is all that is done over one: each element is handed to `add_result`.
+pub fn sum(results: &[CartResult]) -> Outcome
+    ensures { λ r. ⌜ r ≡ totalsOf (now (results .entry)) ⌝ }
+{
+    let count = results.len();
+    let taken = results_taken(count);
+    let mut totals = Tally {
+        received: 0,
+        passed: 0,
+    };
+    let mut i = 0;
+    while i < taken {
+        totals = add_result(totals, results[i]);
+        i = i + 1;
+    }
+    sum_answer(count, totals)
+}
 
 // Two sites' totals joined, or "23 a join whose total exceeds 64 bits".
 pub fn join(a: Tally, b: Tally) -> Outcome
