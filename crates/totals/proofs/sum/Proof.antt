@@ -1,10 +1,9 @@
--- `totals::sum` meets its contract: a walk of its MIR, by hand, since the borrow checker covers no slice of structs. The borrow is looked into
--- once, before the loop, and shut after it. Of the three functions that it calls the proof knows their contracts alone.
---     Results, Totals, Answer    the rows of the three types
---     Taken, Adds, Answers       the contracts that are cited, with what each is passed (`to-`) and that it can be called (`goes-`)
---     State, Held     the loop's invariant: i results are counted, and their totals are t, which lie in memory as u
---     goes-on, leaves    a turn that counts one result, and the turn that leaves the loop, with the rest of the body
--- What is claimed of totals on the way is in proofs/Sums.
+-- `totals::sum` meets its contract: a walk of its MIR, by hand, since the borrow checker covers no slice of structs. Of the three functions that
+-- it calls the proof knows their contracts alone, and what it claims of totals on the way is in proofs/Sums.
+--     Taken, Adds, Answers     the three contracts; for each, what the call is passed (`to-`), that it may be made (`goes-`) and what it says (`-said`)
+--     State, Held, Nearer      the loop's invariant, as facts and as what is held in memory, and the order in which it falls
+--     goes-on, leaves          a turn that counts one result; the turn that leaves the loop, with the rest of the body
+--     walk                     the body up to the loop. The borrow is looked into once, before the loop, and shut in `leaves`
 use mathlib.Core.Path.{_≡_, ap, refl, sym, _∙_}
 use mathlib.Core.Bool.{Bool, true, false, cond}
 use mathlib.Core.List.{List, [], _∷_}
@@ -93,7 +92,7 @@ word = tyInt w64
 abbrev slice : Ty
 slice = sliceTy (tyRef (named 0) imm (pointee (R.the-row .written)))
 
--- what is asked where a list has no such element
+-- what stands for an element that a list does not have
 abbrev none : CartResult
 none = record { cart = 0; received = 0; passed = 0 }
 
@@ -201,6 +200,7 @@ module _ {M : Type 1} (𝓤 : URA M) (H : Heap 𝓤) (A : Atoms 𝓤) (W : Given
     Nearer-wf : WellFounded Nearer
     Nearer-wf = InvImage·wf (λ (s : State). k - s .i) (Nat·lt-wfRel .wf)
 
+    -- the elements of results; the locals from the last to the first, each with that it dies; the open borrow; what results owns
     abbrev Held : State → List (Item 𝓤)
     Held s = ‵ (row R.the-row q′ ys b o) ∷ ‵ (froom R′.mir l₉ 0) ∷ ‵ (fdies R′.mir l₉) ∷ ‵ (froom tyPtr l₈ 0) ∷ ‵ (fdies tyPtr l₈) ∷ ‵ (froom word l₇ 0) ∷ ‵ (fdies word l₇) ∷ ‵ (froom tyBool l₆ 0) ∷ ‵ (fdies tyBool l₆)
         ∷ ‵ (fat fullShare word l₅ 0 (vint w64 (s .i))) ∷ ‵ (fdies word l₅) ∷ ‵ (fat fullShare T′.mir l₄ 0 (s .u)) ∷ ‵ (fdies T′.mir l₄) ∷ ‵ (fat fullShare word l₃ 0 (vint w64 k)) ∷ ‵ (fdies word l₃)
@@ -217,6 +217,7 @@ module _ {M : Type 1} (𝓤 : URA M) (H : Heap 𝓤) (A : Atoms 𝓤) (W : Given
         assigns ! (bin ! (load ! (from ! (stop !)) (look ! 9 refl)) (load ! (from ! (stop !)) (look ! 13 refl)) tt) (from ! (stop !)) (init ! 7 refl (tt, tt)) $
         rewrite ! 7 (λ (y : Bool). ‵ (fat fullShare tyBool l₆ 0 (vbool y))) e refl $
         leaves-loop ! (load ! (from ! (stop !)) (look ! 7 refl)) $ exec ! C Λ En body.t-6 (atRet En Post) $
+        -- the borrow is shut, and its token is back
         move ! (0 ∷ 21 ∷ []) $ shuts-slice ! tt R.the-row q′ ys b o $
         -- [the token; _9; …; _1; …; room for _0; …; what results owns]
         use0 W (raw (Answers 𝓤 H A mem run .pre (to-answer (s .t) (s .u)))) (goes-answer (s .t) (s .u) (s .is)) $
@@ -246,7 +247,7 @@ module _ {M : Type 1} (𝓤 : URA M) (H : Heap 𝓤) (A : Atoms 𝓤) (W : Given
         assigns ! (bin ! (load ! (from ! (fld ! refl (stop !))) (look-in ! 17 (sub ! 0 refl (whole !)))) (load ! (from ! (stop !)) (look ! 5 refl)) tt) (from ! (stop !)) (init ! 3 refl (tt, tt)) $
         rewrite ! 3 (λ (p : ℕ). ‵ (fat fullShare tyPtr l₈ 0 (vptr b p))) (sym (place-is 12 o (s .i))) refl $
         elem-out ! R.the-row (Is R.the-row) (shows 𝓤 H A R.the-row) (LL.vals R.the-type R′.the-laws) (LL.tells R.the-type R′.the-laws) q′ ys (s .i) none b o inside (λ is-r.
-        -- [results[i]; what it owns; the others; room for _9; …; _8; …]
+        -- [results[i]; what it owns; the other elements; room for _9; …; _8; …]: it is copied, and put back
         assigns ! (of-opd ! (load ! (from ! (hop ! (look ! 5 refl) (stop !))) (look-raw ! 0 refl))) (from ! (stop !)) (init ! 3 refl (LL.lawful R.the-type R′.the-laws 𝓤 H A W .typed r _ is-r .0)) $
         elem-back ! R.the-row q′ ys (s .i) none (R′.lowered r ∷ []) b o inside $
         use0 W (raw (Adds 𝓤 H A mem run .pre (to-add (s .t) (s .u) r))) (goes-add (s .t) (s .u) r (s .is) is-r (room-for-one ys (s .i) (s .t) (s .walked) few)) $
