@@ -42,9 +42,20 @@ sum-fits l h n =
     let a = sum-bounded l h in let p = a .0 in let q = a .1 in
     fits (sumOf l) (omega arith) (omega arith)
 
-short-list : (l : List CartResult) → length l ≤ mostResults → totalsOf l ≡ Of (sumOf l)
+-- the test for a list that is too long
+pub if-long : {X : Type 0} (n : ℕ) (x y : X) → mostResults < n → x ≡ cond (ltb mostResults n) x y
+if-long n x y h = rw (lt-ltb mostResults n h)
+
+pub if-short : {X : Type 0} (n : ℕ) (x y : X) → n ≤ mostResults → y ≡ cond (ltb mostResults n) x y
+if-short n x y h = rw (le-ltb mostResults n h)
+
+pub long-list : (l : List CartResult) → mostResults < length l → totalsOf l ≡ Refused 22
 unfolding totalsOf
-short-list l n = rw (le-ltb mostResults (length l) n)
+long-list l n = sym (if-long (length l) (Refused 22) (Of (sumOf l)) n)
+
+pub short-list : (l : List CartResult) → length l ≤ mostResults → totalsOf l ≡ Of (sumOf l)
+unfolding totalsOf
+short-list l n = sym (if-short (length l) (Refused 22) (Of (sumOf l)) n)
 
 pub answers-join : (l k : List CartResult) → InRange l → InRange k → length (l ++ k) ≤ mostResults → totalsOf (l ++ k) ≡ joinedIfBoth (totalsOf l) (totalsOf k)
 answers-join l k hl hk n =
@@ -84,13 +95,6 @@ walk-goes-on l i A B d w h r p e =
 -- while fewer than 4,096 are counted there is room for one more
 pub room-for-one : (l : List CartResult) (i : ℕ) (A : Tally) → Walked l i A → i < mostResults → (A .received + mostCounted ≤ mostTotal) × (A .passed + mostCounted ≤ mostTotal)
 room-for-one l i A w h = let wr = w .received in let wp = w .passed in (omega arith, omega arith)
-
--- what the code tests
-pub if-long : {X : Type 0} (n : ℕ) (x y : X) → mostResults < n → x ≡ cond (ltb mostResults n) x y
-if-long n x y h = rw (lt-ltb mostResults n h)
-
-pub if-short : {X : Type 0} (n : ℕ) (x y : X) → n ≤ mostResults → y ≡ cond (ltb mostResults n) x y
-if-short n x y h = rw (le-ltb mostResults n h)
 
 take-all : (l : List CartResult) → take (length l) l ≡ l
 take-all [] = refl

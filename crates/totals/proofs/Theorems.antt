@@ -11,8 +11,12 @@ use Rattle.totals.specs.declared.Outcome.the-variants.{Refused, Of}
 use Rattle.totals.specs.declared.Fraction.the-variants.{None, Over}
 use Rattle.totals.specs.Totals.{InRange, added, joined, joinedIfBoth, mostResults, nothing, ratioOf, sumOf, tooLarge, totalsOf}
 use Rattle.totals.proofs.Joins.{join-fits, join-too-large, join-with-nothing, joins-associate, joins-commute}
-use Rattle.totals.proofs.Sums.{answers-join, lists-join, sum-fits}
+use Rattle.totals.proofs.Sums.{answers-join, lists-join, long-list, short-list, sum-fits}
 use Rattle.totals.proofs.Ratios.{coprime, fraction-of, none-received, nothing-received, over-some, same-ratio}
+
+-- "22 a list longer than 4,096", and no other
+pub summed-or-22 : (l : List CartResult) → (length l ≤ mostResults → totalsOf l ≡ Of (sumOf l)) × (mostResults < length l → totalsOf l ≡ Refused 22)
+summed-or-22 l = (short-list l, long-list l)
 
 -- "Site results are joined by their totals as counted, never by the reduced fractions. [..] 23 a join whose total exceeds 64 bits", and no other
 pub joined-as-counted : (A B : Tally) → (tooLarge (added A B) ≡ false → joined A B ≡ Of (added A B)) × (tooLarge (added A B) ≡ true → joined A B ≡ Refused 23)
