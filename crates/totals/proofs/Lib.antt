@@ -3,4 +3,3 @@ pub mod Joins
 pub mod Sums
 pub mod Ratios
 pub mod Theorems
-pub mod Examples
