@@ -3,7 +3,7 @@ use mathlib.Core.Path.{_≡_, refl, sym, ap, ap₂, _∙_, subst}
 use mathlib.Core.Bool.{Bool, true, false, not, cond, _&&_, _||_}
 use mathlib.Core.List.{List, [], _∷_, _++_}
 use Prim.{tt}
-use Prim.Native.Nat.{ℕ, _*_, suc, _+_, _-_, _≤_}
+use Prim.Native.Nat.{_<_, ℕ, _*_, suc, _+_, _-_, _≤_}
 use native.Mathlib.Omega.{arith}
 use lib.Dec.{eqb}
 use lib.ListN.{length, drop, length-append}
@@ -17,6 +17,7 @@ use Rattle.protocol.specs.Events as events
 use Rattle.protocol.specs.Step.{step, answer}
 use Rattle.protocol.specs.Frames.{Fields, Reading, end, refusedFrame, taken, fieldsOf, fieldsRefusal, readAt}
 use Rattle.protocol.specs.Printed.{lineOf}
+use Rattle.messages.specs.Texts.{HasText}
 use Rattle.view.specs.View.{Lent, floorIn}
 use Rattle.view.proofs.Lengths.{lengths-of}
 use Rattle.frame_lines.specs.Lines.{written, Wrote, longestLine, longestRefusal, lineRoom}
@@ -37,8 +38,9 @@ use Rattle.frame_run.specs.Went.{InRun, NoneWhole, EndsRun, Took, Turned
 use Rattle.frame_run.proofs.Pieces.{more, onward, one-more}
 use Rattle.frame_run.proofs.Events.{goes-on}
 
-pub texts-long : (L : Lent) → Ready L → length (L .texts) ≡ 1024
-texts-long L R = lengths-of L (R .lengths) .texts ∙ ap (λ (P : Product). P .held * 32) (R .whole)
+-- there is a part of the texts for each room
+pub text-there : (L : Lent) → Ready L → (m : ℕ) → m < 32 → HasText (L .texts) m
+text-there L R m h = let e = lengths-of L (R .lengths) .texts ∙ ap (λ (P : Product). P .held * 32) (R .whole) in omega arith
 
 -- the event that happened and the line that was printed
 pub took : (index : ℕ) (L L′ : Lent) (out out′ : List ℕ) (p r : Progress) (e : events.Event) (size : ℕ) (a : events.Answer)

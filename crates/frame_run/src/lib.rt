@@ -17,6 +17,7 @@ ghost use Rattle.protocol.specs.Floor.{wholeFloor};
 ghost use Rattle.protocol.specs.Events.{enter, send, wire, radio, move, refused};
 ghost use Rattle.protocol.specs.Printed.{decimal, restOf, lineOf};
 ghost use Rattle.stations.specs.View.{HasHead, headIn};
+ghost use Rattle.messages.specs.Texts.{HasText};
 ghost use Rattle.view.specs.View.{lent};
 ghost use Rattle.event_answers.specs.Answers.{answerIn};
 ghost use Rattle.event_answers.specs.Met.{Met};
@@ -279,7 +280,7 @@ fn happen(
 // The rest of the line of what an event came to, behind its index. All the room of its text is lent, so that no loop runs as often as the text is
 // long.
 fn print(out: &mut [u8], texts: &[u8], at: usize, numbers: &[u64], told: Told) -> usize
-    requires { ⌜ (at + restRoom ≤ length (now out)) × (length (now texts) ≡ 1024) × Tabled (now numbers) × Within told ⌝ }
+    requires { ⌜ (at + restRoom ≤ length (now out)) × HasText (now texts) (told .room) × Tabled (now numbers) × Within told ⌝ }
     ensures { λ n. ⌜ Wrote longestRest (restOf (toldIn (now (texts .entry)) told)) (now (out .entry)) (now (out .exit)) at n ⌝ }
 {
     if told.is_refused {

@@ -7,7 +7,7 @@ use Rattle.protocol.specs.Floor.{wholeFloor}
 use Rattle.view.specs.View.{lent}
 use Rattle.frame_lines.proofs.Fields.{line-written}
 use Rattle.frame_run.proofs.Events.{goes-on}
-use Rattle.frame_run.proofs.Turns.{texts-long, took}
+use Rattle.frame_run.proofs.Turns.{text-there, took}
 use borrow.Author.Needs.{needs}
 use Rattle.frame_run.proofs.take_event.Statement.{statement}
 use Rattle.frame_run.proofs.take_event.Tie as tie
@@ -20,7 +20,7 @@ print-requires c κs =
     let s = c .before .before .before .before .before .before .before .before .before .before .before .before .before .before .before .before .before .before .before .before .before .before .before .before .before .before .before .before .before .before in
     let a = s .args in
     let h = c .before .before .before .before .before .before .before .before .before .before .before .before .before .before .before .happen .ensures in
-    (omega (arith, s .pre .1 .0 .2, h .1 .few, h .1 .kept), texts-long _ (goes-on (lent wholeFloor (now (a .stations)) (now (a .carts)) (now (a .messages)) (now (a .lines)) (now (a .texts))) _ _ _ (s .pre .0) refl (h .0 .1)), s .pre .1 .1 .2, h .0 .0)
+    (omega (arith, s .pre .1 .0 .2, h .1 .few, h .1 .kept), text-there _ (goes-on (lent wholeFloor (now (a .stations)) (now (a .carts)) (now (a .messages)) (now (a .lines)) (now (a .texts))) _ _ _ (s .pre .0) refl (h .0 .1)) _ (h .0 .0 .room), s .pre .1 .1 .2, h .0 .0)
 
 size-of-requires : tie.Need-size-of-requires
 size-of-requires c κs = omega (arith, c .before .before .before .before .before .before .before .before .before .before .before .before .before .before .before .before .before .before .before .before .before .before .before .before .before .before .before .before .before .before .before .before .before .pre .1 .0)
