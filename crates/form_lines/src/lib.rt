@@ -211,7 +211,7 @@ fn failed(way: Way) -> Way
 }
 
 // A multicast counts up.
-fn on_multicast(way: Way, right: bool, m: u64, number: u64) -> Way
+fn note_multicast(way: Way, right: bool, m: u64, number: u64) -> Way
     requires { ⌜ number < 18446744073709551615 ⌝ }
     ensures { λ r. ⌜ ((seen : List ℕ) → metOf r seen ≡ outcome (right && fresh (metOf way seen) (aMulticast m number)) (metOf way seen) (aMulticast m number)) ⌝ }
 {
@@ -228,7 +228,7 @@ fn on_multicast(way: Way, right: bool, m: u64, number: u64) -> Way
 }
 
 // An ack list is of carts that were not met.
-fn on_ack_list(masks: &mut [u64], way: Way, right: bool, m: u64, carts: u64) -> Way
+fn note_ack_list(masks: &mut [u64], way: Way, right: bool, m: u64, carts: u64) -> Way
     requires { ⌜ (length (now masks) ≡ 32) × (right ≡ true → m < rooms) ⌝ }
     ensures { λ r. ⌜ ((x : ℕ) → metOf r (now (masks .exit)) ≡ outcome (right && fresh (metOf way (now (masks .entry))) (anAckList m x carts)) (metOf way (now (masks .entry))) (anAckList m x carts)) ⌝ }
     ensures { λ _. ⌜ length (now (masks .exit)) ≡ length (now (masks .entry)) ⌝ }
@@ -246,7 +246,7 @@ fn on_ack_list(masks: &mut [u64], way: Way, right: bool, m: u64, carts: u64) -> 
 }
 
 // A delete is of a number passed before it, and met once.
-fn on_delete(way: Way, right: bool, m: u64, number: u64) -> Way
+fn note_delete(way: Way, right: bool, m: u64, number: u64) -> Way
     requires { ⌜ (right ≡ true → m < rooms) ⌝ }
     ensures { λ r. ⌜ ((seen : List ℕ) → metOf r seen ≡ outcome (right && fresh (metOf way seen) (aDelete m number)) (metOf way seen) (aDelete m number)) ⌝ }
 {
@@ -266,7 +266,7 @@ fn on_delete(way: Way, right: bool, m: u64, number: u64) -> Way
 }
 
 // A cart has one hand-off.
-fn on_handoff(way: Way, right: bool, cart: u64) -> Way
+fn note_handoff(way: Way, right: bool, cart: u64) -> Way
     requires { ⌜ (right ≡ true → cart < 64) ⌝ }
     ensures { λ r. ⌜ ((seen : List ℕ) → metOf r seen ≡ outcome (right && fresh (metOf way seen) (aDeregister cart)) (metOf way seen) (aDeregister cart)) ⌝ }
 {
@@ -294,11 +294,11 @@ fn take(masks: &mut [u64], way: Way, right: bool, r: Record) -> Way
     let index = view::index_of(r);
     let number = view::number_of(r);
     match kind {
-        1 => on_multicast(way, right, index, number),
-        2 => on_ack_list(masks, way, right, index, r.1),
-        3 => on_delete(way, right, index, number),
-        4 => on_handoff(way, right, index),
-        5 => on_handoff(way, right, index),
+        1 => note_multicast(way, right, index, number),
+        2 => note_ack_list(masks, way, right, index, r.1),
+        3 => note_delete(way, right, index, number),
+        4 => note_handoff(way, right, index),
+        5 => note_handoff(way, right, index),
         _ => failed(way),
     }
 }
@@ -552,7 +552,7 @@ struct Acked {
 }
 
 // Of the message in room m, on a floor of n stations.
-fn gather(stations: &[u64], messages: &[u64], n: u64, m: usize) -> Acked
+fn gather_acks(stations: &[u64], messages: &[u64], n: u64, m: usize) -> Acked
     requires { ⌜ (n * 116 + 116 ≤ length (now stations)) × WholeRooms (now messages) × (n ≤ 16) × (m < rooms) ⌝ }
     ensures { λ r. ⌜ (r .apart ≡ apart (stationsIn (now (stations .entry))) (roomsIn (now (messages .entry))) m n) × (r .carts ≡ gathered (stationsIn (now (stations .entry))) (roomsIn (now (messages .entry))) m n) ⌝ }
 {
@@ -577,7 +577,7 @@ fn begin(masks: &mut [u64], stations: &[u64], messages: &[u64], n: u64) -> bool
     let mut ok = true;
     let mut m: usize = 0;
     while m < 32 {
-        let met = gather(stations, messages, n, m);
+        let met = gather_acks(stations, messages, n, m);
         let waiting = waiting_by(messages, m);
         ok = both(ok, either(waiting == 0, met.apart));
         masks[m] = met.carts;

@@ -466,7 +466,7 @@ struct Gathered {
 
 // Of room m, at the n stations that there are rows for. The mask of a station's local carts says which are local. No set is looked into, so it costs the same
 // whatever they hold.
-fn gather(stations: &[u64], m: usize, n: u64) -> Gathered
+fn gather_entries(stations: &[u64], m: usize, n: u64) -> Gathered
     requires { ⌜ (length (now stations) ≡ 116 + n * 116) × (m < rooms) × (n ≤ 16) ⌝ }
     ensures { λ r. ⌜ Entries (stationsIn (now (stations .entry))) m n (r .sets) (r .queued) (r .strays) ⌝ }
 {
@@ -504,7 +504,7 @@ fn entries_of(
     requires { ⌜ OnTables (now stations) (now carts) × (m < rooms) × ((t : ℕ) → t < rows → localRight (lent wholeFloor (now stations) (now carts) [] [] []) t ≡ true) × (most ≡ mostOf (headIn (now stations) .carts)) × HasRoom (now messages) m × (length (now stations) ≡ 116 + rows * 116) × (rows ≤ 16) ⌝ }
     ensures { λ r. ⌜ r ≡ test (all rows (entryRule limits (tables (now (stations .entry)) (now (carts .entry)) (now (messages .entry))) m)) ⌝ }
 {
-    let met = gather(stations, m, rows);
+    let met = gather_entries(stations, m, rows);
     if most < met.sets {
         return false;
     }

@@ -211,8 +211,8 @@ fn move_cart(
     plainly(event_carts::move_cart(stations, carts, messages, lines, texts, cart, to))
 }
 
-// An event that happened, its line begun: where the line goes on behind its index, and what the event came to.
-struct Happened {
+// An event that was dispatched, its line begun: where the line goes on behind its index, and what the event came to.
+struct Dispatched {
     next: usize,
     told: Told,
 }
@@ -220,7 +220,7 @@ struct Happened {
 // An event of the run, of the frame at a place: a send is followed by its text. Its line begins at another place of the output, with the index. That
 // waits for nothing, so it is written first, while the processor still looks up what the event needs; and each kind does it for itself, so that
 // a frame's kind is asked for once.
-fn happen(
+fn dispatch(
     stations: &mut [u64],
     carts: &mut [u64],
     messages: &mut [u64],
@@ -233,7 +233,7 @@ fn happen(
     line: usize,
     numbers: &[u64],
     index: u64,
-) -> Happened
+) -> Dispatched
     requires { ⌜ Ready (lent wholeFloor (now stations) (now carts) (now messages) (now lines) (now texts)) ⌝ }
     requires { ⌜ (at + sizeOf e ≤ length (now input)) × (sizeOf e ≤ 48) ⌝ }
     requires { ⌜ (line + 20 ≤ length (now output)) × Tabled (now numbers) ⌝ }
@@ -244,12 +244,12 @@ fn happen(
         Event::Start(n, k) => {
             let next = frame_lines::put_index(output, line, numbers, index);
             let told = plainly(controller::start(stations, carts, messages, lines, texts, n, k));
-            Happened { next, told }
+            Dispatched { next, told }
         }
         Event::Enter(station, cart) => {
             let next = frame_lines::put_index(output, line, numbers, index);
             let told = enter(stations, carts, messages, lines, texts, station, cart);
-            Happened { next, told }
+            Dispatched { next, told }
         }
         Event::Send(station, set, size) => {
             let next = frame_lines::put_index(output, line, numbers, index);
@@ -257,22 +257,22 @@ fn happen(
             let end = from + size;
             let text = &input[from..end];
             let told = send(stations, carts, messages, lines, texts, station, set, text);
-            Happened { next, told }
+            Dispatched { next, told }
         }
         Event::Wire(from, to) => {
             let next = frame_lines::put_index(output, line, numbers, index);
             let told = wire(stations, carts, messages, lines, texts, from, to);
-            Happened { next, told }
+            Dispatched { next, told }
         }
         Event::Radio(station, cart) => {
             let next = frame_lines::put_index(output, line, numbers, index);
             let told = radio(stations, carts, messages, lines, texts, station, cart);
-            Happened { next, told }
+            Dispatched { next, told }
         }
         Event::Move(cart, to) => {
             let next = frame_lines::put_index(output, line, numbers, index);
             let told = move_cart(stations, carts, messages, lines, texts, cart, to);
-            Happened { next, told }
+            Dispatched { next, told }
         }
     }
 }
@@ -356,7 +356,7 @@ fn take_event(
     requires { ⌜ (p .frames ≤ p .read) × (length (now input) + 1 < 18446744073709551616) × Tabled (now numbers) ⌝ }
     ensures { λ r. ⌜ Took index (lent wholeFloor (now (stations .entry)) (now (carts .entry)) (now (messages .entry)) (now (lines .entry)) (now (texts .entry))) (lent wholeFloor (now (stations .exit)) (now (carts .exit)) (now (messages .exit)) (now (lines .exit)) (now (texts .exit))) (now (output .entry)) (now (output .exit)) p r (eventIn (drop (p .read) (now (input .entry))) e) (sizeOf e) ⌝ }
 {
-    let happened = happen(
+    let dispatched = dispatch(
         stations,
         carts,
         messages,
@@ -370,8 +370,8 @@ fn take_event(
         numbers,
         index,
     );
-    let told = happened.told;
-    let written = print(output, texts, happened.next, numbers, told);
+    let told = dispatched.told;
+    let written = print(output, texts, dispatched.next, numbers, told);
     Progress {
         read: p.read + frames::size_of(e),
         written,

@@ -1,4 +1,4 @@
-// A set of carts as one word: "cart c has weight 2^c". A set of stations is the same, so a member here is a bare number.
+// A set as the bits of a word: "cart c has weight 2^c". Sets of stations and of rooms are the same, so a member here is a bare number.
 ghost use mathlib.Core.Path.{_≡_};
 ghost use mathlib.Core.Bool.{true, cond};
 ghost use mathlib.Core.Option.{some};
@@ -6,12 +6,12 @@ ghost use Prim.Native.Nat.{ℕ, _<_, _≤_};
 ghost use Rattle.protocol.specs.CartSets.{has, union, minus, with, without, setOf};
 ghost use Rattle.sets.specs.Masks.{within, disjoint, least, size};
 
-// Is the cart in the set?
-pub fn has(set: u64, cart: u64) -> bool
-    requires { ⌜ cart < 64 ⌝ }
-    ensures { λ r. ⌜ r ≡ has set cart ⌝ }
+// Is the member in the set?
+pub fn has(set: u64, member: u64) -> bool
+    requires { ⌜ member < 64 ⌝ }
+    ensures { λ r. ⌜ r ≡ has set member ⌝ }
 {
-    (set >> cart) & 1 == 1
+    (set >> member) & 1 == 1
 }
 
 // Those in either set.
@@ -28,28 +28,28 @@ pub fn minus(a: u64, b: u64) -> u64
     a ^ (a & b)
 }
 
-// The set and the cart.
-pub fn with_member(set: u64, cart: u64) -> u64
-    requires { ⌜ cart < 64 ⌝ }
-    ensures { λ r. ⌜ r ≡ with set cart ⌝ }
+// The set and the member.
+pub fn with_member(set: u64, member: u64) -> u64
+    requires { ⌜ member < 64 ⌝ }
+    ensures { λ r. ⌜ r ≡ with set member ⌝ }
 {
-    union(set, 1 << cart)
+    union(set, 1 << member)
 }
 
-// The set, and the cart if it joins. Both are at hand, so that nothing has to be guessed.
-pub fn with_if(set: u64, cart: u64, joins: bool) -> u64
-    requires { ⌜ cart < 64 ⌝ }
-    ensures { λ r. ⌜ r ≡ cond joins (with set cart) set ⌝ }
+// The set, and the member if it joins. Both are at hand, so that nothing has to be guessed.
+pub fn with_if(set: u64, member: u64, joins: bool) -> u64
+    requires { ⌜ member < 64 ⌝ }
+    ensures { λ r. ⌜ r ≡ cond joins (with set member) set ⌝ }
 {
-    if joins { with_member(set, cart) } else { set }
+    if joins { with_member(set, member) } else { set }
 }
 
-// The set but for the cart.
-pub fn without_member(set: u64, cart: u64) -> u64
-    requires { ⌜ cart < 64 ⌝ }
-    ensures { λ r. ⌜ r ≡ without set cart ⌝ }
+// The set but for the member.
+pub fn without_member(set: u64, member: u64) -> u64
+    requires { ⌜ member < 64 ⌝ }
+    ensures { λ r. ⌜ r ≡ without set member ⌝ }
 {
-    minus(set, 1 << cart)
+    minus(set, 1 << member)
 }
 
 // Is every one of `a` in `b`?

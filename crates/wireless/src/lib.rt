@@ -16,7 +16,7 @@ ghost use Rattle.lines.specs.Words.{capacity};
 ghost use Rattle.wireless.specs.Handed.{tookFrom, Received, holdNone, AcksSent, CaughtUp, HandedOver};
 
 // "its next number rises": the cart's record is handed in and handed back. That number alone is new in it, so that alone is stored, and answered.
-fn rise(carts: &mut [u64], initiator: Station, n: MessageNumber, number: CartNumber) -> u64
+fn raise_next(carts: &mut [u64], initiator: Station, n: MessageNumber, number: CartNumber) -> u64
     requires { ⌜ HasRow (now carts) (number .0) × (initiator .0 < initiators) × (n .0 < 4294967296) ⌝ }
     ensures { λ r. ⌜ r ≡ n .0 + 1 ⌝ }
     ensures { λ _. ⌜ cartsIn (now (carts .exit)) ≡ withNext (cartsIn (now (carts .entry))) (number .0) (initiator .0) (n .0 + 1) ⌝ }
@@ -53,7 +53,7 @@ fn receive(
     stations::put_queue(stations, m, station, sets::without_member(queue, number.0));
     let acks = stations::acks_of(stations, m, station);
     stations::put_acks(stations, m, station, sets::with_member(acks, number.0));
-    rise(carts, initiator, n, number)
+    raise_next(carts, initiator, n, number)
 }
 
 // "Then, if every local cart in the copy is in the ack list, the list goes to the initiator, its carts are struck from the copy, and the list

@@ -27,8 +27,8 @@ loop-holds : tie.Need-loop-holds Inv-loop μ-loop
 unfolding every
 loop-holds c = (omega arith, c .before .before .before .pre .0, (λ x l. absurd (omega arith)), refl)
 
-gather-requires : tie.Need-gather-requires Inv-loop μ-loop
-gather-requires c κs = (c .before .before .before .before .before .pre .1, c .before .before .before .before .before .pre .2, c .before .before .before .before .before .pre .3, omega arith)
+gather-acks-requires : tie.Need-gather-acks-requires Inv-loop μ-loop
+gather-acks-requires c κs = (c .before .before .before .before .before .pre .1, c .before .before .before .before .before .pre .2, c .before .before .before .before .before .pre .3, omega arith)
 
 waiting-by-requires : tie.Need-waiting-by-requires Inv-loop μ-loop
 waiting-by-requires c κs = (c .before .before .before .before .before .before .pre .2, omega arith)
@@ -52,7 +52,7 @@ loop-less : tie.Need-loop-less Inv-loop μ-loop
 loop-less c = omega arith
 
 loop-again : tie.Need-loop-again Inv-loop μ-loop
-loop-again c = (omega arith, length-set (c .before .before .before .before .before .loop .masks) (c .before .before .before .before .before .loop .m) (c .before .before .before .gather .result .carts) ∙ c .before .before .before .before .before .loop .inv .1, read-one (λ x. gathered (stationsIn (now (c .before .before .before .before .before .before .before .before .before .args .stations))) (roomsIn (now (c .before .before .before .before .before .before .before .before .before .args .messages))) x (c .before .before .before .before .before .before .before .before .before .args .n)) (c .before .before .before .before .before .loop .masks) (c .before .before .before .before .before .loop .m) (c .before .before .before .gather .result .carts) (omega arith) (c .before .before .before .gather .ensures .1) (c .before .before .before .before .before .loop .inv .2), every-next (λ x. not (isTaken (roomsIn (now (c .before .before .before .before .before .before .before .before .before .args .messages))) x) || apart (stationsIn (now (c .before .before .before .before .before .before .before .before .before .args .stations))) (roomsIn (now (c .before .before .before .before .before .before .before .before .before .args .messages))) x (c .before .before .before .before .before .before .before .before .before .args .n)) (c .before .before .before .before .before .loop .m) (c .before .before .before .before .before .loop .ok) (c .before .either .result) (c .both .result) (c .before .before .before .before .before .loop .inv .3) (taken-test (roomsIn (now (c .before .before .before .before .before .before .before .before .before .args .messages))) (c .before .before .before .before .before .loop .m) (c .before .before .waiting-by .result) (c .before .before .before .gather .result .apart) (apart (stationsIn (now (c .before .before .before .before .before .before .before .before .before .args .stations))) (roomsIn (now (c .before .before .before .before .before .before .before .before .before .args .messages))) (c .before .before .before .before .before .loop .m) (c .before .before .before .before .before .before .before .before .before .args .n)) (c .before .either .result) (c .before .before .waiting-by .ensures) (c .before .before .before .gather .ensures .0) (c .before .either .ensures)) (c .both .ensures))
+loop-again c = (omega arith, length-set (c .before .before .before .before .before .loop .masks) (c .before .before .before .before .before .loop .m) (c .before .before .before .gather_acks .result .carts) ∙ c .before .before .before .before .before .loop .inv .1, read-one (λ x. gathered (stationsIn (now (c .before .before .before .before .before .before .before .before .before .args .stations))) (roomsIn (now (c .before .before .before .before .before .before .before .before .before .args .messages))) x (c .before .before .before .before .before .before .before .before .before .args .n)) (c .before .before .before .before .before .loop .masks) (c .before .before .before .before .before .loop .m) (c .before .before .before .gather_acks .result .carts) (omega arith) (c .before .before .before .gather_acks .ensures .1) (c .before .before .before .before .before .loop .inv .2), every-next (λ x. not (isTaken (roomsIn (now (c .before .before .before .before .before .before .before .before .before .args .messages))) x) || apart (stationsIn (now (c .before .before .before .before .before .before .before .before .before .args .stations))) (roomsIn (now (c .before .before .before .before .before .before .before .before .before .args .messages))) x (c .before .before .before .before .before .before .before .before .before .args .n)) (c .before .before .before .before .before .loop .m) (c .before .before .before .before .before .loop .ok) (c .before .either .result) (c .both .result) (c .before .before .before .before .before .loop .inv .3) (taken-test (roomsIn (now (c .before .before .before .before .before .before .before .before .before .args .messages))) (c .before .before .before .before .before .loop .m) (c .before .before .waiting-by .result) (c .before .before .before .gather_acks .result .apart) (apart (stationsIn (now (c .before .before .before .before .before .before .before .before .before .args .stations))) (roomsIn (now (c .before .before .before .before .before .before .before .before .before .args .messages))) (c .before .before .before .before .before .loop .m) (c .before .before .before .before .before .before .before .before .before .args .n)) (c .before .either .result) (c .before .before .waiting-by .ensures) (c .before .before .before .gather_acks .ensures .0) (c .before .either .ensures)) (c .both .ensures))
 
 same-length : tie.Need-same-length Inv-loop μ-loop
 same-length c = c .before .loop .inv .1 ∙ sym (c .before .before .before .before .before .pre .0)
@@ -67,7 +67,7 @@ begin-spec =
     Inv-loop
     μ-loop
     loop-holds
-    gather-requires
+    gather-acks-requires
     waiting-by-requires
     either-requires
     both-requires

@@ -18,42 +18,42 @@ index-of-requires c κs = search needs
 number-of-requires : tie.Need-number-of-requires
 number-of-requires c κs = search needs
 
-on-multicast-requires : tie.Need-on-multicast-requires
-on-multicast-requires c κs = search needs
+note-multicast-requires : tie.Need-note-multicast-requires
+note-multicast-requires c κs = search needs
 
-on-ack-list-requires : tie.Need-on-ack-list-requires
-on-ack-list-requires c κs = (c .before .before .before .before .before .before .pre .0, λ t. subst Inside (says-ack-list (c .before .before .before .before .before .before .args .r) (c .before .before .before .before .kind-of .result) (c .before .before .before .index-of .result) (c .before .before .number-of .result) (c .before .before .before .before .kind-of .ensures) (c .before .before .before .index-of .ensures) (c .before .before .number-of .ensures) (c .before .match .keys2)) (c .before .before .before .before .before .before .pre .1 t))
+note-ack-list-requires : tie.Need-note-ack-list-requires
+note-ack-list-requires c κs = (c .before .before .before .before .before .before .pre .0, λ t. subst Inside (says-ack-list (c .before .before .before .before .before .before .args .r) (c .before .before .before .before .kind-of .result) (c .before .before .before .index-of .result) (c .before .before .number-of .result) (c .before .before .before .before .kind-of .ensures) (c .before .before .before .index-of .ensures) (c .before .before .number-of .ensures) (c .before .match .keys2)) (c .before .before .before .before .before .before .pre .1 t))
 
-on-delete-requires : tie.Need-on-delete-requires
-on-delete-requires c κs = λ t. subst Inside (says-delete (c .before .before .before .before .before .args .r) (c .before .before .before .kind-of .result) (c .before .before .index-of .result) (c .before .number-of .result) (c .before .before .before .kind-of .ensures) (c .before .before .index-of .ensures) (c .before .number-of .ensures) (c .match .keys3)) (c .before .before .before .before .before .pre .1 t)
+note-delete-requires : tie.Need-note-delete-requires
+note-delete-requires c κs = λ t. subst Inside (says-delete (c .before .before .before .before .before .args .r) (c .before .before .before .kind-of .result) (c .before .before .index-of .result) (c .before .number-of .result) (c .before .before .before .kind-of .ensures) (c .before .before .index-of .ensures) (c .before .number-of .ensures) (c .match .keys3)) (c .before .before .before .before .before .pre .1 t)
 
-on-handoff-requires : tie.Need-on-handoff-requires
-on-handoff-requires c κs = λ t. subst Inside (says-deregister (c .before .before .before .before .before .args .r) (c .before .before .before .kind-of .result) (c .before .before .index-of .result) (c .before .number-of .result) (c .before .before .before .kind-of .ensures) (c .before .before .index-of .ensures) (c .before .number-of .ensures) (c .match .keys4)) (c .before .before .before .before .before .pre .1 t)
+note-handoff-requires : tie.Need-note-handoff-requires
+note-handoff-requires c κs = λ t. subst Inside (says-deregister (c .before .before .before .before .before .args .r) (c .before .before .before .kind-of .result) (c .before .before .index-of .result) (c .before .number-of .result) (c .before .before .before .kind-of .ensures) (c .before .before .index-of .ensures) (c .before .number-of .ensures) (c .match .keys4)) (c .before .before .before .before .before .pre .1 t)
 
-on-handoff-requires-2 : tie.Need-on-handoff-requires-2
-on-handoff-requires-2 c κs = λ t. subst Inside (says-register (c .before .before .before .before .before .args .r) (c .before .before .before .kind-of .result) (c .before .before .index-of .result) (c .before .number-of .result) (c .before .before .before .kind-of .ensures) (c .before .before .index-of .ensures) (c .before .number-of .ensures) (c .match .keys5)) (c .before .before .before .before .before .pre .1 t)
+note-handoff-requires-2 : tie.Need-note-handoff-requires-2
+note-handoff-requires-2 c κs = λ t. subst Inside (says-register (c .before .before .before .before .before .args .r) (c .before .before .before .kind-of .result) (c .before .before .index-of .result) (c .before .number-of .result) (c .before .before .before .kind-of .ensures) (c .before .before .index-of .ensures) (c .before .number-of .ensures) (c .match .keys5)) (c .before .before .before .before .before .pre .1 t)
 
 failed-requires : tie.Need-failed-requires
 failed-requires c κs = search needs
 
 returns : tie.Need-returns
-returns c = (told (c .before .before .before .before .before .before .args .right) (metOf (c .before .before .before .before .before .before .args .way) (now (c .before .before .before .before .before .before .args .masks))) (metOf (c .on-multicast .result) (now (c .before .before .before .before .before .before .args .masks))) (aMulticast (c .before .before .before .index-of .result) (c .before .before .number-of .result)) (said (c .before .before .before .before .before .before .args .r)) (says-multicast (c .before .before .before .before .before .before .args .r) (c .before .before .before .before .kind-of .result) (c .before .before .before .index-of .result) (c .before .before .number-of .result) (c .before .before .before .before .kind-of .ensures) (c .before .before .before .index-of .ensures) (c .before .before .number-of .ensures) (c .before .match .keys1)) (c .on-multicast .ensures (now (c .before .before .before .before .before .before .args .masks))), refl)
+returns c = (told (c .before .before .before .before .before .before .args .right) (metOf (c .before .before .before .before .before .before .args .way) (now (c .before .before .before .before .before .before .args .masks))) (metOf (c .note-multicast .result) (now (c .before .before .before .before .before .before .args .masks))) (aMulticast (c .before .before .before .index-of .result) (c .before .before .number-of .result)) (said (c .before .before .before .before .before .before .args .r)) (says-multicast (c .before .before .before .before .before .before .args .r) (c .before .before .before .before .kind-of .result) (c .before .before .before .index-of .result) (c .before .before .number-of .result) (c .before .before .before .before .kind-of .ensures) (c .before .before .before .index-of .ensures) (c .before .before .number-of .ensures) (c .before .match .keys1)) (c .note-multicast .ensures (now (c .before .before .before .before .before .before .args .masks))), refl)
 
 same-length : tie.Need-same-length
 same-length c = search needs
 
 returns-2 : tie.Need-returns-2
-returns-2 c = (told (c .before .before .before .before .before .before .before .before .before .args .right) (metOf (c .before .before .before .before .before .before .before .before .before .args .way) (now (c .before .before .before .before .before .before .before .before .before .args .masks))) (metOf (c .before .before .on-ack-list .result) (c .before .before .on-ack-list .last .0)) (anAckList (c .before .before .before .before .before .before .index-of .result) (c .before .before .before .before .before .number-of .result) ((c .before .before .before .before .before .before .before .before .before .args .r) .1)) (said (c .before .before .before .before .before .before .before .before .before .args .r)) (says-ack-list (c .before .before .before .before .before .before .before .before .before .args .r) (c .before .before .before .before .before .before .before .kind-of .result) (c .before .before .before .before .before .before .index-of .result) (c .before .before .before .before .before .number-of .result) (c .before .before .before .before .before .before .before .kind-of .ensures) (c .before .before .before .before .before .before .index-of .ensures) (c .before .before .before .before .before .number-of .ensures) (c .before .before .before .before .match .keys2)) (c .before .before .on-ack-list .ensures .0 (c .before .before .before .before .before .number-of .result)), c .before .before .on-ack-list .ensures .1)
+returns-2 c = (told (c .before .before .before .before .before .before .before .before .before .args .right) (metOf (c .before .before .before .before .before .before .before .before .before .args .way) (now (c .before .before .before .before .before .before .before .before .before .args .masks))) (metOf (c .before .before .note-ack-list .result) (c .before .before .note-ack-list .last .0)) (anAckList (c .before .before .before .before .before .before .index-of .result) (c .before .before .before .before .before .number-of .result) ((c .before .before .before .before .before .before .before .before .before .args .r) .1)) (said (c .before .before .before .before .before .before .before .before .before .args .r)) (says-ack-list (c .before .before .before .before .before .before .before .before .before .args .r) (c .before .before .before .before .before .before .before .kind-of .result) (c .before .before .before .before .before .before .index-of .result) (c .before .before .before .before .before .number-of .result) (c .before .before .before .before .before .before .before .kind-of .ensures) (c .before .before .before .before .before .before .index-of .ensures) (c .before .before .before .before .before .number-of .ensures) (c .before .before .before .before .match .keys2)) (c .before .before .note-ack-list .ensures .0 (c .before .before .before .before .before .number-of .result)), c .before .before .note-ack-list .ensures .1)
 
 returns-3 : tie.Need-returns-3
-returns-3 c = (told (c .before .before .before .before .before .before .args .right) (metOf (c .before .before .before .before .before .before .args .way) (now (c .before .before .before .before .before .before .args .masks))) (metOf (c .on-delete .result) (now (c .before .before .before .before .before .before .args .masks))) (aDelete (c .before .before .before .index-of .result) (c .before .before .number-of .result)) (said (c .before .before .before .before .before .before .args .r)) (says-delete (c .before .before .before .before .before .before .args .r) (c .before .before .before .before .kind-of .result) (c .before .before .before .index-of .result) (c .before .before .number-of .result) (c .before .before .before .before .kind-of .ensures) (c .before .before .before .index-of .ensures) (c .before .before .number-of .ensures) (c .before .match .keys3)) (c .on-delete .ensures (now (c .before .before .before .before .before .before .args .masks))), refl)
+returns-3 c = (told (c .before .before .before .before .before .before .args .right) (metOf (c .before .before .before .before .before .before .args .way) (now (c .before .before .before .before .before .before .args .masks))) (metOf (c .note-delete .result) (now (c .before .before .before .before .before .before .args .masks))) (aDelete (c .before .before .before .index-of .result) (c .before .before .number-of .result)) (said (c .before .before .before .before .before .before .args .r)) (says-delete (c .before .before .before .before .before .before .args .r) (c .before .before .before .before .kind-of .result) (c .before .before .before .index-of .result) (c .before .before .number-of .result) (c .before .before .before .before .kind-of .ensures) (c .before .before .before .index-of .ensures) (c .before .before .number-of .ensures) (c .before .match .keys3)) (c .note-delete .ensures (now (c .before .before .before .before .before .before .args .masks))), refl)
 
 returns-4 : tie.Need-returns-4
-returns-4 c = (told (c .before .before .before .before .before .before .args .right) (metOf (c .before .before .before .before .before .before .args .way) (now (c .before .before .before .before .before .before .args .masks))) (metOf (c .on-handoff .result) (now (c .before .before .before .before .before .before .args .masks))) (aDeregister (c .before .before .before .index-of .result)) (said (c .before .before .before .before .before .before .args .r)) (says-deregister (c .before .before .before .before .before .before .args .r) (c .before .before .before .before .kind-of .result) (c .before .before .before .index-of .result) (c .before .before .number-of .result) (c .before .before .before .before .kind-of .ensures) (c .before .before .before .index-of .ensures) (c .before .before .number-of .ensures) (c .before .match .keys4)) (c .on-handoff .ensures (now (c .before .before .before .before .before .before .args .masks))), refl)
+returns-4 c = (told (c .before .before .before .before .before .before .args .right) (metOf (c .before .before .before .before .before .before .args .way) (now (c .before .before .before .before .before .before .args .masks))) (metOf (c .note-handoff .result) (now (c .before .before .before .before .before .before .args .masks))) (aDeregister (c .before .before .before .index-of .result)) (said (c .before .before .before .before .before .before .args .r)) (says-deregister (c .before .before .before .before .before .before .args .r) (c .before .before .before .before .kind-of .result) (c .before .before .before .index-of .result) (c .before .before .number-of .result) (c .before .before .before .before .kind-of .ensures) (c .before .before .before .index-of .ensures) (c .before .before .number-of .ensures) (c .before .match .keys4)) (c .note-handoff .ensures (now (c .before .before .before .before .before .before .args .masks))), refl)
 
 returns-5 : tie.Need-returns-5
 unfolding fresh note
-returns-5 c = (told (c .before .before .before .before .before .before .args .right) (metOf (c .before .before .before .before .before .before .args .way) (now (c .before .before .before .before .before .before .args .masks))) (metOf (c .on-handoff2 .result) (now (c .before .before .before .before .before .before .args .masks))) (aRegister (c .before .before .before .index-of .result)) (said (c .before .before .before .before .before .before .args .r)) (says-register (c .before .before .before .before .before .before .args .r) (c .before .before .before .before .kind-of .result) (c .before .before .before .index-of .result) (c .before .before .number-of .result) (c .before .before .before .before .kind-of .ensures) (c .before .before .before .index-of .ensures) (c .before .before .number-of .ensures) (c .before .match .keys5)) (c .on-handoff2 .ensures (now (c .before .before .before .before .before .before .args .masks))), refl)
+returns-5 c = (told (c .before .before .before .before .before .before .args .right) (metOf (c .before .before .before .before .before .before .args .way) (now (c .before .before .before .before .before .before .args .masks))) (metOf (c .note-handoff2 .result) (now (c .before .before .before .before .before .before .args .masks))) (aRegister (c .before .before .before .index-of .result)) (said (c .before .before .before .before .before .before .args .r)) (says-register (c .before .before .before .before .before .before .args .r) (c .before .before .before .before .kind-of .result) (c .before .before .before .index-of .result) (c .before .before .number-of .result) (c .before .before .before .before .kind-of .ensures) (c .before .before .before .index-of .ensures) (c .before .before .number-of .ensures) (c .before .match .keys5)) (c .note-handoff2 .ensures (now (c .before .before .before .before .before .before .args .masks))), refl)
 
 returns-6 : tie.Need-returns-6
 returns-6 c = (told-nothing (c .before .before .before .before .before .before .args .right) (metOf (c .before .before .before .before .before .before .args .way) (now (c .before .before .before .before .before .before .args .masks))) (metOf (c .failed .result) (now (c .before .before .before .before .before .before .args .masks))) (said (c .before .before .before .before .before .before .args .r)) (c .before .before .before .index-of .result) (says-nothing (c .before .before .before .before .before .before .args .r) (c .before .before .before .before .kind-of .result) (c .before .before .before .index-of .result) (c .before .before .number-of .result) (c .before .before .before .before .kind-of .ensures) (c .before .before .before .index-of .ensures) (c .before .before .number-of .ensures) (c .before .match .rest .0 .0 .0 .0 .1) (c .before .match .rest .0 .0 .0 .1) (c .before .match .rest .0 .0 .1) (c .before .match .rest .0 .1) (c .before .match .rest .1)) (c .failed .ensures (now (c .before .before .before .before .before .before .args .masks))), refl)
@@ -65,11 +65,11 @@ take-spec =
     kind-of-requires
     index-of-requires
     number-of-requires
-    on-multicast-requires
-    on-ack-list-requires
-    on-delete-requires
-    on-handoff-requires
-    on-handoff-requires-2
+    note-multicast-requires
+    note-ack-list-requires
+    note-delete-requires
+    note-handoff-requires
+    note-handoff-requires-2
     failed-requires
     returns
     same-length

@@ -12,14 +12,14 @@ use borrow.Author.Needs.{needs}
 use Rattle.frame_run.proofs.take_event.Statement.{statement}
 use Rattle.frame_run.proofs.take_event.Tie as tie
 
-happen-requires : tie.Need-happen-requires
-happen-requires c κs = let s = c .before .before .before .before .before .before .before .before .before .before .before .before .before .before in (s .pre .0, ((s .pre .1 .0 .0, s .pre .1 .0 .1), (omega (arith, s .pre .1 .0 .2), s .pre .1 .1 .2)))
+dispatch-requires : tie.Need-dispatch-requires
+dispatch-requires c κs = let s = c .before .before .before .before .before .before .before .before .before .before .before .before .before .before in (s .pre .0, ((s .pre .1 .0 .0, s .pre .1 .0 .1), (omega (arith, s .pre .1 .0 .2), s .pre .1 .1 .2)))
 
 print-requires : tie.Need-print-requires
 print-requires c κs =
     let s = c .before .before .before .before .before .before .before .before .before .before .before .before .before .before .before .before .before .before .before .before .before .before .before .before .before .before .before .before .before .before in
     let a = s .args in
-    let h = c .before .before .before .before .before .before .before .before .before .before .before .before .before .before .before .happen .ensures in
+    let h = c .before .before .before .before .before .before .before .before .before .before .before .before .before .before .before .dispatch .ensures in
     (omega (arith, s .pre .1 .0 .2, h .1 .few, h .1 .kept), text-there _ (goes-on (lent wholeFloor (now (a .stations)) (now (a .carts)) (now (a .messages)) (now (a .lines)) (now (a .texts))) _ _ _ (s .pre .0) refl (h .0 .1)) _ (h .0 .0 .room), s .pre .1 .1 .2, h .0 .0)
 
 size-of-requires : tie.Need-size-of-requires
@@ -53,7 +53,7 @@ returns : tie.Need-returns
 returns c =
     let s = c .before .before .before .before .before .before .before .before .before .before .before .before .before .before .before .before .before .before .before .before .before .before .before .before .before .before .before .before .before .before .before .before .before .before .before .before in
     let a = s .args in
-    let h = c .before .before .before .before .before .before .before .before .before .before .before .before .before .before .before .before .before .before .before .before .before .happen .ensures in
+    let h = c .before .before .before .before .before .before .before .before .before .before .before .before .before .before .before .before .before .before .before .before .before .dispatch .ensures in
     took (a .index) (lent wholeFloor (now (a .stations)) (now (a .carts)) (now (a .messages)) (now (a .lines)) (now (a .texts))) _ (now (a .output)) _ (a .p) _ _ _ _ (s .pre .0) refl (h .0 .1) (line-written (a .index) _ (h .1) (c .before .before .before .before .before .print .ensures))
     (ap (λ (k : ℕ). a .p .read + k) (c .before .before .size-of .ensures)) refl refl
 
@@ -61,7 +61,7 @@ pub take-event-spec : {M : Type 1} → statement M
 take-event-spec =
     tie.close
     (tie.spec
-    happen-requires
+    dispatch-requires
     print-requires
     size-of-requires
     add-t32

@@ -13,7 +13,7 @@ shr-result c = search needs
 
 returns : tie.Need-returns
 unfolding has
-returns c = ap (λ (x : ℕ). eqb x 1) (and-mask (c .args .set / 2 ^ c .args .cart) 1)
+returns c = ap (λ (x : ℕ). eqb x 1) (and-mask (c .args .set / 2 ^ c .args .member) 1)
 
 pub has-spec : {M : Type 1} → statement M
 has-spec = tie.close (tie.spec shr-result returns)

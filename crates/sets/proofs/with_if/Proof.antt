@@ -12,7 +12,7 @@ with-member-requires c κs = search needs
 returns : tie.Need-returns
 returns c =
     let a = c .before .before .args in
-    c .with-member .ensures ∙ ap (λ (b : Bool). cond b (with (a .set) (a .cart)) (a .set)) (sym (c .before .if1 .taken))
+    c .with-member .ensures ∙ ap (λ (b : Bool). cond b (with (a .set) (a .member)) (a .set)) (sym (c .before .if1 .taken))
 
 returns-2 : tie.Need-returns-2
 returns-2 c = search needs

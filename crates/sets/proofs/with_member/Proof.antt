@@ -14,7 +14,7 @@ union-requires c κs = search needs
 
 returns : tie.Need-returns
 unfolding with
-returns c = c .union .ensures ∙ ap (union (c .before .args .set)) (one-shifted (c .before .args .cart) (search needs))
+returns c = c .union .ensures ∙ ap (union (c .before .args .set)) (one-shifted (c .before .args .member) (search needs))
 
 pub with-member-spec : {M : Type 1} → statement M
 with-member-spec = tie.close (tie.spec shl-union union-requires returns)

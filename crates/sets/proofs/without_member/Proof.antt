@@ -14,7 +14,7 @@ minus-requires c κs = search needs
 
 returns : tie.Need-returns
 unfolding without
-returns c = c .minus .ensures ∙ ap (minus (c .before .args .set)) (one-shifted (c .before .args .cart) (search needs))
+returns c = c .minus .ensures ∙ ap (minus (c .before .args .set)) (one-shifted (c .before .args .member) (search needs))
 
 pub without-member-spec : {M : Type 1} → statement M
 without-member-spec = tie.close (tie.spec shl-minus minus-requires returns)

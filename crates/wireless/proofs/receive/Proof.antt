@@ -25,8 +25,8 @@ with-member-requires c κs = search needs
 put-acks-requires : tie.Need-put-acks-requires
 put-acks-requires c κs = search needs
 
-rise-requires : tie.Need-rise-requires
-rise-requires c κs = let p = c .before .before .before .before .before .before .before .before .before .before .before .before .before .before .before .before .before .pre in (p .1 .0, p .0 .2, p .0 .3)
+raise-next-requires : tie.Need-raise-next-requires
+raise-next-requires c κs = let p = c .before .before .before .before .before .before .before .before .before .before .before .before .before .before .before .before .before .pre in (p .1 .0, p .0 .2, p .0 .3)
 
 same-length : tie.Need-same-length
 same-length c = search needs
@@ -43,7 +43,7 @@ returns c =
     let acks = c .before .before .before .before .before .before .before .before .before .acks-of in
     let joined = c .before .before .before .before .before .before .before .with-member in
     let acked = c .before .before .before .before .before .before .put-acks in
-    let risen = c .before .before .rise .ensures in
+    let risen = c .before .before .raise_next .ensures in
     record {
       stations = received-stations (stationsIn (a .stations .now)) (stationsIn (queued .last .0)) (stationsIn (acked .last .0)) (a .m) (a .station .0) (a .number .0)
           (queue .result) (left .result) (acks .result) (joined .result)
@@ -66,7 +66,7 @@ receive-spec =
     acks-of-requires
     with-member-requires
     put-acks-requires
-    rise-requires
+    raise-next-requires
     same-length
     same-length-2
     returns)

@@ -1,4 +1,4 @@
--- `frame_run::happen` meets its contract.
+-- `frame_run::dispatch` meets its contract.
 use mathlib.Core.Path.{ap}
 use native.Mathlib.Omega.{arith}
 use lib.ListN.{drop}
@@ -8,8 +8,8 @@ use Rattle.view.specs.View.{lent}
 use Rattle.frames.specs.Decoded.{eventIn, sizeOf}
 use Rattle.frame_run.proofs.Events.{told-plainly, for-event, send-is, short-part}
 use borrow.Author.Needs.{needs}
-use Rattle.frame_run.proofs.happen.Statement.{statement}
-use Rattle.frame_run.proofs.happen.Tie as tie
+use Rattle.frame_run.proofs.dispatch.Statement.{statement}
+use Rattle.frame_run.proofs.dispatch.Tie as tie
 
 enum-known-e : tie.Need-enum-known-e
 enum-known-e c = search needs
@@ -209,8 +209,8 @@ same-length-36 c = search needs
 returns-6 : tie.Need-returns-6
 returns-6 c = let a = c .before .before .before .before .before .before .before .before .before .before .before .before .before .before .before .before .before .before .before .before .before .before .before .before .before .before .before .before .before .args in (for-event (lent wholeFloor (now (a .stations)) (now (a .carts)) (now (a .messages)) (now (a .lines)) (now (a .texts))) _ _ _ (c .before .before .before .before .before .before .before .before .move-cart .result) _ (ap (eventIn (drop (a .at) (now (a .input)))) (c .before .before .before .before .before .before .before .before .before .before .before .before .before .before .before .before .before .before .before .e6 .given .1)) (c .before .before .before .before .before .before .before .before .move-cart .ensures), c .before .before .before .before .before .before .before .before .before .before .before .before .before .before .before .before .put-index6 .ensures)
 
-pub happen-spec : {M : Type 1} → statement M
-happen-spec =
+pub dispatch-spec : {M : Type 1} → statement M
+dispatch-spec =
     tie.close
     (tie.spec
     enum-known-e

@@ -1,4 +1,4 @@
--- `form_lines::on_handoff` meets its contract.
+-- `form_lines::note_handoff` meets its contract.
 use borrow.Author.Needs.{needs}
 use mathlib.Core.Path.{sym, ap, _∙_}
 use mathlib.Core.Bool.{not}
@@ -10,8 +10,8 @@ use Rattle.form_lines.specs.Said.{aDeregister}
 use Rattle.form_lines.specs.Pass.{metSo, fresh, note}
 use Rattle.form_lines.specs.Ways.{metOf}
 use Rattle.form_lines.proofs.StepLaws.{off-first, off-second, on-both}
-use Rattle.form_lines.proofs.on_handoff.Statement.{statement}
-use Rattle.form_lines.proofs.on_handoff.Tie as tie
+use Rattle.form_lines.proofs.note_handoff.Statement.{statement}
+use Rattle.form_lines.proofs.note_handoff.Tie as tie
 
 failed-requires : tie.Need-failed-requires
 failed-requires c κs = search needs
@@ -37,8 +37,8 @@ returns-3 : tie.Need-returns-3
 unfolding fresh note
 returns-3 c = λ seen. on-both (c .before .before .before .before .args .right) (not (has ((c .before .before .before .before .args .way) .found) (c .before .before .before .before .args .cart))) (metOf (c .before .before .before .before .args .way) seen) (aDeregister (c .before .before .before .before .args .cart)) (metSo ((c .before .before .before .before .args .way) .ok) ((c .before .before .before .before .args .way) .next) ((c .before .before .before .before .args .way) .gone) (c .with-member .result) seen) (c .before .before .before .if1 .left) (ap not (sym (c .before .before .has .ensures) ∙ c .before .if2 .left)) (ap (λ (y : ℕ). metSo ((c .before .before .before .before .args .way) .ok) ((c .before .before .before .before .args .way) .next) ((c .before .before .before .before .args .way) .gone) y seen) (c .with-member .ensures))
 
-pub on-handoff-spec : {M : Type 1} → statement M
-on-handoff-spec =
+pub note-handoff-spec : {M : Type 1} → statement M
+note-handoff-spec =
     tie.close
     (tie.spec
     failed-requires

@@ -1,12 +1,12 @@
--- `wireless::rise` meets its contract.
+-- `wireless::raise_next` meets its contract.
 use mathlib.Core.Path.{ap, _∙_}
 use native.Mathlib.Omega.{arith}
 use Rattle.carts.specs.View.{cartsIn, withNext}
 use Rattle.carts.proofs.TableLaws.{next-beyond}
 use Rattle.carts.proofs.StepLaws.{receive-entry}
 use borrow.Author.Needs.{needs}
-use Rattle.wireless.proofs.rise.Statement.{statement}
-use Rattle.wireless.proofs.rise.Tie as tie
+use Rattle.wireless.proofs.raise_next.Statement.{statement}
+use Rattle.wireless.proofs.raise_next.Tie as tie
 
 returns : tie.Need-returns
 returns c = absurd (omega (arith, c .before .before .pre .1, c .if1 .taken))
@@ -39,8 +39,8 @@ returns-2 c =
     let risen = receive-entry (cartsIn (a .carts .now)) (next-beyond (a .carts .now)) (a .number .0) (k .result) (k .ensures) (a .initiator) (a .n) (r .result) (p .1) (omega (arith, p .2)) (r .ensures) in
     (risen, (kept .0 ∙ ap (withNext (cartsIn (a .carts .now)) (a .number .0) (a .initiator .0)) risen, kept .1))
 
-pub rise-spec : {M : Type 1} → statement M
-rise-spec =
+pub raise-next-spec : {M : Type 1} → statement M
+raise-next-spec =
     tie.close
     (tie.spec
     returns

@@ -1,4 +1,4 @@
--- `form_tables::gather` meets its contract. The invariant: the entries at the stations passed are collected.
+-- `form_tables::gather_entries` meets its contract. The invariant: the entries at the stations passed are collected.
 use Prim.Native.Nat.{ℕ, _-_, _≤_}
 use native.Mathlib.Omega.{arith}
 use borrow.Author.Needs.{needs}
@@ -6,8 +6,8 @@ use mathlib.Core.Path.{_≡_, subst}
 use Rattle.stations.specs.View.{stationsIn}
 use Rattle.form_tables.specs.Parts.{Entries}
 use Rattle.form_tables.proofs.Queues.{entries-none, entries-more}
-use Rattle.form_tables.proofs.gather.Statement.{statement}
-use Rattle.form_tables.proofs.gather.Tie as tie
+use Rattle.form_tables.proofs.gather_entries.Statement.{statement}
+use Rattle.form_tables.proofs.gather_entries.Tie as tie
 
 abbrev Inv-loop : tie.InvT-loop
 Inv-loop stations m n sets₀ queued₀ strays₀ t₀ sets queued strays t = (t ≤ n) × Entries (stationsIn stations) m t sets queued strays
@@ -82,8 +82,8 @@ returns c =
     let e : a .t ≡ s .args .n = omega arith in
     subst (λ (t : ℕ). Entries (stationsIn (s .args .stations .now)) (s .args .m) t (a .sets) (a .queued) (a .strays)) e (a .inv .1)
 
-pub gather-spec : {M : Type 1} → statement M
-gather-spec =
+pub gather-entries-spec : {M : Type 1} → statement M
+gather-entries-spec =
     tie.close
     (tie.spec
     Inv-loop

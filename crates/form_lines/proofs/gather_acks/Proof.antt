@@ -1,4 +1,4 @@
--- `form_lines::gather` meets its contract.
+-- `form_lines::gather_acks` meets its contract.
 use borrow.Author.Needs.{needs}
 use mathlib.Core.Path.{refl, ap, ap₂, _∙_, _≡_}
 use Prim.Native.Nat.{ℕ, _-_, _≤_}
@@ -10,8 +10,8 @@ use Rattle.messages.specs.View.{roomsIn}
 use Rattle.stations.specs.View.{stationsIn}
 use Rattle.form_lines.specs.Pass.{gathered, apart}
 use Rattle.form_lines.proofs.PassLaws.{every-next, gathered-next}
-use Rattle.form_lines.proofs.gather.Statement.{statement}
-use Rattle.form_lines.proofs.gather.Tie as tie
+use Rattle.form_lines.proofs.gather_acks.Statement.{statement}
+use Rattle.form_lines.proofs.gather_acks.Tie as tie
 
 abbrev Inv-loop : tie.InvT-loop
 Inv-loop stations messages n m carts₀ apart₀ t₀ carts apart t =
@@ -52,8 +52,8 @@ returns : tie.Need-returns Inv-loop μ-loop
 unfolding apart
 returns c = let z : c .before .loop .t ≡ (c .before .before .before .before .before .args .n) = omega arith in (c .before .loop .inv .2 ∙ ap (λ (x : ℕ). every x (λ u. disjoint 64 ((stationsIn (now (c .before .before .before .before .before .args .stations))) .acks (c .before .before .before .before .before .args .m) u) (gathered (stationsIn (now (c .before .before .before .before .before .args .stations))) (roomsIn (now (c .before .before .before .before .before .args .messages))) (c .before .before .before .before .before .args .m) u))) z, c .before .loop .inv .1 ∙ ap (λ (x : ℕ). gathered (stationsIn (now (c .before .before .before .before .before .args .stations))) (roomsIn (now (c .before .before .before .before .before .args .messages))) (c .before .before .before .before .before .args .m) x) z)
 
-pub gather-spec : {M : Type 1} → statement M
-gather-spec =
+pub gather-acks-spec : {M : Type 1} → statement M
+gather-acks-spec =
     tie.close
     (tie.spec
     Inv-loop

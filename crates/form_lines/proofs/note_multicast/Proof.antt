@@ -1,4 +1,4 @@
--- `form_lines::on_multicast` meets its contract.
+-- `form_lines::note_multicast` meets its contract.
 use borrow.Author.Needs.{needs}
 use mathlib.Core.Bool.{_&&_}
 use lib.Dec.{eqb}
@@ -6,8 +6,8 @@ use Rattle.form_lines.specs.Said.{aMulticast}
 use Rattle.form_lines.specs.Pass.{fresh}
 use Rattle.form_lines.specs.Ways.{metOf}
 use Rattle.form_lines.proofs.StepLaws.{off-both, counts-on}
-use Rattle.form_lines.proofs.on_multicast.Statement.{statement}
-use Rattle.form_lines.proofs.on_multicast.Tie as tie
+use Rattle.form_lines.proofs.note_multicast.Statement.{statement}
+use Rattle.form_lines.proofs.note_multicast.Tie as tie
 
 both-requires : tie.Need-both-requires
 both-requires c κs = search needs
@@ -25,5 +25,5 @@ add-t8 c = search needs
 returns-2 : tie.Need-returns-2
 returns-2 c = λ seen. counts-on (c .before .before .before .args .way) (c .before .before .before .args .right) (c .before .both .result) (c .before .before .before .args .m) (c .before .before .before .args .number) seen (c .before .both .ensures) (c .if1 .left)
 
-pub on-multicast-spec : {M : Type 1} → statement M
-on-multicast-spec = tie.close (tie.spec both-requires failed-requires returns add-t8 returns-2)
+pub note-multicast-spec : {M : Type 1} → statement M
+note-multicast-spec = tie.close (tie.spec both-requires failed-requires returns add-t8 returns-2)

@@ -1,4 +1,4 @@
--- `form_lines::on_ack_list` meets its contract.
+-- `form_lines::note_ack_list` meets its contract.
 use borrow.Author.Needs.{needs}
 use mathlib.Core.Path.{refl, sym, ap, _∙_}
 use Prim.Native.Nat.{ℕ}
@@ -11,8 +11,8 @@ use Rattle.form_lines.specs.Said.{anAckList}
 use Rattle.form_lines.specs.Pass.{fresh, note}
 use Rattle.form_lines.specs.Ways.{metOf}
 use Rattle.form_lines.proofs.StepLaws.{off-first, off-second, on-both}
-use Rattle.form_lines.proofs.on_ack_list.Statement.{statement}
-use Rattle.form_lines.proofs.on_ack_list.Tie as tie
+use Rattle.form_lines.proofs.note_ack_list.Statement.{statement}
+use Rattle.form_lines.proofs.note_ack_list.Tie as tie
 
 failed-requires : tie.Need-failed-requires
 failed-requires c κs = search needs
@@ -53,8 +53,8 @@ returns-3 : tie.Need-returns-3
 unfolding fresh note
 returns-3 c = ((λ x. on-both (c .before .before .before .before .before .before .args .right) (disjoint 64 (c .before .before .before .before .before .before .args .carts) (getD (now (c .before .before .before .before .before .before .args .masks)) (c .before .before .before .before .before .before .args .m) 0)) (metOf (c .before .before .before .before .before .before .args .way) (now (c .before .before .before .before .before .before .args .masks))) (anAckList (c .before .before .before .before .before .before .args .m) x (c .before .before .before .before .before .before .args .carts)) (metOf (c .before .before .before .before .before .before .args .way) (set (now (c .before .before .before .before .before .before .args .masks)) (c .before .before .before .before .before .before .args .m) (c .union .result))) (c .before .before .before .before .if1 .left) (sym (c .before .before .is-disjoint .ensures) ∙ not-false (c .before .before .is-disjoint .result) (c .before .if2 .left)) (ap (λ (y : ℕ). metOf (c .before .before .before .before .before .before .args .way) (set (now (c .before .before .before .before .before .before .args .masks)) (c .before .before .before .before .before .before .args .m) y)) (c .union .ensures))), length-set (now (c .before .before .before .before .before .before .args .masks)) (c .before .before .before .before .before .before .args .m) (c .union .result))
 
-pub on-ack-list-spec : {M : Type 1} → statement M
-on-ack-list-spec =
+pub note-ack-list-spec : {M : Type 1} → statement M
+note-ack-list-spec =
     tie.close
     (tie.spec
     failed-requires
