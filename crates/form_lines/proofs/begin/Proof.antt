@@ -52,7 +52,7 @@ loop-less : tie.Need-loop-less Inv-loop μ-loop
 loop-less c = omega arith
 
 loop-again : tie.Need-loop-again Inv-loop μ-loop
-loop-again c = (omega arith, length-set (c .before .before .before .before .before .loop .masks) (c .before .before .before .before .before .loop .m) (c .before .before .before .gather_acks .result .carts) ∙ c .before .before .before .before .before .loop .inv .1, read-one (λ x. gathered (stationsIn (now (c .before .before .before .before .before .before .before .before .before .args .stations))) (roomsIn (now (c .before .before .before .before .before .before .before .before .before .args .messages))) x (c .before .before .before .before .before .before .before .before .before .args .n)) (c .before .before .before .before .before .loop .masks) (c .before .before .before .before .before .loop .m) (c .before .before .before .gather_acks .result .carts) (omega arith) (c .before .before .before .gather_acks .ensures .1) (c .before .before .before .before .before .loop .inv .2), every-next (λ x. not (isTaken (roomsIn (now (c .before .before .before .before .before .before .before .before .before .args .messages))) x) || apart (stationsIn (now (c .before .before .before .before .before .before .before .before .before .args .stations))) (roomsIn (now (c .before .before .before .before .before .before .before .before .before .args .messages))) x (c .before .before .before .before .before .before .before .before .before .args .n)) (c .before .before .before .before .before .loop .m) (c .before .before .before .before .before .loop .ok) (c .before .either .result) (c .both .result) (c .before .before .before .before .before .loop .inv .3) (taken-test (roomsIn (now (c .before .before .before .before .before .before .before .before .before .args .messages))) (c .before .before .before .before .before .loop .m) (c .before .before .waiting-by .result) (c .before .before .before .gather_acks .result .apart) (apart (stationsIn (now (c .before .before .before .before .before .before .before .before .before .args .stations))) (roomsIn (now (c .before .before .before .before .before .before .before .before .before .args .messages))) (c .before .before .before .before .before .loop .m) (c .before .before .before .before .before .before .before .before .before .args .n)) (c .before .either .result) (c .before .before .waiting-by .ensures) (c .before .before .before .gather_acks .ensures .0) (c .before .either .ensures)) (c .both .ensures))
+loop-again c = (omega arith, length-set (c .before .before .before .before .before .loop .masks) (c .before .before .before .before .before .loop .m) (c .before .before .before .gather-acks .result .carts) ∙ c .before .before .before .before .before .loop .inv .1, read-one (λ x. gathered (stationsIn (now (c .before .before .before .before .before .before .before .before .before .args .stations))) (roomsIn (now (c .before .before .before .before .before .before .before .before .before .args .messages))) x (c .before .before .before .before .before .before .before .before .before .args .n)) (c .before .before .before .before .before .loop .masks) (c .before .before .before .before .before .loop .m) (c .before .before .before .gather-acks .result .carts) (omega arith) (c .before .before .before .gather-acks .ensures .1) (c .before .before .before .before .before .loop .inv .2), every-next (λ x. not (isTaken (roomsIn (now (c .before .before .before .before .before .before .before .before .before .args .messages))) x) || apart (stationsIn (now (c .before .before .before .before .before .before .before .before .before .args .stations))) (roomsIn (now (c .before .before .before .before .before .before .before .before .before .args .messages))) x (c .before .before .before .before .before .before .before .before .before .args .n)) (c .before .before .before .before .before .loop .m) (c .before .before .before .before .before .loop .ok) (c .before .either .result) (c .both .result) (c .before .before .before .before .before .loop .inv .3) (taken-test (roomsIn (now (c .before .before .before .before .before .before .before .before .before .args .messages))) (c .before .before .before .before .before .loop .m) (c .before .before .waiting-by .result) (c .before .before .before .gather-acks .result .apart) (apart (stationsIn (now (c .before .before .before .before .before .before .before .before .before .args .stations))) (roomsIn (now (c .before .before .before .before .before .before .before .before .before .args .messages))) (c .before .before .before .before .before .loop .m) (c .before .before .before .before .before .before .before .before .before .args .n)) (c .before .either .result) (c .before .before .waiting-by .ensures) (c .before .before .before .gather-acks .ensures .0) (c .before .either .ensures)) (c .both .ensures))
 
 same-length : tie.Need-same-length Inv-loop μ-loop
 same-length c = c .before .loop .inv .1 ∙ sym (c .before .before .before .before .before .pre .0)

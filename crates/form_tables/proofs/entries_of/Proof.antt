@@ -17,21 +17,21 @@ returns : tie.Need-returns
 returns c =
     let s = c .before .before .before .before .before .before in
     let a = s .args in
-    let g = c .before .before .gather_entries in
+    let g = c .before .before .gather-entries in
     entries-large (a .stations .now) (a .carts .now) (a .messages .now) (a .rows) (a .m) (g .result .sets) (g .result .queued) (g .result .strays) (g .ensures) (s .pre .2) (a .most) (omega arith) (s .pre .3) (c .if1 .taken)
 
 returns-2 : tie.Need-returns-2
 returns-2 c =
     let s = c .before .before .before .before .before .before .before .before in
     let a = s .args in
-    let g = c .before .before .before .before .gather_entries in
+    let g = c .before .before .before .before .gather-entries in
     entries-stray (a .stations .now) (a .carts .now) (a .messages .now) (a .rows) (a .m) (g .result .sets) (g .result .queued) (g .result .strays) (g .ensures) (s .pre .2) (omega arith) (c .if2 .taken)
 
 returns-3 : tie.Need-returns-3
 returns-3 c =
     let s = c .before .before .before .before .before .before .before .before .before .before in
     let a = s .args in
-    let g = c .before .before .before .before .before .before .gather_entries in
+    let g = c .before .before .before .before .before .before .gather-entries in
     let F = tables (a .stations .now) (a .carts .now) (a .messages .now) in
     entries-empty (a .stations .now) (a .carts .now) (a .messages .now) (a .rows) (a .m) (g .result .sets) (g .result .queued) (g .result .strays) (g .ensures) (s .pre .2) (within-most (F .carts) (g .result .sets) (omega arith) (a .most) (s .pre .3) (c .before .before .before .before .if1 .left)) (c .if3 .taken)
 
@@ -42,7 +42,7 @@ returns-4 : tie.Need-returns-4
 returns-4 c =
     let s = c .before .before .before .before .before .before .before .before .before .before .before .before in
     let a = s .args in
-    let g = c .before .before .before .before .before .before .before .before .gather_entries in
+    let g = c .before .before .before .before .before .before .before .before .gather-entries in
     let w = c .before .waiting-of in
     entries-free (a .stations .now) (a .carts .now) (a .messages .now) (a .rows) (a .m) (g .result .sets) (g .result .queued) (g .result .strays) (g .ensures) (s .pre .2) (omega arith) (omega arith) (sym (w .ensures) ∙ c .if4 .taken)
 
@@ -56,7 +56,7 @@ returns-5 : tie.Need-returns-5
 returns-5 c =
     let s = c .before .before .before .before .before .before .before .before .before .before .before .before .before .before .before in
     let a = s .args in
-    let g = c .before .before .before .before .before .before .before .before .before .before .before .gather_entries in
+    let g = c .before .before .before .before .before .before .before .before .before .before .before .gather-entries in
     let d = c .before .before .named-of in
     let t = c .before .is-within in
     entries-unnamed (a .stations .now) (a .carts .now) (a .messages .now) (a .rows) (a .m) (g .result .sets) (g .result .queued) (g .result .strays) (g .ensures) (s .pre .2) (d .result) (d .ensures) (t .result) (t .ensures) (not-true _ (c .if5 .taken))
@@ -71,7 +71,7 @@ all-next-requires : tie.Need-all-next-requires
 all-next-requires c κs =
     let s = c .before .before .before .before .before .before .before .before .before .before .before .before .before .before .before .before .before in
     let a = s .args in
-    let g = c .before .before .before .before .before .before .before .before .before .before .before .before .before .gather_entries in
+    let g = c .before .before .before .before .before .before .before .before .before .before .before .before .before .gather-entries in
     let F = tables (a .stations .now) (a .carts .now) (a .messages .now) in
     λ d q.
     let below = queued-below (a .stations .now) (a .carts .now) (a .messages .now) (a .rows) (a .m) (g .result .sets) (g .result .queued) (g .result .strays) (g .ensures) (s .pre .2)
@@ -83,7 +83,7 @@ returns-6 : tie.Need-returns-6
 returns-6 c =
     let s = c .before .before .before .before .before .before .before .before .before .before .before .before .before .before .before .before .before .before in
     let a = s .args in
-    let g = c .before .before .before .before .before .before .before .before .before .before .before .before .before .before .gather_entries in
+    let g = c .before .before .before .before .before .before .before .before .before .before .before .before .before .before .gather-entries in
     let F = tables (a .stations .now) (a .carts .now) (a .messages .now) in
     let w = c .before .before .before .before .before .before .before .waiting-of in
     let d = c .before .before .before .before .before .named-of in

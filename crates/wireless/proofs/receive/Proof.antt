@@ -43,7 +43,7 @@ returns c =
     let acks = c .before .before .before .before .before .before .before .before .before .acks-of in
     let joined = c .before .before .before .before .before .before .before .with-member in
     let acked = c .before .before .before .before .before .before .put-acks in
-    let risen = c .before .before .raise_next .ensures in
+    let risen = c .before .before .raise-next .ensures in
     record {
       stations = received-stations (stationsIn (a .stations .now)) (stationsIn (queued .last .0)) (stationsIn (acked .last .0)) (a .m) (a .station .0) (a .number .0)
           (queue .result) (left .result) (acks .result) (joined .result)
