@@ -1,4 +1,4 @@
-//! The proved form test. It asks nothing of its slices: `crates/formtest/src/lib.rt`.
+//! The proved form test. It asks nothing of its slices: `crates/form_test/src/lib.rt`.
 
 mod linked {
     extern "C" {

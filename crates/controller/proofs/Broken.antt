@@ -1,4 +1,4 @@
--- A FLOOR THAT BREAKS THE FORM RULE is refused with 5: the first check of every event but a start, whose own 5 is in `starting`, and a send, whose
+-- A FLOOR THAT BREAKS THE FORM RULE is refused with 5: the first check of every event but a start, whose own 5 is in `event_start`, and a send, whose
 -- first is 4.
 use mathlib.Core.Path.{_≡_, refl, sym, _∙_}
 use mathlib.Core.Bool.{Bool, true, false}
