@@ -7,10 +7,9 @@ ghost use mathlib.Core.Path.{_≡_};
 ghost use mathlib.Core.Bool.{true};
 ghost use mathlib.Core.Option.{some};
 ghost use Prim.Native.Nat.{ℕ, _+_, _-_, _<_, _≤_};
-ghost use lib.ListN.{length};
 ghost use Rattle.protocol.specs.CartSets.{has};
 ghost use Rattle.protocol.specs.Folds.{listOf};
-ghost use Rattle.stations.specs.View.{initiators, rooms, HasStation, stationsIn, headIn, namingIn};
+ghost use Rattle.stations.specs.View.{initiators, rooms, HasStation, stationsIn, namingIn, Leaves};
 ghost use Rattle.messages.specs.View.{roomsIn};
 ghost use Rattle.queue.specs.Rooms.{tablesFloor, roomCount, HasRooms, roomCode, roomIn};
 ghost use Rattle.catchup.specs.Naming.{Covers, namedBy};
@@ -240,9 +239,7 @@ pub fn stop_of(
 // The cart is queued for the message in room m.
 fn enqueue_for(stations: &mut [u64], station: Station, cart: CartNumber, m: usize)
     requires { ⌜ HasStation (now stations) (station .0) × (cart .0 < 64) × (m < rooms) ⌝ }
-    ensures { λ _. ⌜ stationsIn (now (stations .exit)) ≡ queuedFor (stationsIn (now (stations .entry))) (station .0) (cart .0) (isFound (some m)) ⌝ }
-    ensures { λ _. ⌜ headIn (now (stations .exit)) ≡ headIn (now (stations .entry)) ⌝ }
-    ensures { λ _. ⌜ length (now (stations .exit)) ≡ length (now (stations .entry)) ⌝ }
+    ensures { λ _. ⌜ Leaves (now (stations .entry)) (now (stations .exit)) (queuedFor (stationsIn (now (stations .entry))) (station .0) (cart .0) (isFound (some m))) ⌝ }
 {
     let carts = sets::with_member(stations::queue_of(stations, m, station), cart.0);
     stations::put_queue(stations, m, station, carts);
@@ -251,9 +248,7 @@ fn enqueue_for(stations: &mut [u64], station: Station, cart: CartNumber, m: usiz
 // "queue the cart for it": for the nearest message, if there is one.
 pub fn enqueue(stations: &mut [u64], station: Station, cart: CartNumber, nearest: usize)
     requires { ⌜ HasStation (now stations) (station .0) × (cart .0 < 64) ⌝ }
-    ensures { λ _. ⌜ stationsIn (now (stations .exit)) ≡ queuedFor (stationsIn (now (stations .entry))) (station .0) (cart .0) (isFound (roomIn nearest)) ⌝ }
-    ensures { λ _. ⌜ headIn (now (stations .exit)) ≡ headIn (now (stations .entry)) ⌝ }
-    ensures { λ _. ⌜ length (now (stations .exit)) ≡ length (now (stations .entry)) ⌝ }
+    ensures { λ _. ⌜ Leaves (now (stations .entry)) (now (stations .exit)) (queuedFor (stationsIn (now (stations .entry))) (station .0) (cart .0) (isFound (roomIn nearest))) ⌝ }
 {
     if nearest < queue::NONE {
         enqueue_for(stations, station, cart, nearest);
@@ -271,9 +266,7 @@ pub fn enqueue_all(
 )
     requires { ⌜ OwnRooms (roomCount (now messages)) (roomsIn (now messages)) naming nearest ⌝ }
     requires { ⌜ HasStation (now stations) (station .0) × HasRooms (now messages) × (cart .0 < 64) ⌝ }
-    ensures { λ _. ⌜ stationsIn (now (stations .exit)) ≡ queuedFor (stationsIn (now (stations .entry))) (station .0) (cart .0) (occurs nearest 16) ⌝ }
-    ensures { λ _. ⌜ headIn (now (stations .exit)) ≡ headIn (now (stations .entry)) ⌝ }
-    ensures { λ _. ⌜ length (now (stations .exit)) ≡ length (now (stations .entry)) ⌝ }
+    ensures { λ _. ⌜ Leaves (now (stations .entry)) (now (stations .exit)) (queuedFor (stationsIn (now (stations .entry))) (station .0) (cart .0) (occurs nearest 16)) ⌝ }
 {
     let mut left = naming;
     while 0 < left {

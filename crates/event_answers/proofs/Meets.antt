@@ -16,6 +16,8 @@ use Rattle.stations.specs.View.{HasHead, headIn}
 use Rattle.view.specs.View.{Lent, floorIn}
 use Rattle.view.proofs.Lengths.{nothing-beyond}
 use Rattle.view.proofs.Standing.{Standing, standing}
+use Rattle.reports.specs.declared.Effect.{Effect}
+use Rattle.event_answers.specs.Answers.{says}
 use Rattle.event_answers.specs.Met.{Met}
 
 module _ (L : Lent) (e : Event) where
@@ -53,6 +55,10 @@ module _ (L : Lent) (e : Event) where
         floor = rw q f;
         untouched = λ k z. absurd (let y : _≡_ {A = ℕ} 0 1 = cc z in omega arith);
       }
+
+-- an event that was met is met with whatever counts the same
+pub meets-counted : (L L′ : Lent) (e : Event) (kind a b : ℕ) (f g : Effect) → f ≡ g → Met L L′ e (says kind a b g) → Met L L′ e (says kind a b f)
+meets-counted L L′ e kind a b f g same met = subst (λ (h : Effect). Met L L′ e (says kind a b h)) (sym same) met
 
 -- what the checks of a call ask of a floor that passes: its own row, and a row for each of its carts
 pub checks-ready : (L : Lent) → passesForm (limitsOf (L .product)) (floorIn L) ≡ true → HasHead (L .stations) × (headIn (L .stations) .carts * 19 ≤ length (L .carts))

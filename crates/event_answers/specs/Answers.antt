@@ -1,53 +1,70 @@
 -- THE ANSWERS, in 01's numbers and values: "index from 0, kind, a, b, p, w. Refused: index, no, refusal".
+use mathlib.Core.Bool.{true, false, cond}
 use mathlib.Core.List.{List, []}
 use Prim.Native.Nat.{ℕ}
 use lib.ListN.{take}
 use Rattle.protocol.specs.Events.{refused, accepted}
 use Rattle.protocol.specs.Events as events
+use Rattle.reports.specs.declared.Effect.{Effect}
+use Rattle.reports.specs.declared.Report.{Report}
+use Rattle.reports.specs.Effects.{nothing, acceptedIn}
+use Rattle.event_answers.specs.declared.Outcome.{Outcome}
+use Rattle.event_answers.specs.declared.Outcome.the-variants.{Started, Entered, Sent, Buffered, Acknowledged, Deleted, Deregistered, Registered, Received, Moved}
 use Rattle.event_answers.specs.declared.Answer.{Answer}
-use Rattle.event_answers.specs.declared.Answer.the-variants.{Refused, Started, Entered, Sent, Buffered, Acknowledged, Deleted, Deregistered, Registered, Received, Moved}
+use Rattle.event_answers.specs.declared.Answer.the-variants.{Refused, Accepted}
+use Rattle.event_answers.specs.declared.Told.{Told}
 
--- "kind, a, b, p, w"; "Radio adds the text"
-abbrev pub says : ℕ → ℕ → ℕ → ℕ → ℕ → List ℕ → events.Answer
-says kind a b p w text = accepted (record { kind = kind; a = a; b = b; p = p; w = w; text = text })
+-- kind, a, b, and what the step counted
+abbrev pub values : ℕ → ℕ → ℕ → Effect → Report
+values kind a b f = record { kind = kind; a = a; b = b; effect = f }
 
 -- "a, b: start, stations and carts; enter, station and cart; send, station and number; wire, record kind and message number (cart for 4 and
--- 5); radio, initiator and number; move, cart and to". The text of a radio step stands at the front of the octets lent for it.
-abbrev pub answerIn : Answer → List ℕ → events.Answer
-answerIn (Refused r) octets = refused r
-answerIn (Started n k) octets = says 0 n k 0 0 []
-answerIn (Entered t c p) octets = says 1 (t .0) (c .0) p 0 []
-answerIn (Sent s n w) octets = says 2 (s .0) (n .0) 0 w []
-answerIn (Buffered n p) octets = says 3 1 (n .0) p 0 []
-answerIn (Acknowledged n w) octets = says 3 2 (n .0) 0 w []
-answerIn (Deleted n) octets = says 3 3 (n .0) 0 0 []
-answerIn (Deregistered c) octets = says 3 4 (c .0) 0 1 []
-answerIn (Registered c p) octets = says 3 5 (c .0) p 0 []
-answerIn (Received s n p w size) octets = says 4 (s .0) (n .0) p w (take size octets)
-answerIn (Moved c to) octets = says 5 (c .0) (to .0) 0 1 []
+-- 5); radio, initiator and number; move, cart and to"
+abbrev pub reportOf : Outcome → Effect → Report
+reportOf (Started n k) f = values 0 n k f
+reportOf (Entered t c) f = values 1 (t .0) (c .0) f
+reportOf (Sent s n) f = values 2 (s .0) (n .0) f
+reportOf (Buffered n) f = values 3 1 (n .0) f
+reportOf (Acknowledged n) f = values 3 2 (n .0) f
+reportOf (Deleted n) f = values 3 3 (n .0) f
+reportOf (Deregistered c) f = values 3 4 (c .0) f
+reportOf (Registered c) f = values 3 5 (c .0) f
+reportOf (Received s n size) f = values 4 (s .0) (n .0) f
+reportOf (Moved c to) f = values 5 (c .0) (to .0) f
 
--- the number of a refusal, 0 for what was accepted
-abbrev pub refusalNumber : events.Answer → ℕ
-refusalNumber (refused r) = r
-refusalNumber (accepted l) = 0
+-- "Radio adds the text": how many octets; the others add none
+abbrev pub octetsOf : Outcome → ℕ
+octetsOf (Started n k) = 0
+octetsOf (Entered t c) = 0
+octetsOf (Sent s n) = 0
+octetsOf (Buffered n) = 0
+octetsOf (Acknowledged n) = 0
+octetsOf (Deleted n) = 0
+octetsOf (Deregistered c) = 0
+octetsOf (Registered c) = 0
+octetsOf (Received s n size) = size
+octetsOf (Moved c to) = 0
 
--- the same of an answer, for which the octets do not matter
-abbrev pub refusalIn : Answer → ℕ
-refusalIn a = refusalNumber (answerIn a [])
+-- the same in numbers; what a refusal would report is not looked at
+abbrev pub toldOf : Answer → Told
+toldOf (Refused r) = record { «is_refused» = true; refusal = r; report = values 0 0 0 nothing; size = 0 }
+toldOf (Accepted o f) = record { «is_refused» = false; refusal = 0; report = reportOf o f; size = octetsOf o }
 
--- how many octets of text it says that it adds
+-- THE WRITTEN ANSWER that these numbers say, with that text
+abbrev pub toldIn : Told → List ℕ → events.Answer
+toldIn r text = cond (r .«is_refused») (refused (r .refusal)) (acceptedIn (r .report) text)
+
+-- how many octets of text an answer says that it adds
 abbrev pub octetsIn : Answer → ℕ
-octetsIn (Refused r) = 0
-octetsIn (Started n k) = 0
-octetsIn (Entered t c p) = 0
-octetsIn (Sent s n w) = 0
-octetsIn (Buffered n p) = 0
-octetsIn (Acknowledged n w) = 0
-octetsIn (Deleted n) = 0
-octetsIn (Deregistered c) = 0
-octetsIn (Registered c p) = 0
-octetsIn (Received s n p w size) = size
-octetsIn (Moved c to) = 0
+octetsIn a = toldOf a .size
+
+-- and the written answer that it says: the text of a radio step stands at the front of these octets
+abbrev pub answerIn : Answer → List ℕ → events.Answer
+answerIn a octets = toldIn (toldOf a) (take (octetsIn a) octets)
+
+-- one without a text
+abbrev pub says : ℕ → ℕ → ℕ → Effect → events.Answer
+says kind a b f = acceptedIn (values kind a b f) []
 
 -- the text of a written answer: a refusal has none
 abbrev pub textOf : events.Answer → List ℕ

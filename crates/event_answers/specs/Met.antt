@@ -8,7 +8,7 @@ use Rattle.protocol.specs.Form.{passesForm}
 use Rattle.protocol.specs.Step.{step, answer}
 use Rattle.products.specs.declared.Bounds.{Bounds}
 use Rattle.products.specs.Numbers.{NumbersOf}
-use Rattle.view.specs.View.{Lent, floorIn}
+use Rattle.view.specs.View.{Lent, lengthsIn, floorIn}
 
 pub record Met (L L′ : Lent) (e : Event) (a : Answer) : Type 0 where
   -- the parts are lent for the same product as before
@@ -20,17 +20,23 @@ pub record Met (L L′ : Lent) (e : Event) (a : Answer) : Type 0 where
   -- "A refusal gives its number alone and changes no floor": no word of it
   pub untouched : (r : ℕ) → a ≡ refused r → L′ ≡ L
 
--- ONE STEP FOR EVERY PRODUCT: words that pass the form rule of some product, as the parts that are lent for it
-abbrev pub Passing : (Product → Lent) → Type 0
-Passing lent = (P : Product) × (passesForm (limitsOf P) (floorIn (lent P)) ≡ true)
+-- A FLOOR THAT EVENTS CAN GO ON WITH: its lent parts have their lengths, and if it is started it passes the form rule. One that is not started
+-- takes only a start
+pub record Ready (L : Lent) : Type 0 where
+  pub lengths : lengthsIn L ≡ true
+  pub passes : floorIn L .started ≡ true → passesForm (limitsOf (L .product)) (floorIn L) ≡ true
 
--- and the event is met by the limits of each product whose form rule they pass
+-- ONE EVENT FOR EVERY PRODUCT: words that are such a floor of some product, as the parts that are lent for it
+abbrev pub ReadyBySome : (Product → Lent) → Type 0
+ReadyBySome lent = (P : Product) × Ready (lent P)
+
+-- and the event is met by the limits of each product that they are such a floor of
 abbrev pub MetByEach : (Product → Lent) → (Product → Lent) → Event → Answer → Type 0
-MetByEach before after e a = (P : Product) → passesForm (limitsOf P) (floorIn (before P)) ≡ true → Met (before P) (after P) e a
+MetByEach before after e a = (P : Product) → Ready (before P) → Met (before P) (after P) e a
 
--- the same of a step that is handed its product's numbers
-abbrev pub PassingWith : Bounds → (Product → Lent) → Type 0
-PassingWith bounds lent = (P : Product) × NumbersOf P bounds × (passesForm (limitsOf P) (floorIn (lent P)) ≡ true)
+-- the same of an event that is handed its product's numbers
+abbrev pub ReadyWith : Bounds → (Product → Lent) → Type 0
+ReadyWith bounds lent = (P : Product) × NumbersOf P bounds × Ready (lent P)
 
 abbrev pub MetWith : Bounds → (Product → Lent) → (Product → Lent) → Event → Answer → Type 0
-MetWith bounds before after e a = (P : Product) → NumbersOf P bounds → passesForm (limitsOf P) (floorIn (before P)) ≡ true → Met (before P) (after P) e a
+MetWith bounds before after e a = (P : Product) → NumbersOf P bounds → Ready (before P) → Met (before P) (after P) e a

@@ -1,7 +1,7 @@
 -- AN ENTER MEETS ITS EVENT: what the code asks on the way, and what it leaves.
 use mathlib.Core.Path.{_≡_, refl, sym, _∙_}
 use mathlib.Core.Bool.{true, false}
-use mathlib.Core.List.{List, []}
+use mathlib.Core.List.{List}
 use Prim.Native.Nat.{ℕ, _<_, _≤_}
 use Rattle.protocol.specs.Floor.{Product, limitsOf}
 use Rattle.protocol.specs.Events.{enter}
@@ -17,9 +17,11 @@ use Rattle.view.specs.View.{Lent, lent, floorIn}
 use Rattle.view.proofs.Standing.{Standing, standing}
 use Rattle.handoff.specs.Arrived.{allZero, Arrived}
 use Rattle.handoff.proofs.EnterIs.{enter-ready, enter-fits, enter-rooms, enter-is, enter-reports}
+use Rattle.reports.specs.declared.Effect.{Effect}
+use Rattle.reports.specs.Effects.{passing}
 use Rattle.event_answers.specs.Answers.{says}
 use Rattle.event_answers.specs.Met.{Met}
-use Rattle.event_answers.proofs.Meets.{refusal-standing, meets-done}
+use Rattle.event_answers.proofs.Meets.{refusal-standing, meets-done, meets-counted}
 
 module _ (P : Product) (S C M W T : List ℕ) (t c : ℕ) (p : passesForm (limitsOf P) (floorIn (lent P S C M W T)) ≡ true) (free : 0 ≡ refusalIf (limitsOf P) (floorIn (lent P S C M W T)) false (enter t c)) where
   abbrev L : Lent
@@ -34,8 +36,10 @@ module _ (P : Product) (S C M W T : List ℕ) (t c : ℕ) (p : passesForm (limit
   pub enter-asks : (HasStation S t × HasRow C c × HasRooms M × (t < 16) × (c < 64)) × (((s : ℕ) → s < 16 → stationsIn S .expected t s ≤ 4294967295) × ((m : ℕ) → has (namingIn (stationsIn S) t c) m ≡ true → m < roomCount M))
   enter-asks = (enter-ready L X t c may, (enter-fits L X t c may, enter-rooms L X t c may))
 
-  pub meets-enter : (S′ C′ : List ℕ) (passed : ℕ) → Arrived S S′ C C′ M t c allZero passed → Met L (lent P S′ C′ M W T) (enter t c) (says 1 t c passed 0 [])
+  pub meets-enter : (S′ C′ : List ℕ) (f : Effect) → Arrived S S′ C C′ M t c allZero (f .passed) → f ≡ passing (f .passed)
+      → Met L (lent P S′ C′ M W T) (enter t c) (says 1 t c f)
   unfolding accept
-  meets-enter S′ C′ passed there =
-      meets-done L (enter t c) (lent P S′ C′ M W T) _ refl (refusal-standing L (enter t c) p ∙ sym free)
-      (enter-is S S′ C C′ M W T t c passed X may there) (sym (enter-reports S S′ C C′ M W T t c passed X may there))
+  meets-enter S′ C′ f there counted =
+      meets-counted L (lent P S′ C′ M W T) (enter t c) 1 t c f (passing (f .passed)) counted
+      (meets-done L (enter t c) (lent P S′ C′ M W T) _ refl (refusal-standing L (enter t c) p ∙ sym free)
+      (enter-is S S′ C C′ M W T t c (f .passed) X may there) (sym (enter-reports S S′ C C′ M W T t c (f .passed) X may there)))

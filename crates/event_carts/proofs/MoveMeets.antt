@@ -1,7 +1,7 @@
 -- A MOVE MEETS ITS EVENT: what the code asks on the way, and what it leaves.
 use mathlib.Core.Path.{_≡_, refl, sym, _∙_}
 use mathlib.Core.Bool.{true, false}
-use mathlib.Core.List.{List, []}
+use mathlib.Core.List.{List}
 use Prim.Native.Nat.{ℕ, _<_}
 use native.Mathlib.Omega.{arith}
 use Rattle.protocol.specs.Floor.{Product, limitsOf, at}
@@ -19,9 +19,11 @@ use Rattle.view.specs.View.{Lent, lent, floorIn}
 use Rattle.view.proofs.Standing.{Standing, standing}
 use Rattle.handoff.specs.Moved.{Moved}
 use Rattle.handoff.proofs.MoveIs.{is-somewhere, move-ready, deregister-fits, move-is, move-reports}
+use Rattle.reports.specs.declared.Effect.{Effect}
+use Rattle.reports.specs.Effects.{putting}
 use Rattle.event_answers.specs.Answers.{says}
 use Rattle.event_answers.specs.Met.{Met}
-use Rattle.event_answers.proofs.Meets.{refusal-standing, meets-done}
+use Rattle.event_answers.proofs.Meets.{refusal-standing, meets-done, meets-counted}
 
 module _ (P : Product) (S C M W T : List ℕ) (c to : ℕ) (p : passesForm (limitsOf P) (floorIn (lent P S C M W T)) ≡ true) (free : 0 ≡ refusalIf (limitsOf P) (floorIn (lent P S C M W T)) false (move c to)) where
   abbrev L : Lent
@@ -44,9 +46,10 @@ module _ (P : Product) (S C M W T : List ℕ) (c to : ℕ) (p : passesForm (limi
     pub move-asks : (HasRow C c × (c < 64) × (cartsIn C .place c ≡ at old)) × ((form W ≡ true) × (used W < capacity W) × (old < 16) × (to < 16))
     move-asks = (move-ready L X c to may old here, deregister-fits L X c to may old here)
 
-    pub meets-move : (C′ W′ : List ℕ) → Moved C C′ W W′ c old to → Met L (lent P S C′ M W′ T) (move c to) (says 5 c to 0 1 [])
+    pub meets-move : (C′ W′ : List ℕ) (f : Effect) → Moved C C′ W W′ c old to → f ≡ putting 1 → Met L (lent P S C′ M W′ T) (move c to) (says 5 c to f)
     unfolding accept
-    meets-move C′ W′ moved =
+    meets-move C′ W′ f moved counted =
         let a = move-asks in
-        meets-done L (move c to) (lent P S C′ M W′ T) _ refl (refusal-standing L (move c to) p ∙ sym free)
-        (move-is S C C′ M W W′ T c old to X (a .0 .1) (a .1 .2) (a .1 .3) here moved) (sym (move-reports (floorIn L) c to))
+        meets-counted L (lent P S C′ M W′ T) (move c to) 5 c to f (putting 1) counted
+        (meets-done L (move c to) (lent P S C′ M W′ T) _ refl (refusal-standing L (move c to) p ∙ sym free)
+        (move-is S C C′ M W W′ T c old to X (a .0 .1) (a .1 .2) (a .1 .3) here moved) (sym (move-reports (floorIn L) c to)))

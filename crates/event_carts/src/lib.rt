@@ -1,7 +1,8 @@
-// WHAT CARTS DO on a floor that passes the form rule: enter, and move. Each is refused first, "Checks run down the table", and then is its
-// step of the hand-off module.
+// WHAT CARTS DO on a floor that events can go on with: enter, and move. Each is refused first, "Checks run down the table", and then is its step
+// of the hand-off module.
 use carts::Place;
 use event_answers::Answer;
+use event_answers::Outcome;
 use ids::CartNumber;
 use ids::Station;
 ghost use mathlib.Core.Path.{_≡_};
@@ -17,7 +18,7 @@ ghost use Rattle.carts.specs.Words.{HasRow};
 ghost use Rattle.carts.specs.View.{cartsIn};
 ghost use Rattle.view.specs.View.{lent, floorIn};
 ghost use Rattle.event_answers.specs.Answers.{answerIn};
-ghost use Rattle.event_answers.specs.Met.{Passing, MetByEach};
+ghost use Rattle.event_answers.specs.Met.{ReadyBySome, MetByEach};
 
 // The refusal of an enter, 8 to 10, or 0.
 fn enter_refusal(stations: &[u64], carts: &[u64], station: Station, cart: CartNumber) -> u64
@@ -47,15 +48,18 @@ pub fn enter(
     station: Station,
     cart: CartNumber,
 ) -> Answer
-    requires { ⌜ Passing (λ P. lent P (now stations) (now carts) (now messages) (now lines) (now texts)) ⌝ }
+    requires { ⌜ ReadyBySome (λ P. lent P (now stations) (now carts) (now messages) (now lines) (now texts)) ⌝ }
     ensures { λ a. ⌜ MetByEach (λ P. lent P (now (stations .entry)) (now (carts .entry)) (now (messages .entry)) (now (lines .entry)) (now (texts .entry))) (λ P. lent P (now (stations .exit)) (now (carts .exit)) (now (messages .entry)) (now (lines .entry)) (now (texts .entry))) (enter (station .0) (cart .0)) (answerIn a []) ⌝ }
 {
+    if !stations::is_started(stations) {
+        return Answer::Refused(5);
+    }
     let refusal = enter_refusal(stations, carts, station, cart);
     if refusal != 0 {
         return Answer::Refused(refusal);
     }
-    let p = handoff::on_enter(stations, carts, messages, station, cart);
-    Answer::Entered(station, cart, p)
+    let effect = handoff::on_enter(stations, carts, messages, station, cart);
+    Answer::Accepted(Outcome::Entered(station, cart), effect)
 }
 
 // The refusal of a move, 8, 9 and 18 to 20, or 0.
@@ -100,14 +104,17 @@ pub fn move_cart(
     cart: CartNumber,
     to: Station,
 ) -> Answer
-    requires { ⌜ Passing (λ P. lent P (now stations) (now carts) (now messages) (now lines) (now texts)) ⌝ }
+    requires { ⌜ ReadyBySome (λ P. lent P (now stations) (now carts) (now messages) (now lines) (now texts)) ⌝ }
     ensures { λ a. ⌜ MetByEach (λ P. lent P (now (stations .entry)) (now (carts .entry)) (now (messages .entry)) (now (lines .entry)) (now (texts .entry))) (λ P. lent P (now (stations .entry)) (now (carts .exit)) (now (messages .entry)) (now (lines .exit)) (now (texts .entry))) (move (cart .0) (to .0)) (answerIn a []) ⌝ }
 {
+    if !stations::is_started(stations) {
+        return Answer::Refused(5);
+    }
     let refusal = move_refusal(stations, carts, cart, to);
     if refusal != 0 {
         return Answer::Refused(refusal);
     }
     let old = station_of(carts, cart);
-    handoff::on_move(carts, lines, cart, old, to);
-    Answer::Moved(cart, to)
+    let effect = handoff::on_move(carts, lines, cart, old, to);
+    Answer::Accepted(Outcome::Moved(cart, to), effect)
 }

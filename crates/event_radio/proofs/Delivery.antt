@@ -1,59 +1,90 @@
 -- A MESSAGE THAT WAS HANDED OVER, copied into the lent buffer: "writes the text at the front of the lent buffer and leaves the rest".
-use mathlib.Core.Path.{_≡_, sym, ap, _∙_, subst}
-use mathlib.Core.List.{List, [], _∷_, _++_}
-use Prim.Native.Nat.{ℕ, _≤_}
+use mathlib.Core.Path.{_≡_, refl, sym, ap, _∙_, subst}
+use mathlib.Core.Bool.{true, false}
+use mathlib.Core.List.{List, _++_}
+use Prim.Native.Nat.{ℕ, _*_, _≤_}
 use native.Mathlib.Omega.{arith}
 use lib.ListN.{length, take, drop}
 use lib.Seq.{take-length, take-append-le}
-use denote.Enum.Declared.{tagOf}
-use types.Run.{OneOf}
-use Rattle.protocol.specs.Events.{Answer, refused, bufferAfter}
+use Rattle.protocol.specs.Events as events
+use Rattle.protocol.proofs.Tests.{clash}
 use Rattle.messages.specs.Texts.{HasText, longest, textIn}
+use Rattle.view.specs.View.{Lent}
 use Rattle.messages.proofs.TextLaws.{length-text}
-use Rattle.ids.specs.declared.Station.{Station}
-use Rattle.ids.specs.declared.MessageNumber.{MessageNumber}
-use Rattle.event_answers.specs.declared.Answer as answers
-use Rattle.event_answers.specs.declared.Answer.the-variants.{Refused as Declined, Received}
-use Rattle.event_answers.specs.Answers.{says, answerIn, octetsIn, textOf}
-use Rattle.event_radio.specs.declared.Handing.{Handing}
-use Rattle.event_radio.specs.declared.Handing.the-variants.{Over}
-use Rattle.event_radio.specs.Handing.{handingIn, refusalOfHanding, Fits, HasPart}
-use Rattle.event_radio.proofs.Handing.{the-type as handing-type}
-use Rattle.event_radio.proofs.Values.{refused-is, over-fits, over-part}
+use Rattle.reports.specs.Effects.{acceptedIn}
+use Rattle.event_answers.specs.declared.Answer.{Answer}
+use Rattle.event_answers.specs.declared.Answer.the-variants.{Refused, Accepted}
+use Rattle.event_answers.specs.declared.Told.{Told}
+use Rattle.event_answers.specs.Answers.{toldOf, answerIn, octetsIn}
+use Rattle.event_answers.specs.Met.{Met}
+use Rattle.event_radio.specs.declared.Handed.{Handed}
+use Rattle.event_radio.specs.Handed.{handedIn, Lies, Laid}
 
--- the answer to a handing, and the buffer before and after
-abbrev pub Tells : List ℕ → Handing → answers.Answer → List ℕ → List ℕ → Type 0
-Tells T h a buffer buffer′ = (answerIn a buffer′ ≡ handingIn T h) × ((octetsIn a ≡ length (textOf (handingIn T h))) × (buffer′ ≡ bufferAfter (handingIn T h) buffer))
+-- A REFUSAL, which has no text: the answer is its number, and nothing lies anywhere
+module _ (h : Handed) (n : ℕ) (is : h .answer ≡ Refused n) where
+  pub meets-refusal : (L : Lent) (e : events.Event) (T : List ℕ) → Met L L e (events.refused n) → Met L L e (handedIn T h)
+  meets-refusal L e T met = subst (λ (a : Answer). Met L L e (answerIn a (drop (h .room * longest) T))) (sym is) met
 
--- what was not handed over was refused, and the buffer stays
-pub tells-refusal : (T : List ℕ) (h : Handing) (r : ℕ) (buffer : List ℕ) → r ≡ refusalOfHanding h → OneOf (0 ∷ []) (tagOf handing-type h) → Tells T h (Declined r) buffer buffer
-tells-refusal T h r buffer number k =
-    let q : refused r ≡ handingIn T h = ap refused number ∙ sym (refused-is T h k) in
-    (q, (ap (λ (x : Answer). length (textOf x)) q, ap (λ (x : Answer). bufferAfter x buffer) q))
+  pub refusal-lies : (T : List ℕ) (buffer : ℕ) → h .room ≡ 0 → Lies T buffer h
+  refusal-lies T buffer first =
+      let none : octetsIn (h .answer) ≡ 0 = ap octetsIn is in
+      record {
+        room = omega (arith, first);
+        short = omega (arith, none);
+        fits = omega (arith, none);
+        part = λ e. clash (toldOf (h .answer) .«is_refused») (ap (λ (a : Answer). toldOf a .«is_refused») is) e;
+      }
 
--- what the copy asks: the room's octets are there, and the buffer has room
-pub copy-asks : (T : List ℕ) (buffer : ℕ) (h : Handing) (m size : ℕ) (s : Station) (n : MessageNumber) (p w : ℕ)
-    → h ≡ Over m size s n p w → Fits buffer h → HasPart T h → HasText T m × (size ≤ longest) × (size ≤ buffer)
-copy-asks T buffer h m size s n p w is fits part =
-    let f = over-fits buffer h m size s n p w is fits in
-    (over-part T h m size s n p w is part, f .1, f .2)
+-- a refusal has no text
+no-octets : (a : Answer) → toldOf a .«is_refused» ≡ true → octetsIn a ≡ 0
+no-octets (Refused r) e = refl
+no-octets (Accepted o f) e = clash false e refl
 
--- what was handed over stands at the front of the buffer
-module _ (T : List ℕ) (h : Handing) (m size : ℕ) (s : Station) (n : MessageNumber) (p w : ℕ) (is : h ≡ Over m size s n p w)
-    (there : HasText T m) (fits : size ≤ longest) (buffer buffer′ : List ℕ) (octets : ℕ) (wrote : octets ≡ size) (copied : buffer′ ≡ textIn T size m ++ drop size buffer) where
-  long : length (textIn T size m) ≡ size
-  long = length-text T size m there fits
+-- the numbers that the code read
+module _ (T : List ℕ) (h : Handed) (r : Told) (read : r ≡ toldOf (h .answer)) (buffer : List ℕ) where
+  refused-so : r .«is_refused» ≡ true → toldOf (h .answer) .«is_refused» ≡ true
+  refused-so e = ap (λ (x : Told). x .«is_refused») (sym read) ∙ e
 
-  front : take size buffer′ ≡ textIn T size m
-  front =
-      ap (λ (l : List ℕ). take size l) copied
-      ∙ take-append-le size (textIn T size m) (drop size buffer) (omega (arith, long))
-      ∙ ap (λ (k : ℕ). take k (textIn T size m)) (sym long) ∙ take-length (textIn T size m)
+  -- what was refused leaves the buffer
+  pub lays-nothing : r .«is_refused» ≡ true → Laid T h buffer buffer
+  lays-nothing e = let q = refused-so e in record { answer = rw q refl; size = no-octets (h .answer) q ∙ rw q refl; octets = rw q refl }
 
-  told : Tells T (Over m size s n p w) (Received s n p w size) buffer buffer′
-  told = (ap (says 4 (s .0) (n .0) p w) front, (sym long, copied ∙ ap (λ (k : ℕ). textIn T size m ++ drop k buffer) (sym long)))
+  module _ (lies : Lies T (length buffer) h) (e : r .«is_refused» ≡ false) where
+    accepted-so : toldOf (h .answer) .«is_refused» ≡ false
+    accepted-so = ap (λ (x : Told). x .«is_refused») (sym read) ∙ e
 
-  pub tells-over : Tells T h (Received s n p w octets) buffer buffer′
-  tells-over =
-      subst (λ (k : Handing). Tells T k (Received s n p w octets) buffer buffer′) (sym is)
-      (subst (λ (x : ℕ). Tells T (Over m size s n p w) (Received s n p w x) buffer buffer′) (sym wrote) told)
+    size-is : r .size ≡ octetsIn (h .answer)
+    size-is = ap (λ (x : Told). x .size) read
+
+    -- what the copy asks: the room's octets are there, and the buffer has room
+    pub copy-asks : HasText T (h .room) × (r .size ≤ longest) × (r .size ≤ length buffer)
+    copy-asks = let a = lies .short in let b = lies .fits in (lies .part accepted-so, omega (arith, size-is), omega (arith, size-is))
+
+    -- what was handed over stands at the front of the buffer
+    module _ (buffer′ : List ℕ) (copied : buffer′ ≡ textIn T (r .size) (h .room) ++ drop (r .size) buffer) where
+      abbrev n : ℕ
+      n = octetsIn (h .answer)
+
+      abbrev text : List ℕ
+      text = textIn T n (h .room)
+
+      laid : buffer′ ≡ text ++ drop n buffer
+      laid = copied ∙ ap (λ (k : ℕ). textIn T k (h .room) ++ drop k buffer) size-is
+
+      long : length text ≡ n
+      long = length-text T n (h .room) (lies .part accepted-so) (lies .short)
+
+      front : take n buffer′ ≡ text
+      front =
+          ap (λ (l : List ℕ). take n l) laid
+          ∙ take-append-le n text (drop n buffer) (omega (arith, long))
+          ∙ ap (λ (k : ℕ). take k text) (sym long) ∙ take-length text
+
+      pub lays-text : Laid T h buffer buffer′
+      unfolding textIn
+      lays-text =
+          record {
+            answer = rw accepted-so (ap (acceptedIn (toldOf (h .answer) .report)) front);
+            size = sym long ∙ rw accepted-so refl;
+            octets = laid ∙ ap (λ (k : ℕ). text ++ drop k buffer) (sym long) ∙ rw accepted-so refl;
+          }

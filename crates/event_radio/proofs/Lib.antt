@@ -1,4 +1,3 @@
-pub mod Values
 pub mod Checks
 pub mod RadioMeets
 pub mod Delivery

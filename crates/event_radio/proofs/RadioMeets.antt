@@ -3,10 +3,10 @@ use mathlib.Core.Path.{_≡_, refl, sym, ap, _∙_}
 use mathlib.Core.Bool.{Bool, true, false, not}
 use mathlib.Core.List.{List}
 use mathlib.Core.Option.{Option, some, none}
-use Prim.Native.Nat.{ℕ, zero, suc, _≤_, _<_}
+use Prim.Native.Nat.{ℕ, zero, suc, _*_, _≤_, _<_}
 use native.Mathlib.Omega.{arith}
 use lib.Dec.{leb, ltb}
-use lib.ListN.{length}
+use lib.ListN.{length, take, drop}
 use borrow.Author.Tests.{leb-false, ltb-false, lt-leb, not-false}
 use Rattle.protocol.specs.Folds.{byOption}
 use Rattle.protocol.specs.CartSets.{has}
@@ -37,7 +37,9 @@ use Rattle.queue.proofs.HeadLaws.{head-below, head-skips}
 use Rattle.wireless.specs.Handed.{tookFrom, holdNone, HandedOver}
 use Rattle.wireless.proofs.Asks.{radio-asks}
 use Rattle.wireless.proofs.RadioIs.{radio-is, radio-reports}
-use Rattle.event_answers.specs.Answers.{says}
+use Rattle.reports.specs.declared.Effect.{Effect}
+use Rattle.reports.specs.Effects.{acceptedIn}
+use Rattle.event_answers.specs.Answers.{values}
 use Rattle.event_answers.specs.Met.{Met}
 use Rattle.event_answers.proofs.Meets.{refusal-standing, meets-no, meets-done}
 use Rattle.event_radio.specs.Checks.{notHere, notServed}
@@ -210,17 +212,24 @@ module _ (P : Product) (S C M W T : List ℕ) (t c buffer : ℕ) (p : passesForm
           over-asks = rw (es, en) (radio-asks L X t c m may)
 
           -- and how many octets its text has
-          pub meets-radio : (size : ℕ) → size ≡ roomsIn M .length m → (S′ C′ W′ : List ℕ) (q w : ℕ) → HandedOver S S′ C C′ M W W′ m s n t c q w
-              → Met L (lent P S′ C′ M W′ T) (radio t c buffer) (says 4 s n q w (textIn T size m)) × (((m < 32) × (size ≤ longest) × (size ≤ buffer)) × HasText T m)
-          unfolding accept
-          meets-radio size ez S′ C′ W′ q w over =
-              let over₀ : HandedOver S S′ C C′ M W W′ m (roomsIn M .initiator m) (roomsIn M .number m) t c q w = rw (es, en) at over in
-              let here = room-low L t X (is-here .0) m found is-room in
-              let short = X .laid .short m here in
-              let octets = X .lengths .texts in
-              let served = is-served .1 in (
+          module _ (size : ℕ) (ez : size ≡ roomsIn M .length m) where
+            -- where its text lies
+            pub text-lies : (size ≤ longest) × (size ≤ buffer) × HasText T m
+            text-lies =
+                let here = room-low L t X (is-here .0) m found is-room in
+                let short = X .laid .short m here in
+                let octets = X .lengths .texts in
+                let served = is-served .1 in
+                (omega arith, omega arith, omega arith)
+
+            pub in-a-room : m < 32
+            in-a-room = is-room
+
+            pub meets-radio : (S′ C′ W′ : List ℕ) (f : Effect) → HandedOver S S′ C C′ M W W′ m s n t c (f .passed) (f .records)
+                → Met L (lent P S′ C′ M W′ T) (radio t c buffer) (acceptedIn (values 4 s n f) (take size (drop (m * longest) T)))
+            unfolding accept textIn
+            meets-radio S′ C′ W′ f over =
+                let over₀ : HandedOver S S′ C C′ M W W′ m (roomsIn M .initiator m) (roomsIn M .number m) t c (f .passed) (f .records) = rw (es, en) at over in
                 meets-done L (radio t c buffer) (lent P S′ C′ M W′ T) _ refl (refusal-standing L (radio t c buffer) p ∙ sym served-is ∙ free)
-                    (radio-is S S′ C C′ M W W′ T m t c q w X may over₀)
-                    (rw (es, en, ez) (sym (radio-reports S S′ C C′ M W W′ T m t c q w X may over₀))),
-                ((is-room, omega arith, omega arith), omega arith),
-              )
+                (radio-is S S′ C C′ M W W′ T m t c (f .passed) (f .records) X may over₀)
+                (rw (es, en, ez) (sym (radio-reports S S′ C C′ M W W′ T m t c (f .passed) (f .records) X may over₀)))

@@ -1,2 +1,2 @@
 pub mod Checks
-pub mod Handing
+pub mod Handed

@@ -1,38 +1,39 @@
-// WHAT A CART RECEIVES on a floor that passes the form rule: a radio step. It is refused first, "Checks run down the table", and then is its
+// WHAT A CART RECEIVES on a floor that events can go on with: a radio step. It is refused first, "Checks run down the table", and then is its
 // step of the wireless module.
 use carts::Place;
 use event_answers::Answer;
+use event_answers::Outcome;
 use ids::CartNumber;
 use ids::MessageNumber;
 use ids::Station;
 ghost use mathlib.Core.Path.{_≡_};
 ghost use Prim.Native.Nat.{_*_, _≤_, _<_};
 ghost use lib.ListN.{length};
-ghost use Rattle.protocol.specs.Events.{radio, bufferAfter};
+ghost use Rattle.protocol.specs.Events.{radio};
 ghost use Rattle.stations.specs.View.{HasHead, HasStation, headIn};
 ghost use Rattle.messages.specs.View.{HasRoom};
 ghost use Rattle.view.specs.View.{lent};
 ghost use Rattle.queue.specs.Rooms.{roomIn};
-ghost use Rattle.event_answers.specs.Answers.{answerIn, octetsIn, textOf};
-ghost use Rattle.event_answers.specs.Met.{Passing, MetByEach};
+ghost use Rattle.event_answers.specs.declared.Answer.the-variants.{Refused};
+ghost use Rattle.event_answers.specs.Met.{ReadyBySome, MetByEach};
 ghost use Rattle.event_answers.specs.Delivered.{DeliveredByEach};
 ghost use Rattle.event_radio.specs.Checks.{notHere, notServed};
-ghost use Rattle.event_radio.specs.Handing.{handingIn, refusalOfHanding, Fits, HasPart};
+ghost use Rattle.event_radio.specs.Handed.{handedIn, Lies, Laid};
 
-// What a radio step comes to: a refusal's number, or the message that was handed over: its room, how many octets its text has, its initiator
-// and number, p and w. The text stays in its room's part of the lent octets, and `deliver` copies it.
-pub enum Handing {
-    Refused(u64),
-    Over(usize, usize, Station, MessageNumber, u64, u64),
+// What a radio step comes to: its answer, and the room of the message that was handed over. The text stays in that room's part of the lent octets;
+// `deliver` copies it, and a printed line is made from it where it lies.
+pub struct Handed {
+    pub answer: Answer,
+    pub room: usize,
 }
 
-// The number of a refusal, 0 if a message was handed over.
-fn refusal(handing: Handing) -> u64
-    ensures { λ r. ⌜ r ≡ refusalOfHanding handing ⌝ }
+// A refusal, which has no text.
+fn refused(number: u64) -> Handed
+    ensures { λ h. ⌜ (h .answer ≡ Refused number) × (h .room ≡ 0) ⌝ }
 {
-    match handing {
-        Handing::Refused(number) => number,
-        _ => 0,
+    Handed {
+        answer: Answer::Refused(number),
+        room: 0,
     }
 }
 
@@ -91,25 +92,27 @@ pub fn radio(
     station: Station,
     cart: CartNumber,
     buffer: usize,
-) -> Handing
-    requires { ⌜ Passing (λ P. lent P (now stations) (now carts) (now messages) (now lines) (now texts)) ⌝ }
-    ensures { λ h. ⌜ MetByEach (λ P. lent P (now (stations .entry)) (now (carts .entry)) (now (messages .entry)) (now (lines .entry)) (now (texts .entry))) (λ P. lent P (now (stations .exit)) (now (carts .exit)) (now (messages .entry)) (now (lines .exit)) (now (texts .entry))) (radio (station .0) (cart .0) buffer) (handingIn (now (texts .entry)) h) ⌝ }
-    ensures { λ h. ⌜ Fits buffer h ⌝ }
-    ensures { λ h. ⌜ HasPart (now (texts .entry)) h ⌝ }
+) -> Handed
+    requires { ⌜ ReadyBySome (λ P. lent P (now stations) (now carts) (now messages) (now lines) (now texts)) ⌝ }
+    ensures { λ h. ⌜ MetByEach (λ P. lent P (now (stations .entry)) (now (carts .entry)) (now (messages .entry)) (now (lines .entry)) (now (texts .entry))) (λ P. lent P (now (stations .exit)) (now (carts .exit)) (now (messages .entry)) (now (lines .exit)) (now (texts .entry))) (radio (station .0) (cart .0) buffer) (handedIn (now (texts .entry)) h) ⌝ }
+    ensures { λ h. ⌜ Lies (now (texts .entry)) buffer h ⌝ }
 {
+    if !stations::is_started(stations) {
+        return refused(5);
+    }
     let elsewhere = not_here(stations, carts, station, cart);
     if elsewhere != 0 {
-        return Handing::Refused(elsewhere);
+        return refused(elsewhere);
     }
     let m = queue::head(stations, messages, station);
     let unserved = not_served(stations, messages, station, cart, buffer, m);
     if unserved != 0 {
-        return Handing::Refused(unserved);
+        return refused(unserved);
     }
     let size = messages::length_of(messages, m) as usize;
     let initiator = messages::initiator_of(messages, m);
     let n = messages::number_of(messages, m);
-    let handed = wireless::hand_over(
+    let effect = wireless::hand_over(
         stations,
         carts,
         messages,
@@ -120,21 +123,23 @@ pub fn radio(
         station,
         cart,
     );
-    Handing::Over(m, size, initiator, n, handed.passed, handed.sent)
+    Handed {
+        answer: Answer::Accepted(Outcome::Received(initiator, n, size), effect),
+        room: m,
+    }
 }
 
-// The answer of a radio step, its text in the lent buffer.
-fn deliver(texts: &[u8], handing: Handing, buffer: &mut [u8]) -> Answer
-    requires { ⌜ Fits (length (now buffer)) handing × HasPart (now texts) handing ⌝ }
-    ensures { λ a. ⌜ answerIn a (now (buffer .exit)) ≡ handingIn (now (texts .entry)) handing ⌝ }
-    ensures { λ a. ⌜ octetsIn a ≡ length (textOf (handingIn (now (texts .entry)) handing)) ⌝ }
-    ensures { λ _. ⌜ now (buffer .exit) ≡ bufferAfter (handingIn (now (texts .entry)) handing) (now (buffer .entry)) ⌝ }
+// The text that was handed over, into the lent buffer.
+fn deliver(texts: &[u8], handed: Handed, buffer: &mut [u8])
+    requires { ⌜ Lies (now texts) (length (now buffer)) handed ⌝ }
+    ensures { λ _. ⌜ Laid (now (texts .entry)) handed (now (buffer .entry)) (now (buffer .exit)) ⌝ }
 {
-    let Handing::Over(m, size, initiator, number, p, w) = handing else {
-        return Answer::Refused(refusal(handing));
-    };
-    let octets = messages::copy_text(texts, m, size, buffer);
-    Answer::Received(initiator, number, p, w, octets)
+    let answer = handed.answer;
+    let told = event_answers::told_of(answer);
+    if told.is_refused {
+        return;
+    }
+    messages::copy_text(texts, handed.room, told.size, buffer);
 }
 
 // "Radio (station, cart)", with a lent buffer: "writes the text at the front of the lent buffer and leaves the rest"; a refusal "changes no octet
@@ -149,10 +154,11 @@ pub fn radio_into(
     cart: CartNumber,
     buffer: &mut [u8],
 ) -> Answer
-    requires { ⌜ Passing (λ P. lent P (now stations) (now carts) (now messages) (now lines) (now texts)) ⌝ }
+    requires { ⌜ ReadyBySome (λ P. lent P (now stations) (now carts) (now messages) (now lines) (now texts)) ⌝ }
     ensures { λ a. ⌜ DeliveredByEach (λ P. lent P (now (stations .entry)) (now (carts .entry)) (now (messages .entry)) (now (lines .entry)) (now (texts .entry))) (λ P. lent P (now (stations .exit)) (now (carts .exit)) (now (messages .entry)) (now (lines .exit)) (now (texts .entry))) (station .0) (cart .0) a (now (buffer .entry)) (now (buffer .exit)) ⌝ }
 {
     let room = buffer.len();
-    let handing = radio(stations, carts, messages, lines, texts, station, cart, room);
-    deliver(texts, handing, buffer)
+    let handed = radio(stations, carts, messages, lines, texts, station, cart, room);
+    deliver(texts, handed, buffer);
+    handed.answer
 }

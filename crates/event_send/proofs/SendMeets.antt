@@ -2,7 +2,7 @@
 use mathlib.Core.Path.{_≡_, refl, sym, ap, _∙_, subst}
 use mathlib.Core.Bool.{true, false}
 use mathlib.Core.Option.{none, some}
-use mathlib.Core.List.{List, []}
+use mathlib.Core.List.{List}
 use Prim.Native.Nat.{ℕ, _+_, _*_, _≤_, _<_}
 use native.Mathlib.Omega.{arith}
 use lib.ListN.{length}
@@ -29,9 +29,11 @@ use Rattle.wired_send.specs.Sent.{Sent}
 use Rattle.wired_send.proofs.RoomLaws.{room-found, none-found}
 use Rattle.wired_send.proofs.SendRoom.{send-numbers, send-room}
 use Rattle.wired_send.proofs.SendIs.{send-done}
+use Rattle.reports.specs.declared.Effect.{Effect}
+use Rattle.reports.specs.Effects.{putting}
 use Rattle.event_answers.specs.Answers.{says}
 use Rattle.event_answers.specs.Met.{Met}
-use Rattle.event_answers.proofs.Meets.{refusal-standing, meets-done}
+use Rattle.event_answers.proofs.Meets.{refusal-standing, meets-done, meets-counted}
 
 -- the search goes over as many rooms as the product has
 pub searched : (P : Product) (b : Bounds) → NumbersOf P b → (M : List ℕ) (m : ℕ) → m ≡ firstFree (b .held) M → m ≡ firstFree (P .held) M
@@ -102,7 +104,7 @@ module _ (P : Product) (b : Bounds) (numbers : NumbersOf P b) (S C M W T : List 
     )
 
     left : (S′ M′ W′ T′ : List ℕ) → Sent S S′ M M′ W W′ T T′ m s (headIn S .stations) (stationsIn S .sent s) set text
-        → Met L (lent P S′ C M′ W′ T′) (send s set text) (says 2 s (stationsIn S .sent s) 0 (headIn S .stations) [])
+        → Met L (lent P S′ C M′ W′ T′) (send s set text) (says 2 s (stationsIn S .sent s) (putting (headIn S .stations)))
     unfolding accept
     left S′ M′ W′ T′ sent =
         let whole = send-done S S′ C M M′ W W′ T T′ m s set text X may sent room in
@@ -114,6 +116,8 @@ module _ (P : Product) (b : Bounds) (numbers : NumbersOf P b) (S C M W T : List 
       pub send-asks : Asked n number
       send-asks = rw (stations-are, number-is) asked
 
-      pub meets-send : (S′ M′ W′ T′ : List ℕ) → Sent S S′ M M′ W W′ T T′ m s n number set text
-          → Met L (lent P S′ C M′ W′ T′) (send s set text) (says 2 s number 0 n [])
-      meets-send S′ M′ W′ T′ sent = rw (stations-are, number-is) (left S′ M′ W′ T′ (rw (stations-are, number-is) at sent))
+      pub meets-send : (S′ M′ W′ T′ : List ℕ) (f : Effect) → Sent S S′ M M′ W W′ T T′ m s n number set text → f ≡ putting n
+          → Met L (lent P S′ C M′ W′ T′) (send s set text) (says 2 s number f)
+      meets-send S′ M′ W′ T′ f sent counted =
+          meets-counted L (lent P S′ C M′ W′ T′) (send s set text) 2 s number f (putting n) counted
+          (rw (stations-are, number-is) (left S′ M′ W′ T′ (rw (stations-are, number-is) at sent)))

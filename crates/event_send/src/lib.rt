@@ -1,6 +1,7 @@
-// SEND on a floor that passes the form rule. It is refused first, "Checks run down the table", and then is its step of the wired module.
+// SEND on a floor that events can go on with. It is refused first, "Checks run down the table", and then is its step of the wired module.
 use carts::Place;
 use event_answers::Answer;
+use event_answers::Outcome;
 use ids::CartNumber;
 use ids::MessageNumber;
 use ids::Station;
@@ -22,7 +23,7 @@ ghost use Rattle.carts.specs.View.{cartsIn};
 ghost use Rattle.view.specs.View.{lent, floorIn};
 ghost use Rattle.wired_send.specs.Rooms.{firstFree};
 ghost use Rattle.event_answers.specs.Answers.{answerIn};
-ghost use Rattle.event_answers.specs.Met.{PassingWith, MetWith};
+ghost use Rattle.event_answers.specs.Met.{ReadyWith, MetWith};
 ghost use Rattle.event_send.specs.Checks.{setChecks, roomChecks, firstApplying};
 
 // "a named cart never entered": is it one? A cart that is leaving or travelling has entered.
@@ -121,10 +122,13 @@ pub fn send(
     text: &[u8],
     bounds: Bounds,
 ) -> Answer
-    requires { ⌜ PassingWith bounds (λ P. lent P (now stations) (now carts) (now messages) (now lines) (now texts)) ⌝ }
+    requires { ⌜ ReadyWith bounds (λ P. lent P (now stations) (now carts) (now messages) (now lines) (now texts)) ⌝ }
     requires { ⌜ length (now text) ≤ 32 ⌝ }
     ensures { λ a. ⌜ MetWith bounds (λ P. lent P (now (stations .entry)) (now (carts .entry)) (now (messages .entry)) (now (lines .entry)) (now (texts .entry))) (λ P. lent P (now (stations .exit)) (now (carts .entry)) (now (messages .exit)) (now (lines .exit)) (now (texts .exit))) (send (station .0) set (now (text .entry))) (answerIn a []) ⌝ }
 {
+    if !stations::is_started(stations) {
+        return Answer::Refused(5);
+    }
     let m = wired_send::free_room(messages, bounds.held);
     let refusal = send_refusal(stations, carts, station, set, m, bounds.last);
     if refusal != 0 {
@@ -138,7 +142,7 @@ pub fn send(
         number,
         set,
     };
-    wired_send::on_send(
+    let effect = wired_send::on_send(
         stations,
         messages,
         lines,
@@ -148,5 +152,5 @@ pub fn send(
         message,
         text,
     );
-    Answer::Sent(station, number, n)
+    Answer::Accepted(Outcome::Sent(station, number), effect)
 }

@@ -17,9 +17,11 @@ use Rattle.view.specs.View.{Lent, lent, lengthsIn, floorIn}
 use Rattle.view.proofs.Lengths.{Lengths, lengths-of, pool-sized}
 use Rattle.wired_send.specs.Begun.{Begun}
 use Rattle.wired_send.proofs.StartIs.{accepted-start}
+use Rattle.reports.specs.declared.Effect.{Effect}
+use Rattle.reports.specs.Effects.{nothing}
 use Rattle.event_answers.specs.Answers.{says}
 use Rattle.event_answers.specs.Met.{Met}
-use Rattle.event_answers.proofs.Meets.{meets-refused, meets-done}
+use Rattle.event_answers.proofs.Meets.{meets-refused, meets-done, meets-counted}
 
 -- 7: "stations not 1 to 16, or carts not 1 to 64", or what the (limitsOf P) say
 module _ (M : Limits) (n k : ℕ) where
@@ -82,9 +84,12 @@ module _ (P : Product) (S C M W T : List ℕ) (n k : ℕ) (ok : Bool) (lengths-a
       start-fits = (has-head, pool-sized P W (lengths .lines))
 
       -- "it writes all the rest afresh"
-      pub meets-start : wrong ≡ false → (S′ C′ M′ W′ : List ℕ) → Begun S S′ C C′ M M′ W W′ n k → Met L (lent P S′ C′ M′ W′ T) (start n k) (says 0 n k 0 0 [])
+      pub meets-start : wrong ≡ false → (S′ C′ M′ W′ : List ℕ) (f : Effect) → Begun S S′ C C′ M M′ W W′ n k → f ≡ nothing
+          → Met L (lent P S′ C′ M′ W′ T) (start n k) (says 0 n k f)
       unfolding refusal refusalIf accept
-      meets-start e S′ C′ M′ W′ begun = meets-done L (start n k) (lent P S′ C′ M′ W′ T) _ refl met (accepted-start S S′ C C′ M M′ W W′ T n k lengths begun (floorIn L)) says-so
+      meets-start e S′ C′ M′ W′ f begun counted =
+          meets-counted L (lent P S′ C′ M′ W′ T) (start n k) 0 n k f nothing counted
+          (meets-done L (start n k) (lent P S′ C′ M′ W′ T) _ refl met (accepted-start S S′ C C′ M M′ W W′ T n k lengths begun (floorIn L)) says-so)
         where
           met : refusal (limitsOf P) (floorIn L) (start n k) ≡ 0
           met = rw (right, ne-eqb (headIn S .mark) 1 fresh, sym size-is, e) refl

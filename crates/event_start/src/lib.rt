@@ -1,5 +1,6 @@
 // START with the caller's limits.
 use event_answers::Answer;
+use event_answers::Outcome;
 use products::Bounds;
 ghost use mathlib.Core.Path.{_≡_};
 ghost use mathlib.Core.List.{[]};
@@ -52,5 +53,5 @@ pub fn start(
         return Answer::Refused(7);
     }
     wired_send::start_floor(stations, carts, messages, lines, n, k);
-    Answer::Started(n, k)
+    Answer::Accepted(Outcome::Started(n, k), reports::nothing())
 }

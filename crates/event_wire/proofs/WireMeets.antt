@@ -10,7 +10,7 @@ use borrow.Author.Tests.{lt-leb, ne-eqb}
 use Rattle.protocol.specs.Folds.{listOf}
 use Rattle.protocol.specs.CartSets.{has, union}
 use Rattle.protocol.specs.Floor.{Product, limitsOf, Floor, Record, deregister, register, leaving}
-use Rattle.protocol.specs.Events.{wire, Report, accepted}
+use Rattle.protocol.specs.Events.{wire}
 use Rattle.protocol.specs.Wired.{onWire}
 use Rattle.protocol.specs.Refusals.{refusal, refusalIf}
 use Rattle.protocol.specs.Step.{accept}
@@ -37,9 +37,11 @@ use Rattle.handoff.specs.Left.{Left}
 use Rattle.handoff.specs.Arrived.{Arrived}
 use Rattle.handoff.proofs.DeregisterIs.{deregister-ready, register-has-room, deregister-is, deregister-reports}
 use Rattle.handoff.proofs.RegisterIs.{register-ready, register-fits, register-rooms, register-is, register-reports}
+use Rattle.reports.specs.declared.Effect.{Effect}
+use Rattle.reports.specs.Effects.{nothing, passing, putting}
 use Rattle.event_answers.specs.Answers.{says}
 use Rattle.event_answers.specs.Met.{Met}
-use Rattle.event_answers.proofs.Meets.{meets-done}
+use Rattle.event_answers.proofs.Meets.{meets-done, meets-counted}
 use Rattle.event_wire.specs.Off.{TakenOff}
 
 module _ (P : Product) (S C M W W₁ T : List ℕ) (i j : ℕ) (said : word.Record) (off : TakenOff P S C M W W₁ T i j said) where
@@ -73,10 +75,12 @@ module _ (P : Product) (S C M W W₁ T : List ℕ) (i j : ℕ) (said : word.Reco
   unfolding refusal refusalIf
   passes = rw (off .passes, lt-leb (F .stations) i (off .from), lt-leb (F .stations) j (off .to), on-line) refl
 
-  -- the step of its kind is the event
-  meets : (L′ : Lent) (l : Report) → L′ .product ≡ P → floorIn L′ ≡ onWire (limitsOf P) F i j .floor → onWire (limitsOf P) F i j .report ≡ l → Met L L′ (wire i j) (accepted l)
+  -- the step of its kind is the event, with what it counted
+  meets : (L′ : Lent) (kind x : ℕ) (f g : Effect) → L′ .product ≡ P → f ≡ g → floorIn L′ ≡ onWire (limitsOf P) F i j .floor
+      → onWire (limitsOf P) F i j .report ≡ record { kind = 3; a = kind; b = x; p = g .passed; w = g .records; text = [] } → Met L L′ (wire i j) (says 3 kind x f)
   unfolding accept
-  meets L′ l same f r = meets-done L (wire i j) L′ l same passes f (sym r)
+  meets L′ kind x f g same counted floor report =
+      meets-counted L L′ (wire i j) 3 kind x f g counted (meets-done L (wire i j) L′ _ same passes floor (sym report))
 
   -- A MULTICAST: what is no ack list, no delete and no hand-off record; x is the number that the code read
   pub is-multicast : kindOf (said .0) ≤ 3 → (kindOf (said .0) ≡ 2 → ⊥) → (kindOf (said .0) ≡ 3 → ⊥) → kindOf (said .0) ≡ 1
@@ -88,11 +92,12 @@ module _ (P : Product) (S C M W W₁ T : List ℕ) (i j : ℕ) (said : word.Reco
       → (HasStation S j × (i < 16) × (stationsIn S .expected j i < 4294967296)) × (((c : ℕ) → has (stationsIn S .local j) c ≡ true → HasRow C c) × HasRoom M m × (m < 32) × (n < 4294967296))
   multicast-asks k = asks.multicast-asks S C M W W₁ T X i j (off .from) (off .to) said rest (off .top) (off .popped) k
 
-  pub meets-multicast : kindOf (said .0) ≡ 1 → (S′ C′ : List ℕ) (x p : ℕ) → x ≡ n → Buffered S S′ C C′ M m n i j p
-      → Met L (lent P S′ C′ M W₁ T) (wire i j) (says 3 1 x p 0 [])
-  meets-multicast k S′ C′ x p e b =
-      meets (lent P S′ C′ M W₁ T) _ refl (multicast-is S S′ C C′ M W W₁ T X i j (off .from) (off .to) said rest (off .top) k (off .popped) p b)
-      (rw e (multicast-report S S′ C C′ M W W₁ T X i j (off .from) (off .to) said rest (off .top) k (off .popped) p b))
+  pub meets-multicast : kindOf (said .0) ≡ 1 → (S′ C′ : List ℕ) (x : ℕ) (f : Effect) → x ≡ n → Buffered S S′ C C′ M m n i j (f .passed) → f ≡ passing (f .passed)
+      → Met L (lent P S′ C′ M W₁ T) (wire i j) (says 3 1 x f)
+  meets-multicast k S′ C′ x f e b counted =
+      meets (lent P S′ C′ M W₁ T) 1 x f (passing (f .passed)) refl counted
+      (multicast-is S S′ C C′ M W W₁ T X i j (off .from) (off .to) said rest (off .top) k (off .popped) (f .passed) b)
+      (rw e (multicast-report S S′ C C′ M W W₁ T X i j (off .from) (off .to) said rest (off .top) k (off .popped) (f .passed) b))
 
   -- AN ACK LIST; y is how many stations the code read
   pub ack-list-asks : kindOf (said .0) ≡ 2 → (y : ℕ) → y ≡ headIn S .stations
@@ -100,21 +105,22 @@ module _ (P : Product) (S C M W W₁ T : List ℕ) (i j : ℕ) (said : word.Reco
       × (union (roomsIn M .acked m) (said .1) ≡ roomsIn M .named m → used W₁ + y ≤ capacity W₁))
   ack-list-asks k y e = rw e (asks.ack-list-asks S C M W W₁ T X i j (off .from) (off .to) said rest (off .top) (off .popped) k)
 
-  pub meets-ack-list : kindOf (said .0) ≡ 2 → (M′ W′ : List ℕ) (x y w : ℕ) → x ≡ n → y ≡ headIn S .stations → Acknowledged M M′ W₁ W′ m n (said .1) j y w
-      → Met L (lent P S C M′ W′ T) (wire i j) (says 3 2 x 0 w [])
-  meets-ack-list k M′ W′ x y w e f b =
-      let b′ : Acknowledged M M′ W₁ W′ m n (said .1) j (headIn S .stations) w = subst (λ (z : ℕ). Acknowledged M M′ W₁ W′ m n (said .1) j z w) f b in
-      meets (lent P S C M′ W′ T) _ refl (ack-list-is S C M W W₁ T X i j (off .from) (off .to) said rest (off .top) k (off .popped) M′ W′ w b′)
-      (rw e (ack-list-report S C M W W₁ T X i j (off .from) (off .to) said rest (off .top) k (off .popped) M′ W′ w b′))
+  pub meets-ack-list : kindOf (said .0) ≡ 2 → (M′ W′ : List ℕ) (x y : ℕ) (f : Effect) → x ≡ n → y ≡ headIn S .stations
+      → Acknowledged M M′ W₁ W′ m n (said .1) j y (f .records) → f ≡ putting (f .records) → Met L (lent P S C M′ W′ T) (wire i j) (says 3 2 x f)
+  meets-ack-list k M′ W′ x y f e count b counted =
+      let b′ : Acknowledged M M′ W₁ W′ m n (said .1) j (headIn S .stations) (f .records) = subst (λ (z : ℕ). Acknowledged M M′ W₁ W′ m n (said .1) j z (f .records)) count b in
+      meets (lent P S C M′ W′ T) 2 x f (putting (f .records)) refl counted
+      (ack-list-is S C M W W₁ T X i j (off .from) (off .to) said rest (off .top) k (off .popped) M′ W′ (f .records) b′)
+      (rw e (ack-list-report S C M W W₁ T X i j (off .from) (off .to) said rest (off .top) k (off .popped) M′ W′ (f .records) b′))
 
   -- A DELETE
   pub delete-asks : kindOf (said .0) ≡ 3 → HasRoom M m × (j < 16)
   delete-asks k = asks.delete-asks S C M W W₁ T X i j (off .from) (off .to) said rest (off .top) (off .popped) k
 
-  pub meets-delete : kindOf (said .0) ≡ 3 → (M′ : List ℕ) (x : ℕ) → x ≡ n → Deleted M M′ m j
-      → Met L (lent P S C M′ W₁ T) (wire i j) (says 3 3 x 0 0 [])
-  meets-delete k M′ x e b =
-      meets (lent P S C M′ W₁ T) _ refl (delete-is S C M M′ W W₁ T X i j (off .from) (off .to) said rest (off .top) k (off .popped) b)
+  pub meets-delete : kindOf (said .0) ≡ 3 → (M′ : List ℕ) (x : ℕ) (f : Effect) → x ≡ n → Deleted M M′ m j → f ≡ nothing
+      → Met L (lent P S C M′ W₁ T) (wire i j) (says 3 3 x f)
+  meets-delete k M′ x f e b counted =
+      meets (lent P S C M′ W₁ T) 3 x f nothing refl counted (delete-is S C M M′ W W₁ T X i j (off .from) (off .to) said rest (off .top) k (off .popped) b)
       (rw e (delete-report S C M M′ W W₁ T X i j (off .from) (off .to) said rest (off .top) k (off .popped) b))
 
   -- a record of a cart that the code read as x
@@ -134,10 +140,10 @@ module _ (P : Product) (S C M W W₁ T : List ℕ) (i j : ℕ) (said : word.Reco
         → (HasStation S j × HasRow C x × (x < 64) × (cartsIn C .place x ≡ leaving j i)) × ((form W₁ ≡ true) × (used W₁ < capacity W₁) × (j < 16) × (i < 16))
     deregister-asks k = (deregister-ready L X x i j left (may-deregister k), register-has-room L X x i j left (may-deregister k) W₁ (i * 16 + j) (off .popped))
 
-    pub meets-deregister : kindOf (said .0) ≡ 4 → (S′ C′ W′ : List ℕ) → Left S S′ C C′ W₁ W′ x j i
-        → Met L (lent P S′ C′ M W′ T) (wire i j) (says 3 4 x 0 1 [])
-    meets-deregister k S′ C′ W′ b =
-        meets (lent P S′ C′ M W′ T) _ refl (deregister-is S S′ C C′ M W W₁ W′ T x i j left X (may-deregister k) (off .popped) b)
+    pub meets-deregister : kindOf (said .0) ≡ 4 → (S′ C′ W′ : List ℕ) (f : Effect) → Left S S′ C C′ W₁ W′ x j i → f ≡ putting 1
+        → Met L (lent P S′ C′ M W′ T) (wire i j) (says 3 4 x f)
+    meets-deregister k S′ C′ W′ f b counted =
+        meets (lent P S′ C′ M W′ T) 4 x f (putting 1) refl counted (deregister-is S S′ C C′ M W W₁ W′ T x i j left X (may-deregister k) (off .popped) b)
         (deregister-reports S S′ C C′ M W W₁ W′ T x i j left X (may-deregister k) (off .popped) b)
 
     -- A REGISTER: what is none of the other four
@@ -164,9 +170,11 @@ module _ (P : Product) (S C M W W₁ T : List ℕ) (i j : ℕ) (said : word.Reco
       row-asks = (register-asks .0 .4, let a = X .lengths .lines in let b = off .popped .words in omega arith)
 
       -- where the code read it, once the record is off its line
-      pub meets-register : (S′ C′ r : List ℕ) (p : ℕ) → r ≡ listOf 16 (registersIn W₁ x) → Arrived S S′ C C′ M j x r p → Met L (lent P S′ C′ M W₁ T) (wire i j) (says 3 5 x p 0 [])
-      meets-register S′ C′ r p e b =
-          let same : r ≡ row = e ∙ ap (λ (f : ℕ → ℕ → ℕ). listOf 16 (f x)) (off .popped .registers) in
-          let b′ : Arrived S S′ C C′ M j x row p = subst (λ (z : List ℕ). Arrived S S′ C C′ M j x z p) same b in
-          meets (lent P S′ C′ M W₁ T) _ refl (register-is S S′ C C′ M W W₁ T x i j p row left X may-register (off .popped) b′)
-          (register-reports S S′ C C′ M W W₁ T x i j p row left X may-register (off .popped) b′)
+      pub meets-register : (S′ C′ r : List ℕ) (f : Effect) → r ≡ listOf 16 (registersIn W₁ x) → Arrived S S′ C C′ M j x r (f .passed) → f ≡ passing (f .passed)
+          → Met L (lent P S′ C′ M W₁ T) (wire i j) (says 3 5 x f)
+      meets-register S′ C′ r f e b counted =
+          let same : r ≡ row = e ∙ ap (λ (g : ℕ → ℕ → ℕ). listOf 16 (g x)) (off .popped .registers) in
+          let b′ : Arrived S S′ C C′ M j x row (f .passed) = subst (λ (z : List ℕ). Arrived S S′ C C′ M j x z (f .passed)) same b in
+          meets (lent P S′ C′ M W₁ T) 5 x f (passing (f .passed)) refl counted
+          (register-is S S′ C C′ M W W₁ T x i j (f .passed) row left X may-register (off .popped) b′)
+          (register-reports S S′ C C′ M W W₁ T x i j (f .passed) row left X may-register (off .popped) b′)

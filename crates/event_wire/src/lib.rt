@@ -1,6 +1,7 @@
-// WHAT THE WIRES DO on a floor that passes the form rule: "Wire (from, to): the head record of that line is handled at to". It is refused
+// WHAT THE WIRES DO on a floor that events can go on with: "Wire (from, to): the head record of that line is handled at to". It is refused
 // first, "Checks run down the table", and then is the step of the record's kind.
 use event_answers::Answer;
+use event_answers::Outcome;
 use ids::CartNumber;
 use ids::MessageNumber;
 use ids::Station;
@@ -16,7 +17,7 @@ ghost use Rattle.stations.specs.View.{HasHead, headIn};
 ghost use Rattle.lines.specs.Form.{form};
 ghost use Rattle.view.specs.View.{lent, floorIn};
 ghost use Rattle.event_answers.specs.Answers.{answerIn};
-ghost use Rattle.event_answers.specs.Met.{Met, Passing, MetByEach};
+ghost use Rattle.event_answers.specs.Met.{Met, ReadyBySome, MetByEach};
 ghost use Rattle.event_wire.specs.Off.{TakenOff, IsOff};
 
 // The refusal of a wire event, 8 or 15, or 0.
@@ -58,24 +59,24 @@ fn handle(
         let number = MessageNumber(view::number_of(said));
         if kind == 2 {
             let n = stations::station_count(stations);
-            let put = wired_records::on_ack_list(messages, lines, said, to, n);
-            return Answer::Acknowledged(number, put);
+            let effect = wired_records::on_ack_list(messages, lines, said, to, n);
+            return Answer::Accepted(Outcome::Acknowledged(number), effect);
         }
         if kind == 3 {
-            wired_records::on_delete(messages, said, to);
-            return Answer::Deleted(number);
+            let effect = wired_records::on_delete(messages, said, to);
+            return Answer::Accepted(Outcome::Deleted(number), effect);
         }
-        let passed = wired_records::on_multicast(stations, carts, messages, said, from, to);
-        return Answer::Buffered(number, passed);
+        let effect = wired_records::on_multicast(stations, carts, messages, said, from, to);
+        return Answer::Accepted(Outcome::Buffered(number), effect);
     }
     let cart = CartNumber(view::index_of(said));
     if kind == 4 {
-        handoff::on_deregister(stations, carts, lines, cart, to, from);
-        return Answer::Deregistered(cart);
+        let effect = handoff::on_deregister(stations, carts, lines, cart, to, from);
+        return Answer::Accepted(Outcome::Deregistered(cart), effect);
     }
     let row = lines::register_of(lines, cart.0 as usize);
-    let passed = handoff::on_register(stations, carts, messages, to, cart, row);
-    Answer::Registered(cart, passed)
+    let effect = handoff::on_register(stations, carts, messages, to, cart, row);
+    Answer::Accepted(Outcome::Registered(cart), effect)
 }
 
 // "Wire (from, to)".
@@ -88,9 +89,12 @@ pub fn wire(
     from: Station,
     to: Station,
 ) -> Answer
-    requires { ⌜ Passing (λ P. lent P (now stations) (now carts) (now messages) (now lines) (now texts)) ⌝ }
+    requires { ⌜ ReadyBySome (λ P. lent P (now stations) (now carts) (now messages) (now lines) (now texts)) ⌝ }
     ensures { λ a. ⌜ MetByEach (λ P. lent P (now (stations .entry)) (now (carts .entry)) (now (messages .entry)) (now (lines .entry)) (now (texts .entry))) (λ P. lent P (now (stations .exit)) (now (carts .exit)) (now (messages .exit)) (now (lines .exit)) (now (texts .entry))) (wire (from .0) (to .0)) (answerIn a []) ⌝ }
 {
+    if !stations::is_started(stations) {
+        return Answer::Refused(5);
+    }
     let refusal = wire_refusal(stations, lines, from, to);
     if refusal != 0 {
         return Answer::Refused(refusal);

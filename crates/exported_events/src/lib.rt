@@ -1,19 +1,18 @@
 // The events under C names, for bench/events, which tries them on damaged floors and measures them. Each does what it calls does, on a floor
 // lent by a program in another language. An answer cannot cross as it is, so each asks for seven words to put it into: this crate is for
-// measuring alone, and asks for them by `requires`. A name with `step` leaves the form test out and asks that the floor passes it.
+// measuring alone, and asks for them by `requires`. A name with `step` leaves the form test out and asks for a floor that events can go on with.
 use event_answers::Answer;
 use ids::CartNumber;
 use ids::Station;
 ghost use mathlib.Core.Path.{_≡_};
-ghost use mathlib.Core.Bool.{true};
 ghost use mathlib.Core.List.{[]};
 ghost use Prim.Native.Nat.{_≤_};
 ghost use lib.ListN.{length};
-ghost use Rattle.protocol.specs.Floor.{wholeFloor, limits};
+ghost use Rattle.protocol.specs.Floor.{wholeFloor};
 ghost use Rattle.protocol.specs.Events.{start, enter, send, wire, move};
-ghost use Rattle.protocol.specs.Form.{passesForm};
-ghost use Rattle.view.specs.View.{lent, floorIn};
-ghost use Rattle.exported_events.specs.Told.{sevenWords, answerWords, Told, ToldText};
+ghost use Rattle.view.specs.View.{lent};
+ghost use Rattle.event_answers.specs.Met.{Ready};
+ghost use Rattle.exported_events.specs.Words.{sevenWords, answerWords, Answered, AnsweredText};
 
 // Seven words, at the front of the lent ones.
 fn put_words(out: &mut [u64], refusal: u64, kind: u64, a: u64, b: u64, p: u64, w: u64, size: u64)
@@ -36,18 +35,18 @@ fn put_answer_words(out: &mut [u64], answer: Answer)
     ensures { λ _. ⌜ now (out .exit) ≡ answerWords (now (out .entry)) answer ⌝ }
     ensures { λ _. ⌜ length (now (out .exit)) ≡ length (now (out .entry)) ⌝ }
 {
-    let refusal = event_answers::refusal_of(answer);
-    let said = frame_report::report_of(answer);
-    let size = frame_report::octets_of(answer) as u64;
+    let told = event_answers::told_of(answer);
+    let report = told.report;
+    let effect = report.effect;
     put_words(
         out,
-        refusal,
-        said.kind,
-        said.a,
-        said.b,
-        said.p,
-        said.w,
-        size,
+        told.refusal,
+        report.kind,
+        report.a,
+        report.b,
+        effect.passed,
+        effect.records,
+        told.size as u64,
     );
 }
 
@@ -64,7 +63,7 @@ pub extern "C" fn mekhturia_start(
     out: &mut [u64],
 )
     requires { ⌜ 7 ≤ length (now out) ⌝ }
-    ensures { λ _. ⌜ Told (lent wholeFloor (now (stations .entry)) (now (carts .entry)) (now (messages .entry)) (now (lines .entry)) (now (texts .entry))) (lent wholeFloor (now (stations .exit)) (now (carts .exit)) (now (messages .exit)) (now (lines .exit)) (now (texts .entry))) (start n k) [] (now (out .entry)) (now (out .exit)) ⌝ }
+    ensures { λ _. ⌜ Answered (lent wholeFloor (now (stations .entry)) (now (carts .entry)) (now (messages .entry)) (now (lines .entry)) (now (texts .entry))) (lent wholeFloor (now (stations .exit)) (now (carts .exit)) (now (messages .exit)) (now (lines .exit)) (now (texts .entry))) (start n k) [] (now (out .entry)) (now (out .exit)) ⌝ }
 {
     let answer = controller::start(stations, carts, messages, lines, texts, n, k);
     put_answer_words(out, answer);
@@ -83,7 +82,7 @@ pub extern "C" fn mekhturia_enter(
     out: &mut [u64],
 )
     requires { ⌜ 7 ≤ length (now out) ⌝ }
-    ensures { λ _. ⌜ Told (lent wholeFloor (now (stations .entry)) (now (carts .entry)) (now (messages .entry)) (now (lines .entry)) (now (texts .entry))) (lent wholeFloor (now (stations .exit)) (now (carts .exit)) (now (messages .entry)) (now (lines .entry)) (now (texts .entry))) (enter station cart) [] (now (out .entry)) (now (out .exit)) ⌝ }
+    ensures { λ _. ⌜ Answered (lent wholeFloor (now (stations .entry)) (now (carts .entry)) (now (messages .entry)) (now (lines .entry)) (now (texts .entry))) (lent wholeFloor (now (stations .exit)) (now (carts .exit)) (now (messages .entry)) (now (lines .entry)) (now (texts .entry))) (enter station cart) [] (now (out .entry)) (now (out .exit)) ⌝ }
 {
     let answer = controller::enter(
         stations,
@@ -111,7 +110,7 @@ pub extern "C" fn mekhturia_send(
     out: &mut [u64],
 )
     requires { ⌜ 7 ≤ length (now out) ⌝ }
-    ensures { λ _. ⌜ Told (lent wholeFloor (now (stations .entry)) (now (carts .entry)) (now (messages .entry)) (now (lines .entry)) (now (texts .entry))) (lent wholeFloor (now (stations .exit)) (now (carts .entry)) (now (messages .exit)) (now (lines .exit)) (now (texts .exit))) (send station set (now (text .entry))) [] (now (out .entry)) (now (out .exit)) ⌝ }
+    ensures { λ _. ⌜ Answered (lent wholeFloor (now (stations .entry)) (now (carts .entry)) (now (messages .entry)) (now (lines .entry)) (now (texts .entry))) (lent wholeFloor (now (stations .exit)) (now (carts .entry)) (now (messages .exit)) (now (lines .exit)) (now (texts .exit))) (send station set (now (text .entry))) [] (now (out .entry)) (now (out .exit)) ⌝ }
 {
     let answer = controller::send(
         stations,
@@ -139,7 +138,7 @@ pub extern "C" fn mekhturia_wire(
     out: &mut [u64],
 )
     requires { ⌜ 7 ≤ length (now out) ⌝ }
-    ensures { λ _. ⌜ Told (lent wholeFloor (now (stations .entry)) (now (carts .entry)) (now (messages .entry)) (now (lines .entry)) (now (texts .entry))) (lent wholeFloor (now (stations .exit)) (now (carts .exit)) (now (messages .exit)) (now (lines .exit)) (now (texts .entry))) (wire from to) [] (now (out .entry)) (now (out .exit)) ⌝ }
+    ensures { λ _. ⌜ Answered (lent wholeFloor (now (stations .entry)) (now (carts .entry)) (now (messages .entry)) (now (lines .entry)) (now (texts .entry))) (lent wholeFloor (now (stations .exit)) (now (carts .exit)) (now (messages .exit)) (now (lines .exit)) (now (texts .entry))) (wire from to) [] (now (out .entry)) (now (out .exit)) ⌝ }
 {
     let answer = controller::wire(
         stations,
@@ -167,7 +166,7 @@ pub extern "C" fn mekhturia_radio(
     out: &mut [u64],
 )
     requires { ⌜ 7 ≤ length (now out) ⌝ }
-    ensures { λ _. ⌜ ToldText (lent wholeFloor (now (stations .entry)) (now (carts .entry)) (now (messages .entry)) (now (lines .entry)) (now (texts .entry))) (lent wholeFloor (now (stations .exit)) (now (carts .exit)) (now (messages .entry)) (now (lines .exit)) (now (texts .entry))) station cart (now (buffer .entry)) (now (buffer .exit)) (now (out .entry)) (now (out .exit)) ⌝ }
+    ensures { λ _. ⌜ AnsweredText (lent wholeFloor (now (stations .entry)) (now (carts .entry)) (now (messages .entry)) (now (lines .entry)) (now (texts .entry))) (lent wholeFloor (now (stations .exit)) (now (carts .exit)) (now (messages .entry)) (now (lines .exit)) (now (texts .entry))) station cart (now (buffer .entry)) (now (buffer .exit)) (now (out .entry)) (now (out .exit)) ⌝ }
 {
     let answer = controller::radio(
         stations,
@@ -195,7 +194,7 @@ pub extern "C" fn mekhturia_move(
     out: &mut [u64],
 )
     requires { ⌜ 7 ≤ length (now out) ⌝ }
-    ensures { λ _. ⌜ Told (lent wholeFloor (now (stations .entry)) (now (carts .entry)) (now (messages .entry)) (now (lines .entry)) (now (texts .entry))) (lent wholeFloor (now (stations .entry)) (now (carts .exit)) (now (messages .entry)) (now (lines .exit)) (now (texts .entry))) (move cart to) [] (now (out .entry)) (now (out .exit)) ⌝ }
+    ensures { λ _. ⌜ Answered (lent wholeFloor (now (stations .entry)) (now (carts .entry)) (now (messages .entry)) (now (lines .entry)) (now (texts .entry))) (lent wholeFloor (now (stations .entry)) (now (carts .exit)) (now (messages .entry)) (now (lines .exit)) (now (texts .entry))) (move cart to) [] (now (out .entry)) (now (out .exit)) ⌝ }
 {
     let answer = controller::move_cart(
         stations,
@@ -209,7 +208,7 @@ pub extern "C" fn mekhturia_move(
     put_answer_words(out, answer);
 }
 
-// "Enter (station, cart)", on a floor that passes the form rule.
+// "Enter (station, cart)", on a floor that events can go on with.
 #[no_mangle]
 pub extern "C" fn mekhturia_step_enter(
     stations: &mut [u64],
@@ -221,9 +220,9 @@ pub extern "C" fn mekhturia_step_enter(
     cart: u64,
     out: &mut [u64],
 )
-    requires { ⌜ passesForm limits (floorIn (lent wholeFloor (now stations) (now carts) (now messages) (now lines) (now texts))) ≡ true ⌝ }
+    requires { ⌜ Ready (lent wholeFloor (now stations) (now carts) (now messages) (now lines) (now texts)) ⌝ }
     requires { ⌜ 7 ≤ length (now out) ⌝ }
-    ensures { λ _. ⌜ Told (lent wholeFloor (now (stations .entry)) (now (carts .entry)) (now (messages .entry)) (now (lines .entry)) (now (texts .entry))) (lent wholeFloor (now (stations .exit)) (now (carts .exit)) (now (messages .entry)) (now (lines .entry)) (now (texts .entry))) (enter station cart) [] (now (out .entry)) (now (out .exit)) ⌝ }
+    ensures { λ _. ⌜ Answered (lent wholeFloor (now (stations .entry)) (now (carts .entry)) (now (messages .entry)) (now (lines .entry)) (now (texts .entry))) (lent wholeFloor (now (stations .exit)) (now (carts .exit)) (now (messages .entry)) (now (lines .entry)) (now (texts .entry))) (enter station cart) [] (now (out .entry)) (now (out .exit)) ⌝ }
 {
     let answer = event_carts::enter(
         stations,
@@ -237,7 +236,7 @@ pub extern "C" fn mekhturia_step_enter(
     put_answer_words(out, answer);
 }
 
-// "Send (station, set, text)", on a floor that passes the form rule.
+// "Send (station, set, text)", on a floor that events can go on with.
 #[no_mangle]
 pub extern "C" fn mekhturia_step_send(
     stations: &mut [u64],
@@ -250,10 +249,10 @@ pub extern "C" fn mekhturia_step_send(
     text: &[u8],
     out: &mut [u64],
 )
-    requires { ⌜ passesForm limits (floorIn (lent wholeFloor (now stations) (now carts) (now messages) (now lines) (now texts))) ≡ true ⌝ }
+    requires { ⌜ Ready (lent wholeFloor (now stations) (now carts) (now messages) (now lines) (now texts)) ⌝ }
     requires { ⌜ length (now text) ≤ 32 ⌝ }
     requires { ⌜ 7 ≤ length (now out) ⌝ }
-    ensures { λ _. ⌜ Told (lent wholeFloor (now (stations .entry)) (now (carts .entry)) (now (messages .entry)) (now (lines .entry)) (now (texts .entry))) (lent wholeFloor (now (stations .exit)) (now (carts .entry)) (now (messages .exit)) (now (lines .exit)) (now (texts .exit))) (send station set (now (text .entry))) [] (now (out .entry)) (now (out .exit)) ⌝ }
+    ensures { λ _. ⌜ Answered (lent wholeFloor (now (stations .entry)) (now (carts .entry)) (now (messages .entry)) (now (lines .entry)) (now (texts .entry))) (lent wholeFloor (now (stations .exit)) (now (carts .entry)) (now (messages .exit)) (now (lines .exit)) (now (texts .exit))) (send station set (now (text .entry))) [] (now (out .entry)) (now (out .exit)) ⌝ }
 {
     let answer = event_send::send(
         stations,
@@ -269,7 +268,7 @@ pub extern "C" fn mekhturia_step_send(
     put_answer_words(out, answer);
 }
 
-// "Wire (from, to)", on a floor that passes the form rule.
+// "Wire (from, to)", on a floor that events can go on with.
 #[no_mangle]
 pub extern "C" fn mekhturia_step_wire(
     stations: &mut [u64],
@@ -281,9 +280,9 @@ pub extern "C" fn mekhturia_step_wire(
     to: u64,
     out: &mut [u64],
 )
-    requires { ⌜ passesForm limits (floorIn (lent wholeFloor (now stations) (now carts) (now messages) (now lines) (now texts))) ≡ true ⌝ }
+    requires { ⌜ Ready (lent wholeFloor (now stations) (now carts) (now messages) (now lines) (now texts)) ⌝ }
     requires { ⌜ 7 ≤ length (now out) ⌝ }
-    ensures { λ _. ⌜ Told (lent wholeFloor (now (stations .entry)) (now (carts .entry)) (now (messages .entry)) (now (lines .entry)) (now (texts .entry))) (lent wholeFloor (now (stations .exit)) (now (carts .exit)) (now (messages .exit)) (now (lines .exit)) (now (texts .entry))) (wire from to) [] (now (out .entry)) (now (out .exit)) ⌝ }
+    ensures { λ _. ⌜ Answered (lent wholeFloor (now (stations .entry)) (now (carts .entry)) (now (messages .entry)) (now (lines .entry)) (now (texts .entry))) (lent wholeFloor (now (stations .exit)) (now (carts .exit)) (now (messages .exit)) (now (lines .exit)) (now (texts .entry))) (wire from to) [] (now (out .entry)) (now (out .exit)) ⌝ }
 {
     let answer = event_wire::wire(
         stations,
@@ -297,7 +296,7 @@ pub extern "C" fn mekhturia_step_wire(
     put_answer_words(out, answer);
 }
 
-// "Radio (station, cart)", on a floor that passes the form rule.
+// "Radio (station, cart)", on a floor that events can go on with.
 #[no_mangle]
 pub extern "C" fn mekhturia_step_radio(
     stations: &mut [u64],
@@ -310,9 +309,9 @@ pub extern "C" fn mekhturia_step_radio(
     buffer: &mut [u8],
     out: &mut [u64],
 )
-    requires { ⌜ passesForm limits (floorIn (lent wholeFloor (now stations) (now carts) (now messages) (now lines) (now texts))) ≡ true ⌝ }
+    requires { ⌜ Ready (lent wholeFloor (now stations) (now carts) (now messages) (now lines) (now texts)) ⌝ }
     requires { ⌜ 7 ≤ length (now out) ⌝ }
-    ensures { λ _. ⌜ ToldText (lent wholeFloor (now (stations .entry)) (now (carts .entry)) (now (messages .entry)) (now (lines .entry)) (now (texts .entry))) (lent wholeFloor (now (stations .exit)) (now (carts .exit)) (now (messages .entry)) (now (lines .exit)) (now (texts .entry))) station cart (now (buffer .entry)) (now (buffer .exit)) (now (out .entry)) (now (out .exit)) ⌝ }
+    ensures { λ _. ⌜ AnsweredText (lent wholeFloor (now (stations .entry)) (now (carts .entry)) (now (messages .entry)) (now (lines .entry)) (now (texts .entry))) (lent wholeFloor (now (stations .exit)) (now (carts .exit)) (now (messages .entry)) (now (lines .exit)) (now (texts .entry))) station cart (now (buffer .entry)) (now (buffer .exit)) (now (out .entry)) (now (out .exit)) ⌝ }
 {
     let answer = event_radio::radio_into(
         stations,
@@ -327,7 +326,7 @@ pub extern "C" fn mekhturia_step_radio(
     put_answer_words(out, answer);
 }
 
-// "Move (cart, to)", on a floor that passes the form rule.
+// "Move (cart, to)", on a floor that events can go on with.
 #[no_mangle]
 pub extern "C" fn mekhturia_step_move(
     stations: &[u64],
@@ -339,9 +338,9 @@ pub extern "C" fn mekhturia_step_move(
     to: u64,
     out: &mut [u64],
 )
-    requires { ⌜ passesForm limits (floorIn (lent wholeFloor (now stations) (now carts) (now messages) (now lines) (now texts))) ≡ true ⌝ }
+    requires { ⌜ Ready (lent wholeFloor (now stations) (now carts) (now messages) (now lines) (now texts)) ⌝ }
     requires { ⌜ 7 ≤ length (now out) ⌝ }
-    ensures { λ _. ⌜ Told (lent wholeFloor (now (stations .entry)) (now (carts .entry)) (now (messages .entry)) (now (lines .entry)) (now (texts .entry))) (lent wholeFloor (now (stations .entry)) (now (carts .exit)) (now (messages .entry)) (now (lines .exit)) (now (texts .entry))) (move cart to) [] (now (out .entry)) (now (out .exit)) ⌝ }
+    ensures { λ _. ⌜ Answered (lent wholeFloor (now (stations .entry)) (now (carts .entry)) (now (messages .entry)) (now (lines .entry)) (now (texts .entry))) (lent wholeFloor (now (stations .entry)) (now (carts .exit)) (now (messages .entry)) (now (lines .exit)) (now (texts .entry))) (move cart to) [] (now (out .entry)) (now (out .exit)) ⌝ }
 {
     let answer = event_carts::move_cart(
         stations,

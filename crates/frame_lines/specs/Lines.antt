@@ -3,9 +3,7 @@ use mathlib.Core.Path.{_≡_}
 use mathlib.Core.List.{List, [], _∷_, _++_}
 use Prim.Native.Nat.{ℕ, zero, suc, _+_, _*_, _/_, _%_, _≤_, _<_}
 use lib.ListN.{length, take, drop, getD}
-use Rattle.protocol.specs.Events as events
 use Rattle.protocol.specs.Printed.{digitChar, decimal}
-use Rattle.frame_lines.specs.declared.Report.{Report}
 
 -- WRITING
 
@@ -29,13 +27,6 @@ pub record Began (over most : ℕ) (line l l′ : List ℕ) (at next : ℕ) : Ty
   pub kept : length l′ ≡ length l
 
 -- LINES
-
--- what an event reports, with the text of a radio step: "index from 0, kind, a, b, p, w"
-abbrev pub reportIn : Report → List ℕ → events.Report
-reportIn r text = record { kind = r .kind; a = r .a; b = r .b; p = r .p; w = r .w; text = text }
-
-abbrev pub acceptedIn : Report → List ℕ → events.Answer
-acceptedIn r text = events.accepted (reportIn r text)
 
 -- the longest line: a number has at most 20 digits, and a text at most 32 octets
 abbrev pub longestRest : ℕ

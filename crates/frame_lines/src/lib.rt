@@ -1,5 +1,6 @@
 // The printed run: "prints one line each: index from 0, kind, a, b, p, w. Refused: index, no, refusal". A line is written into octets that
 // the caller lends; everything before it and behind it stays.
+use reports::Report;
 ghost use mathlib.Core.Path.{_≡_};
 ghost use mathlib.Core.Bool.{true, cond};
 ghost use mathlib.Core.List.{[], _∷_, _++_};
@@ -8,16 +9,8 @@ ghost use lib.Dec.{ltb};
 ghost use lib.ListN.{length, take, drop};
 ghost use Rattle.protocol.specs.Events.{refused};
 ghost use Rattle.protocol.specs.Printed.{digitChar, decimal, hexadecimal, field, textField, reportFields, restOf, lineOf};
-ghost use Rattle.frame_lines.specs.Lines.{written, Wrote, Began, Spells, Tabled, lastDigits, octetsOf, reportIn, acceptedIn, longestRest, restRoom, shortRest, longestRefusal};
-
-// What an accepted event reports.
-pub struct Report {
-    pub kind: u64,
-    pub a: u64,
-    pub b: u64,
-    pub p: u64,
-    pub w: u64,
-}
+ghost use Rattle.reports.specs.Effects.{reportIn, acceptedIn};
+ghost use Rattle.frame_lines.specs.Lines.{written, Wrote, Began, Spells, Tabled, lastDigits, octetsOf, longestRest, restRoom, shortRest, longestRefusal};
 
 // The room that a line is written in. The longest line has 191 octets: six numbers of 20 digits, five blanks before them, a blank and a text of 32
 // octets, and the line end. As many octets as the longest text has digits are moved behind it, and put back.
@@ -368,7 +361,7 @@ fn put_fields(
     ensures { λ n. ⌜ Wrote 170 (reportFields (reportIn r (take size (now (room .entry))))) (now (out .entry)) (now (out .exit)) at n ⌝ }
 {
     let b = put_head(out, at, numbers, r);
-    let w = put_two_fields(out, b, r.p, r.w);
+    let w = put_two_fields(out, b, r.effect.passed, r.effect.records);
     if r.kind == 4 {
         return put_text(out, w, room, size);
     }

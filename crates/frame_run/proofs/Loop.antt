@@ -16,7 +16,7 @@ use Rattle.frame_lines.specs.Lines.{lineRoom}
 use Rattle.frame_lines.proofs.Octets.{written-none}
 use Rattle.frame_run.specs.declared.Progress.{Progress}
 use Rattle.frame_run.specs.Piece.{runFrom}
-use Rattle.frame_run.specs.Ready.{Ready}
+use Rattle.frame_run.specs.CanRun.{CanRun}
 use Rattle.frame_run.specs.Went.{InRun, NoneWhole, EndsRun, Went, Turned}
 
 -- the first progress
@@ -25,7 +25,7 @@ none-yet = record { read = 0; written = 0; frames = 0; state = 0 }
 
 -- before each frame
 pub record Going (input : List ℕ) (index : ℕ) (last : Bool) (L₀ L : Lent) (out₀ out : List ℕ) (p : Progress) : Type 0 where
-  pub ready : Ready L
+  pub ready : CanRun L
   pub run : InRun (runFrom (p .frames) (floorIn L₀) index input) L out₀ out p
   pub inside : p .read ≤ length input
   pub within : p .written ≤ length out
@@ -41,7 +41,7 @@ abbrev pub left : List ℕ → Progress → ℕ
 left input p = length input - p .read + cond (eqb (p .state) 0) 1 0
 
 module _ (input : List ℕ) (index : ℕ) (last : Bool) (L₀ : Lent) (out₀ : List ℕ) where
-  pub going-first : Ready L₀ → Going input index last L₀ L₀ out₀ out₀ none-yet
+  pub going-first : CanRun L₀ → Going input index last L₀ L₀ out₀ out₀ none-yet
   unfolding runFrom
   going-first R =
       record {
@@ -117,12 +117,12 @@ by-room p n e h =
     (λ l. le-leb 255 (n - p .written) l ∙ sym (le-leb (p .written + lineRoom) n (omega arith))))
 
 -- tables of ready floors are equally long
-module _ (L L′ : Lent) (R : Ready L) (R′ : Ready L′) where
+module _ (L L′ : Lent) (R : CanRun L) (R′ : CanRun L′) where
   abbrev a : Lengths L
-  a = lengths-of L (R .lengths)
+  a = lengths-of L (R .ready .lengths)
 
   abbrev a′ : Lengths L′
-  a′ = lengths-of L′ (R′ .lengths)
+  a′ = lengths-of L′ (R′ .ready .lengths)
 
   same : L .product ≡ L′ .product
   same = R .whole ∙ sym (R′ .whole)

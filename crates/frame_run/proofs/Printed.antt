@@ -23,7 +23,7 @@ use Rattle.view.specs.View.{Lent, floorIn}
 use Rattle.frame_lines.specs.Lines.{written}
 use Rattle.frame_run.specs.declared.Progress.{Progress}
 use Rattle.frame_run.specs.Piece.{Ran, still, runFrom}
-use Rattle.frame_run.specs.Ready.{Unstarted}
+use Rattle.frame_run.specs.CanRun.{Unstarted}
 use Rattle.frame_run.specs.Went.{NoneWhole, Went}
 use Rattle.frame_run.proofs.Pieces.{prints}
 use Rattle.frame_run.proofs.Whole.{runs-go-on, runs-end, turns-enough}

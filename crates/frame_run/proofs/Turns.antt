@@ -11,7 +11,7 @@ use borrow.Author.Tests.{eqb-true, eq-eqb, ne-eqb, not-true, not-false}
 use denote.Enum.Declared.{tagOf}
 use types.Run.{OneOf, miss}
 use Rattle.protocol.proofs.Tests.{and-left, and-right, or-cases, or-false, by-lt, by-eq, clash}
-use Rattle.protocol.specs.Floor.{Product, wholeFloor, limits, limitsOf, Floor}
+use Rattle.protocol.specs.Floor.{Product, limits, limitsOf, Floor}
 use Rattle.protocol.specs.Events.{refused}
 use Rattle.protocol.specs.Events as events
 use Rattle.protocol.specs.Step.{step, answer}
@@ -33,22 +33,22 @@ use Rattle.frames.proofs.Values.{same-number}
 use Rattle.frames.proofs.Reading.{the-type as reading-type}
 use Rattle.frame_run.specs.declared.Progress.{Progress}
 use Rattle.frame_run.specs.Piece.{Ran, runFrom}
-use Rattle.frame_run.specs.Ready.{Ready}
+use Rattle.frame_run.specs.CanRun.{CanRun}
 use Rattle.frame_run.specs.Went.{InRun, NoneWhole, EndsRun, Took, Turned}
 use Rattle.frame_run.proofs.Pieces.{more, onward, one-more}
 use Rattle.frame_run.proofs.Events.{goes-on}
 
 -- there is a part of the texts for each room
-pub text-there : (L : Lent) → Ready L → (m : ℕ) → m < 32 → HasText (L .texts) m
-text-there L R m h = let e = lengths-of L (R .lengths) .texts ∙ ap (λ (P : Product). P .held * 32) (R .whole) in omega arith
+pub text-there : (L : Lent) → CanRun L → (m : ℕ) → m < 32 → HasText (L .texts) m
+text-there L R m h = let e = lengths-of L (R .ready .lengths) .texts ∙ ap (λ (P : Product). P .held * 32) (R .whole) in omega arith
 
 -- the event that happened and the line that was printed
 pub took : (index : ℕ) (L L′ : Lent) (out out′ : List ℕ) (p r : Progress) (e : events.Event) (size : ℕ) (a : events.Answer)
-    → Ready L → L′ .product ≡ wholeFloor → Met L L′ e a → Wrote longestLine (lineOf index a) out out′ (p .written) (r .written)
+    → CanRun L → Met L L′ e a → Wrote longestLine (lineOf index a) out out′ (p .written) (r .written)
     → r .read ≡ p .read + size → r .frames ≡ p .frames + 1 → r .state ≡ 0 → Took index L L′ out out′ p r e size
-took index L L′ out out′ p r e size a R same met line read frames state =
+took index L L′ out out′ p r e size a R met line read frames state =
     record {
-      ready = goes-on L L′ e a R same met;
+      ready = goes-on L L′ e a R met;
       floor = met .floor ∙ ap (λ (P : Product). step (limitsOf P) (floorIn L) e) (R .whole);
       line = subst (λ (x : events.Answer). Wrote longestLine (lineOf index x) out out′ (p .written) (r .written)) (met .answers ∙ ap (λ (P : Product). answer (limitsOf P) (floorIn L) e) (R .whole)) line;
       read = read;
@@ -150,7 +150,7 @@ module _ (input : List ℕ) (first index : ℕ) (F : Floor) (L : Lent) (out₀ o
       ∙ ap (λ (x : Reading). more R index x) q
 
 -- THE THREE WAYS of a frame
-module _ (input : List ℕ) (index : ℕ) (last : Bool) (L : Lent) (out : List ℕ) (p : Progress) (ready : Ready L) (going : p .state ≡ 0) (inside : p .read ≤ length input)
+module _ (input : List ℕ) (index : ℕ) (last : Bool) (L : Lent) (out : List ℕ) (p : Progress) (ready : CanRun L) (going : p .state ≡ 0) (inside : p .read ≤ length input)
     (room : p .written + lineRoom ≤ length out) (few : p .frames ≤ p .read) where
   -- none is whole
   pub turned-waits : (r : Progress) → r ≡ record { read = p .read; written = p .written; frames = p .frames; state = 1 } → NoneWhole last (readAt limits input (p .read))

@@ -1,4 +1,4 @@
 pub mod Piece
-pub mod Ready
-pub mod Told
+pub mod CanRun
+pub mod Dispatched
 pub mod Went

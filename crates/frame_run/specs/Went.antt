@@ -14,7 +14,7 @@ use Rattle.view.specs.View.{Lent, floorIn}
 use Rattle.frame_lines.specs.Lines.{written, Wrote, longestLine, lineRoom}
 use Rattle.frame_run.specs.declared.Progress.{Progress}
 use Rattle.frame_run.specs.Piece.{Ran, runFrom}
-use Rattle.frame_run.specs.Ready.{Ready}
+use Rattle.frame_run.specs.CanRun.{CanRun}
 
 -- the state of a run: the floor that L says, and the lines at the front of the output, which was out₀ before
 pub record InRun (R : Ran) (L : Lent) (out₀ out : List ℕ) (p : Progress) : Type 0 where
@@ -43,7 +43,7 @@ EndsRun last (taken e size) = ⊥
 -- open: where no whole frame is left and the output has no room either, 0 and 1 are both right. The rules say what is printed, not when; after 0 the
 -- run goes on with the same octets and an empty output, prints nothing, and says 1
 pub record Went (input : List ℕ) (index : ℕ) (last : Bool) (L L′ : Lent) (out out′ : List ℕ) (p : Progress) : Type 0 where
-  pub ready : Ready L′
+  pub ready : CanRun L′
   pub run : InRun (runFrom (p .frames) (floorIn L) index input) L′ out out′ p
   pub inside : p .read ≤ length input
   pub few : p .frames ≤ p .read + 1
@@ -56,7 +56,7 @@ pub record Went (input : List ℕ) (index : ℕ) (last : Bool) (L L′ : Lent) (
 
 -- ONE EVENT of a frame was taken, with its index: the floor and the line are the written ones
 pub record Took (index : ℕ) (L L′ : Lent) (out out′ : List ℕ) (p r : Progress) (e : Event) (size : ℕ) : Type 0 where
-  pub ready : Ready L′
+  pub ready : CanRun L′
   pub floor : floorIn L′ ≡ step limits (floorIn L) e
   pub line : Wrote longestLine (lineOf index (answer limits (floorIn L) e)) out out′ (p .written) (r .written)
   pub read : r .read ≡ p .read + size
@@ -65,7 +65,7 @@ pub record Took (index : ℕ) (L L′ : Lent) (out out′ : List ℕ) (p r : Pro
 
 -- ONE FRAME, with its index, or none where none is whole; in every run that p is the state of, whatever its first index
 pub record Turned (input : List ℕ) (index : ℕ) (last : Bool) (L L′ : Lent) (out out′ : List ℕ) (p r : Progress) : Type 0 where
-  pub ready : Ready L′
+  pub ready : CanRun L′
   pub runs : (F : Floor) (first : ℕ) (out₀ : List ℕ) → index ≡ first + p .frames
       → InRun (runFrom (p .frames) F first input) L out₀ out p → InRun (runFrom (r .frames) F first input) L′ out₀ out′ r
   pub inside : r .read ≤ length input

@@ -1,220 +1,50 @@
 // THE RUN: frames in, one line each out, over a lent floor that nothing is tested twice of. "The program floor reads frames from standard input
 // and prints one line each."
 use event_answers::Answer;
-use event_radio::Handing;
-use frame_lines::Report;
+use event_answers::Told;
 use frames::Event;
 use frames::Reading;
-use ids::CartNumber;
-use ids::Station;
 ghost use mathlib.Core.Path.{_≡_};
 ghost use mathlib.Core.Bool.{true, false, not, _&&_, _||_};
-ghost use mathlib.Core.List.{List, []};
-ghost use Prim.Native.Nat.{ℕ, _+_, _*_, _<_, _≤_};
+ghost use Prim.Native.Nat.{_+_, _<_, _≤_};
 ghost use lib.Dec.{eqb, leb};
 ghost use lib.ListN.{length, drop};
 ghost use Rattle.protocol.specs.Floor.{wholeFloor};
-ghost use Rattle.protocol.specs.Events.{enter, send, wire, radio, move, refused};
+ghost use Rattle.protocol.specs.Events.{refused};
 ghost use Rattle.protocol.specs.Printed.{decimal, restOf, lineOf};
-ghost use Rattle.stations.specs.View.{HasHead, headIn};
 ghost use Rattle.messages.specs.Texts.{HasText};
 ghost use Rattle.view.specs.View.{lent};
-ghost use Rattle.event_answers.specs.Answers.{answerIn};
+ghost use Rattle.event_answers.specs.Answers.{toldOf};
 ghost use Rattle.event_answers.specs.Met.{Met};
-ghost use Rattle.event_radio.specs.Handing.{handingIn, Fits};
 ghost use Rattle.frames.specs.Decoded.{eventIn, sizeOf};
 ghost use Rattle.frame_lines.specs.Lines.{Tabled, Wrote, Began, longestRest, restRoom, longestRefusal, lineRoom};
-ghost use Rattle.frame_run.specs.Ready.{Ready};
-ghost use Rattle.frame_run.specs.Told.{toldIn, Within};
+ghost use Rattle.frame_run.specs.CanRun.{CanRun};
+ghost use Rattle.frame_run.specs.Dispatched.{dispatchedIn, Within};
 ghost use Rattle.frame_run.specs.Went.{Took, Turned, Went};
 
 // "Sixteen octets", and a text's part of the lent octets.
 const FRAME: usize = 16;
 
-// What an event came to: a refusal's number, or what is reported. A radio step's text lies in its room's part of the texts, and has so many
-// octets. It is numbers and not an answer, so that its line only asks whether it was refused.
-struct Told {
-    is_refused: bool,
-    refusal: u64,
-    report: Report,
+// An event that was dispatched, its line begun: where the line goes on behind its index, what the event answered, and, of a radio step, in which
+// room's part of the texts its text lies and how many octets it has.
+struct Dispatched {
+    next: usize,
+    told: Told,
     room: usize,
     size: usize,
 }
 
-// An answer that has no text.
-fn plainly(answer: Answer) -> Told
-    ensures { λ r. ⌜ Within r × ((T : List ℕ) → toldIn T r ≡ answerIn answer []) ⌝ }
+// One that has no text.
+fn without_text(next: usize, answer: Answer) -> Dispatched
+    ensures { λ r. ⌜ r ≡ record { next = next; told = toldOf answer; room = 0; size = 0 } ⌝ }
 {
-    let report = frame_report::report_of(answer);
-    match answer {
-        Answer::Refused(refusal) => Told {
-            is_refused: true,
-            refusal,
-            report,
-            room: 0,
-            size: 0,
-        },
-        _ => Told {
-            is_refused: false,
-            refusal: 0,
-            report,
-            room: 0,
-            size: 0,
-        },
+    let told = event_answers::told_of(answer);
+    Dispatched {
+        next,
+        told,
+        room: 0,
+        size: 0,
     }
-}
-
-// A radio step's answer, and where its text lies.
-fn with_text(handing: Handing) -> Told
-    requires { ⌜ Fits 32 handing ⌝ }
-    ensures { λ r. ⌜ Within r × ((T : List ℕ) → toldIn T r ≡ handingIn T handing) ⌝ }
-{
-    match handing {
-        Handing::Refused(number) => plainly(Answer::Refused(number)),
-        Handing::Over(m, size, initiator, number, p, w) => Told {
-            is_refused: false,
-            refusal: 0,
-            report: frame_report::report_of(Answer::Received(initiator, number, p, w, size)),
-            room: m,
-            size,
-        },
-    }
-}
-
-// "not started".
-const NOT_STARTED: u64 = 5;
-
-// Is the floor started?
-fn is_started(stations: &[u64]) -> bool
-    requires { ⌜ HasHead (now stations) ⌝ }
-    ensures { λ r. ⌜ r ≡ eqb (headIn (now (stations .entry)) .mark) 1 ⌝ }
-{
-    stations::mark_of(stations) == stations::STARTED
-}
-
-// THE EVENTS BUT A START, on a floor that a run can go on with: if it is started it passes the form rule, and if not they are refused. Each asks
-// that for itself and not all at once before them, so that no test stands between the kind of a frame and the code of its event.
-
-// "Enter (station, cart)".
-fn enter(
-    stations: &mut [u64],
-    carts: &mut [u64],
-    messages: &mut [u64],
-    lines: &mut [u64],
-    texts: &[u8],
-    station: Station,
-    cart: CartNumber,
-) -> Told
-    requires { ⌜ Ready (lent wholeFloor (now stations) (now carts) (now messages) (now lines) (now texts)) ⌝ }
-    ensures { λ r. ⌜ Within r × Met (lent wholeFloor (now (stations .entry)) (now (carts .entry)) (now (messages .entry)) (now (lines .entry)) (now (texts .entry))) (lent wholeFloor (now (stations .exit)) (now (carts .exit)) (now (messages .exit)) (now (lines .exit)) (now (texts .entry))) (enter (station .0) (cart .0)) (toldIn (now (texts .entry)) r) ⌝ }
-{
-    if !is_started(stations) {
-        return plainly(Answer::Refused(NOT_STARTED));
-    }
-    plainly(event_carts::enter(stations, carts, messages, lines, texts, station, cart))
-}
-
-// "Send (station, set, text)".
-fn send(
-    stations: &mut [u64],
-    carts: &mut [u64],
-    messages: &mut [u64],
-    lines: &mut [u64],
-    texts: &mut [u8],
-    station: Station,
-    set: u64,
-    text: &[u8],
-) -> Told
-    requires { ⌜ Ready (lent wholeFloor (now stations) (now carts) (now messages) (now lines) (now texts)) ⌝ }
-    requires { ⌜ length (now text) ≤ 32 ⌝ }
-    ensures { λ r. ⌜ Within r × Met (lent wholeFloor (now (stations .entry)) (now (carts .entry)) (now (messages .entry)) (now (lines .entry)) (now (texts .entry))) (lent wholeFloor (now (stations .exit)) (now (carts .exit)) (now (messages .exit)) (now (lines .exit)) (now (texts .exit))) (send (station .0) set (now (text .entry))) (toldIn (now (texts .exit)) r) ⌝ }
-{
-    if !is_started(stations) {
-        return plainly(Answer::Refused(NOT_STARTED));
-    }
-    plainly(event_send::send(
-        stations,
-        carts,
-        messages,
-        lines,
-        texts,
-        station,
-        set,
-        text,
-        products::floor_bounds(),
-    ))
-}
-
-// "Wire (from, to)".
-fn wire(
-    stations: &mut [u64],
-    carts: &mut [u64],
-    messages: &mut [u64],
-    lines: &mut [u64],
-    texts: &[u8],
-    from: Station,
-    to: Station,
-) -> Told
-    requires { ⌜ Ready (lent wholeFloor (now stations) (now carts) (now messages) (now lines) (now texts)) ⌝ }
-    ensures { λ r. ⌜ Within r × Met (lent wholeFloor (now (stations .entry)) (now (carts .entry)) (now (messages .entry)) (now (lines .entry)) (now (texts .entry))) (lent wholeFloor (now (stations .exit)) (now (carts .exit)) (now (messages .exit)) (now (lines .exit)) (now (texts .entry))) (wire (from .0) (to .0)) (toldIn (now (texts .entry)) r) ⌝ }
-{
-    if !is_started(stations) {
-        return plainly(Answer::Refused(NOT_STARTED));
-    }
-    plainly(event_wire::wire(stations, carts, messages, lines, texts, from, to))
-}
-
-// "Radio (station, cart)", into a buffer that has room for every text.
-fn radio(
-    stations: &mut [u64],
-    carts: &mut [u64],
-    messages: &mut [u64],
-    lines: &mut [u64],
-    texts: &[u8],
-    station: Station,
-    cart: CartNumber,
-) -> Told
-    requires { ⌜ Ready (lent wholeFloor (now stations) (now carts) (now messages) (now lines) (now texts)) ⌝ }
-    ensures { λ r. ⌜ Within r × Met (lent wholeFloor (now (stations .entry)) (now (carts .entry)) (now (messages .entry)) (now (lines .entry)) (now (texts .entry))) (lent wholeFloor (now (stations .exit)) (now (carts .exit)) (now (messages .exit)) (now (lines .exit)) (now (texts .entry))) (radio (station .0) (cart .0) 32) (toldIn (now (texts .entry)) r) ⌝ }
-{
-    if !is_started(stations) {
-        return plainly(Answer::Refused(NOT_STARTED));
-    }
-    with_text(event_radio::radio(
-        stations,
-        carts,
-        messages,
-        lines,
-        texts,
-        station,
-        cart,
-        products::TEXT,
-    ))
-}
-
-// "Move (cart, to)".
-fn move_cart(
-    stations: &mut [u64],
-    carts: &mut [u64],
-    messages: &mut [u64],
-    lines: &mut [u64],
-    texts: &[u8],
-    cart: CartNumber,
-    to: Station,
-) -> Told
-    requires { ⌜ Ready (lent wholeFloor (now stations) (now carts) (now messages) (now lines) (now texts)) ⌝ }
-    ensures { λ r. ⌜ Within r × Met (lent wholeFloor (now (stations .entry)) (now (carts .entry)) (now (messages .entry)) (now (lines .entry)) (now (texts .entry))) (lent wholeFloor (now (stations .exit)) (now (carts .exit)) (now (messages .exit)) (now (lines .exit)) (now (texts .entry))) (move (cart .0) (to .0)) (toldIn (now (texts .entry)) r) ⌝ }
-{
-    if !is_started(stations) {
-        return plainly(Answer::Refused(NOT_STARTED));
-    }
-    plainly(event_carts::move_cart(stations, carts, messages, lines, texts, cart, to))
-}
-
-// An event that was dispatched, its line begun: where the line goes on behind its index, and what the event came to.
-struct Dispatched {
-    next: usize,
-    told: Told,
 }
 
 // An event of the run, of the frame at a place: a send is followed by its text. Its line begins at another place of the output, with the index. That
@@ -234,61 +64,94 @@ fn dispatch(
     numbers: &[u64],
     index: u64,
 ) -> Dispatched
-    requires { ⌜ Ready (lent wholeFloor (now stations) (now carts) (now messages) (now lines) (now texts)) ⌝ }
+    requires { ⌜ CanRun (lent wholeFloor (now stations) (now carts) (now messages) (now lines) (now texts)) ⌝ }
     requires { ⌜ (at + sizeOf e ≤ length (now input)) × (sizeOf e ≤ 48) ⌝ }
     requires { ⌜ (line + 20 ≤ length (now output)) × Tabled (now numbers) ⌝ }
-    ensures { λ r. ⌜ Within (r .told) × Met (lent wholeFloor (now (stations .entry)) (now (carts .entry)) (now (messages .entry)) (now (lines .entry)) (now (texts .entry))) (lent wholeFloor (now (stations .exit)) (now (carts .exit)) (now (messages .exit)) (now (lines .exit)) (now (texts .exit))) (eventIn (drop at (now (input .entry))) e) (toldIn (now (texts .exit)) (r .told)) ⌝ }
+    ensures { λ r. ⌜ Within r × Met (lent wholeFloor (now (stations .entry)) (now (carts .entry)) (now (messages .entry)) (now (lines .entry)) (now (texts .entry))) (lent wholeFloor (now (stations .exit)) (now (carts .exit)) (now (messages .exit)) (now (lines .exit)) (now (texts .exit))) (eventIn (drop at (now (input .entry))) e) (dispatchedIn (now (texts .exit)) r) ⌝ }
     ensures { λ r. ⌜ Began 3 20 (decimal index) (now (output .entry)) (now (output .exit)) line (r .next) ⌝ }
 {
     match e {
         Event::Start(n, k) => {
             let next = frame_lines::put_index(output, line, numbers, index);
-            let told = plainly(controller::start(stations, carts, messages, lines, texts, n, k));
-            Dispatched { next, told }
+            let answer = controller::start(stations, carts, messages, lines, texts, n, k);
+            without_text(next, answer)
         }
         Event::Enter(station, cart) => {
             let next = frame_lines::put_index(output, line, numbers, index);
-            let told = enter(stations, carts, messages, lines, texts, station, cart);
-            Dispatched { next, told }
+            let answer = event_carts::enter(stations, carts, messages, lines, texts, station, cart);
+            without_text(next, answer)
         }
         Event::Send(station, set, size) => {
             let next = frame_lines::put_index(output, line, numbers, index);
             let from = at + FRAME;
-            let end = from + size;
-            let text = &input[from..end];
-            let told = send(stations, carts, messages, lines, texts, station, set, text);
-            Dispatched { next, told }
+            let text = &input[from..from + size];
+            let answer = event_send::send(
+                stations,
+                carts,
+                messages,
+                lines,
+                texts,
+                station,
+                set,
+                text,
+                products::floor_bounds(),
+            );
+            without_text(next, answer)
         }
         Event::Wire(from, to) => {
             let next = frame_lines::put_index(output, line, numbers, index);
-            let told = wire(stations, carts, messages, lines, texts, from, to);
-            Dispatched { next, told }
+            let answer = event_wire::wire(stations, carts, messages, lines, texts, from, to);
+            without_text(next, answer)
         }
         Event::Radio(station, cart) => {
             let next = frame_lines::put_index(output, line, numbers, index);
-            let told = radio(stations, carts, messages, lines, texts, station, cart);
-            Dispatched { next, told }
+            let handed = event_radio::radio(
+                stations,
+                carts,
+                messages,
+                lines,
+                texts,
+                station,
+                cart,
+                products::TEXT,
+            );
+            let answer = handed.answer;
+            let told = event_answers::told_of(answer);
+            Dispatched {
+                next,
+                told,
+                room: handed.room,
+                size: told.size,
+            }
         }
         Event::Move(cart, to) => {
             let next = frame_lines::put_index(output, line, numbers, index);
-            let told = move_cart(stations, carts, messages, lines, texts, cart, to);
-            Dispatched { next, told }
+            let answer = event_carts::move_cart(stations, carts, messages, lines, texts, cart, to);
+            without_text(next, answer)
         }
     }
 }
 
-// The rest of the line of what an event came to, behind its index. All the room of its text is lent, so that no loop runs as often as the text is
-// long.
-fn print(out: &mut [u8], texts: &[u8], at: usize, numbers: &[u64], told: Told) -> usize
-    requires { ⌜ (at + restRoom ≤ length (now out)) × HasText (now texts) (told .room) × Tabled (now numbers) × Within told ⌝ }
-    ensures { λ n. ⌜ Wrote longestRest (restOf (toldIn (now (texts .entry)) told)) (now (out .entry)) (now (out .exit)) at n ⌝ }
+// The rest of the line of a dispatched event, behind its index. All the room of its text is lent, so that no loop runs as often as the text is long.
+fn print(out: &mut [u8], texts: &[u8], numbers: &[u64], dispatched: Dispatched) -> usize
+    requires { ⌜ (dispatched .next + restRoom ≤ length (now out)) × HasText (now texts) (dispatched .room) × Tabled (now numbers) × Within dispatched ⌝ }
+    ensures { λ n. ⌜ Wrote longestRest (restOf (dispatchedIn (now (texts .entry)) dispatched)) (now (out .entry)) (now (out .exit)) (dispatched .next) n ⌝ }
 {
+    let at = dispatched.next;
+    let told = dispatched.told;
     if told.is_refused {
         return frame_lines::end_refused(out, at, told.refusal);
     }
-    let from = told.room * products::TEXT;
+    let from = dispatched.room * products::TEXT;
     let end = from + products::TEXT;
-    frame_lines::end_accepted(out, at, numbers, told.report, &texts[from..end], told.size)
+    frame_lines::end_accepted(
+        out,
+        at,
+        numbers,
+        told.report,
+        &texts[from..end],
+        dispatched.size,
+    )
 }
 
 // How far a piece of input was run: the octets read from its front, the octets written to the front of the output, the frames, and why it
@@ -351,7 +214,7 @@ fn take_event(
     p: Progress,
     e: Event,
 ) -> Progress
-    requires { ⌜ Ready (lent wholeFloor (now stations) (now carts) (now messages) (now lines) (now texts)) ⌝ }
+    requires { ⌜ CanRun (lent wholeFloor (now stations) (now carts) (now messages) (now lines) (now texts)) ⌝ }
     requires { ⌜ (p .read + sizeOf e ≤ length (now input)) × (sizeOf e ≤ 48) × (p .written + lineRoom ≤ length (now output)) ⌝ }
     requires { ⌜ (p .frames ≤ p .read) × (length (now input) + 1 < 18446744073709551616) × Tabled (now numbers) ⌝ }
     ensures { λ r. ⌜ Took index (lent wholeFloor (now (stations .entry)) (now (carts .entry)) (now (messages .entry)) (now (lines .entry)) (now (texts .entry))) (lent wholeFloor (now (stations .exit)) (now (carts .exit)) (now (messages .exit)) (now (lines .exit)) (now (texts .exit))) (now (output .entry)) (now (output .exit)) p r (eventIn (drop (p .read) (now (input .entry))) e) (sizeOf e) ⌝ }
@@ -370,8 +233,7 @@ fn take_event(
         numbers,
         index,
     );
-    let told = dispatched.told;
-    let written = print(output, texts, dispatched.next, numbers, told);
+    let written = print(output, texts, numbers, dispatched);
     Progress {
         read: p.read + frames::size_of(e),
         written,
@@ -410,7 +272,7 @@ fn take_frame(
     p: Progress,
     last: bool,
 ) -> Progress
-    requires { ⌜ Ready (lent wholeFloor (now stations) (now carts) (now messages) (now lines) (now texts)) ⌝ }
+    requires { ⌜ CanRun (lent wholeFloor (now stations) (now carts) (now messages) (now lines) (now texts)) ⌝ }
     requires { ⌜ (p .state ≡ 0) × (p .read ≤ length (now input)) × (p .written + lineRoom ≤ length (now output)) ⌝ }
     requires { ⌜ (p .frames ≤ p .read) × (length (now input) + 1 < 18446744073709551616) × Tabled (now numbers) ⌝ }
     ensures { λ r. ⌜ Turned (now (input .entry)) index last (lent wholeFloor (now (stations .entry)) (now (carts .entry)) (now (messages .entry)) (now (lines .entry)) (now (texts .entry))) (lent wholeFloor (now (stations .exit)) (now (carts .exit)) (now (messages .exit)) (now (lines .exit)) (now (texts .exit))) (now (output .entry)) (now (output .exit)) p r ⌝ }
@@ -464,7 +326,7 @@ pub fn take_frames(
     index: u64,
     last: bool,
 ) -> Progress
-    requires { ⌜ Ready (lent wholeFloor (now stations) (now carts) (now messages) (now lines) (now texts)) × Tabled (now numbers) ⌝ }
+    requires { ⌜ CanRun (lent wholeFloor (now stations) (now carts) (now messages) (now lines) (now texts)) × Tabled (now numbers) ⌝ }
     requires { ⌜ index + length (now input) + 1 < 18446744073709551616 ⌝ }
     ensures { λ p. ⌜ Went (now (input .entry)) index last (lent wholeFloor (now (stations .entry)) (now (carts .entry)) (now (messages .entry)) (now (lines .entry)) (now (texts .entry))) (lent wholeFloor (now (stations .exit)) (now (carts .exit)) (now (messages .exit)) (now (lines .exit)) (now (texts .exit))) (now (output .entry)) (now (output .exit)) p ⌝ }
 {

@@ -11,7 +11,7 @@ use Rattle.protocol.proofs.Tests.{clash}
 use Rattle.stations.specs.View.{headIn}
 use Rattle.view.specs.View.{lent, lengthsIn, floorIn}
 use Rattle.view.proofs.Lengths.{lengths-right}
-use Rattle.frame_run.specs.Ready.{Ready, Unstarted}
+use Rattle.frame_run.specs.CanRun.{CanRun, Unstarted}
 use Rattle.frame_stream.specs.declared.Outcome.{Outcome}
 use Rattle.frame_stream.specs.Feed.{Finished, Streamed}
 use Rattle.frame_stream.proofs.Stream.{stream-is}
@@ -23,8 +23,8 @@ module _ (S C M W T : List ℕ) (s : (length S ≡ 1972) × (headIn S .mark ≡ 
   fresh : Unstarted (floorIn (lent wholeFloor S C M W T))
   fresh = record { fresh = ne-eqb (headIn S .mark) 1 (λ z. let y = s .1 in omega arith); lengths = lengths }
 
-  pub fresh-ready : Ready (lent wholeFloor S C M W T)
-  fresh-ready = record { whole = refl; lengths = lengths; passes = λ h. clash (floorIn (lent wholeFloor S C M W T) .started) h (fresh .fresh) }
+  pub fresh-ready : CanRun (lent wholeFloor S C M W T)
+  fresh-ready = record { whole = refl; ready = record { lengths = lengths; passes = λ h. clash (floorIn (lent wholeFloor S C M W T) .started) h (fresh .fresh) } }
 
   -- so what the run over it hands on is the printed run
   pub streamed : (r : Outcome) → Finished (floorIn (lent wholeFloor S C M W T)) r → Streamed r

@@ -9,7 +9,7 @@ use Rattle.protocol.specs.Step.{answer, floorAfter}
 use Rattle.protocol.specs.SumRule.{total, gains}
 use Rattle.protocol.specs.TwoLists.{bothEmpty, listsAfter, owes, TwoListRule}
 use Rattle.frame_run.specs.Piece.{runFrom, eventsFrom}
-use Rattle.frame_run.specs.Ready.{Unstarted}
+use Rattle.frame_run.specs.CanRun.{Unstarted}
 use Rattle.frame_run.proofs.Frames.{floor-of-frames, two-lists-of-frames, sums-of-frames}
 use Rattle.frame_stream.specs.Stream.{begin, Turn, Turns, streamAfter, broughtBy, Behind}
 use Rattle.frame_stream.proofs.Stream.{stream-is}

@@ -14,7 +14,7 @@ use Rattle.protocol.specs.Floor.{Floor, limits}
 use Rattle.protocol.specs.Frames.{Reading, end, refusedFrame, taken, frameOf, readAt}
 use Rattle.protocol.proofs.Tests.{by-test, by-eq, clash}
 use Rattle.frame_run.specs.Piece.{Ran, runFrom}
-use Rattle.frame_run.specs.Ready.{Unstarted}
+use Rattle.frame_run.specs.CanRun.{Unstarted}
 use Rattle.frame_run.specs.Went.{NoneWhole, EndsRun}
 use Rattle.frame_run.proofs.Whole.{joined, stands, runs-go-on, octets-inside}
 use Rattle.frame_run.proofs.Printed.{printed-begins, printed-whole}

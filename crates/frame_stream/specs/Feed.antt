@@ -11,7 +11,7 @@ use Rattle.io.specs.Counts.{clamped}
 use Rattle.protocol.specs.Floor.{Floor}
 use Rattle.view.specs.View.{Lent, floorIn}
 use Rattle.frame_run.specs.declared.Progress.{Progress}
-use Rattle.frame_run.specs.Ready.{Unstarted}
+use Rattle.frame_run.specs.CanRun.{Unstarted}
 use Rattle.frame_stream.specs.declared.Feed.{Feed}
 use Rattle.frame_stream.specs.declared.Got.{Got}
 use Rattle.frame_stream.specs.declared.Handed.{Handed}

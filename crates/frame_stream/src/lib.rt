@@ -11,7 +11,7 @@ ghost use lib.ListN.{length, take, drop};
 ghost use Rattle.stations.specs.View.{headIn};
 ghost use Rattle.frame_lines.specs.Lines.{written, Tabled};
 ghost use Rattle.protocol.specs.Floor.{wholeFloor};
-ghost use Rattle.frame_run.specs.Ready.{Ready};
+ghost use Rattle.frame_run.specs.CanRun.{CanRun};
 ghost use Rattle.view.specs.View.{Lent, lent, floorIn};
 ghost use Rattle.frame_stream.specs.Stream.{stateAfter};
 ghost use Rattle.frame_stream.specs.Feed.{Inside, streamOf, Made, gotOf, afterRead, afterRun, Finished, Streamed};
@@ -228,9 +228,9 @@ fn run_piece(
     numbers: &[u64],
     f: Feed,
 ) -> Feed
-    requires { ⌜ Ready (lent wholeFloor (now stations) (now carts) (now messages) (now lines) (now texts)) × Tabled (now numbers) ⌝ }
+    requires { ⌜ CanRun (lent wholeFloor (now stations) (now carts) (now messages) (now lines) (now texts)) × Tabled (now numbers) ⌝ }
     requires { ⌜ Inside (length (now input)) f × (f .state ≡ 0) × (f .index < 9223372036854775808) × (length (now input) ≡ 65536) × (length (now output) ≡ 65536) ⌝ }
-    ensures { λ r. ⌜ Ready (lent wholeFloor (now (stations .exit)) (now (carts .exit)) (now (messages .exit)) (now (lines .exit)) (now (texts .exit))) × Inside (length (now (input .entry))) r ⌝ }
+    ensures { λ r. ⌜ CanRun (lent wholeFloor (now (stations .exit)) (now (carts .exit)) (now (messages .exit)) (now (lines .exit)) (now (texts .exit))) × Inside (length (now (input .entry))) r ⌝ }
     ensures { λ r. ⌜ Made (streamOf (now (input .entry)) (lent wholeFloor (now (stations .entry)) (now (carts .entry)) (now (messages .entry)) (now (lines .entry)) (now (texts .entry))) f) (streamOf (now (input .entry)) (lent wholeFloor (now (stations .exit)) (now (carts .exit)) (now (messages .exit)) (now (lines .exit)) (now (texts .exit))) r) (take (r .handed) (now (output .exit))) ⌝ }
     ensures { λ r. ⌜ length (now (output .exit)) ≡ length (now (output .entry)) ⌝ }
 {
@@ -267,9 +267,9 @@ fn turn(
     numbers: &[u64],
     f: Feed,
 ) -> Feed
-    requires { ⌜ Ready (lent wholeFloor (now stations) (now carts) (now messages) (now lines) (now texts)) × Tabled (now numbers) ⌝ }
+    requires { ⌜ CanRun (lent wholeFloor (now stations) (now carts) (now messages) (now lines) (now texts)) × Tabled (now numbers) ⌝ }
     requires { ⌜ Inside (length (now input)) f × (f .state < 2) × (f .index < 9223372036854775808) × (length (now input) ≡ 65536) × (length (now output) ≡ 65536) ⌝ }
-    ensures { λ r. ⌜ Ready (lent wholeFloor (now (stations .exit)) (now (carts .exit)) (now (messages .exit)) (now (lines .exit)) (now (texts .exit))) × Inside (length (now (input .exit))) r ⌝ }
+    ensures { λ r. ⌜ CanRun (lent wholeFloor (now (stations .exit)) (now (carts .exit)) (now (messages .exit)) (now (lines .exit)) (now (texts .exit))) × Inside (length (now (input .exit))) r ⌝ }
     ensures { λ r. ⌜ Made (streamOf (now (input .entry)) (lent wholeFloor (now (stations .entry)) (now (carts .entry)) (now (messages .entry)) (now (lines .entry)) (now (texts .entry))) f) (streamOf (now (input .exit)) (lent wholeFloor (now (stations .exit)) (now (carts .exit)) (now (messages .exit)) (now (lines .exit)) (now (texts .exit))) r) (take (r .handed) (now (output .exit))) ⌝ }
     ensures { λ r. ⌜ (length (now (input .exit)) ≡ length (now (input .entry))) × (length (now (output .exit)) ≡ length (now (output .entry))) ⌝ }
 {
@@ -323,7 +323,7 @@ fn run_all(
     texts: &mut [u8],
     numbers: &[u64],
 ) -> Outcome
-    requires { ⌜ Ready (lent wholeFloor (now stations) (now carts) (now messages) (now lines) (now texts)) × Tabled (now numbers) × (length (now input) ≡ 65536) × (length (now output) ≡ 65536) ⌝ }
+    requires { ⌜ CanRun (lent wholeFloor (now stations) (now carts) (now messages) (now lines) (now texts)) × Tabled (now numbers) × (length (now input) ≡ 65536) × (length (now output) ≡ 65536) ⌝ }
     ensures { λ r. ⌜ Finished (floorIn (lent wholeFloor (now (stations .entry)) (now (carts .entry)) (now (messages .entry)) (now (lines .entry)) (now (texts .entry)))) r ⌝ }
 {
     let mut f = Feed {

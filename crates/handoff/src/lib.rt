@@ -1,13 +1,13 @@
 // THE HAND-OFF MODULE over the lent parts: move, deregister, register, enter.
 use ids::CartNumber;
 use ids::Station;
+use reports::Effect;
 ghost use mathlib.Core.Path.{_≡_};
 ghost use mathlib.Core.Bool.{true};
 ghost use Prim.Native.Nat.{ℕ, _<_, _≤_};
-ghost use lib.ListN.{length};
 ghost use Rattle.protocol.specs.CartSets.{has};
 ghost use Rattle.protocol.specs.Floor.{at, leaving};
-ghost use Rattle.stations.specs.View.{initiators, HasStation, stationsIn, headIn, namingIn};
+ghost use Rattle.stations.specs.View.{initiators, HasStation, stationsIn, namingIn, Leaves};
 ghost use Rattle.carts.specs.View.{cartsIn};
 ghost use Rattle.carts.specs.Words.{HasRow};
 ghost use Rattle.messages.specs.View.{roomsIn};
@@ -15,6 +15,7 @@ ghost use Rattle.lines.specs.Form.{form};
 ghost use Rattle.lines.specs.Lines.{used};
 ghost use Rattle.lines.specs.Words.{capacity};
 ghost use Rattle.queue.specs.Rooms.{roomCount, HasRooms};
+ghost use Rattle.reports.specs.Effects.{passing, putting};
 ghost use Rattle.catchup.specs.Naming.{Covers};
 ghost use Rattle.catchup.specs.Arrival.{OwnRooms};
 ghost use Rattle.handoff.specs.Moved.{Moved};
@@ -29,10 +30,17 @@ struct Caught {
 }
 
 // "Move (cart, to): a deregister goes from to to the old station; the cart is leaving."
-pub fn on_move(carts: &mut [u64], lines: &mut [u64], number: CartNumber, old: Station, to: Station)
+pub fn on_move(
+    carts: &mut [u64],
+    lines: &mut [u64],
+    number: CartNumber,
+    old: Station,
+    to: Station,
+) -> Effect
     requires { ⌜ HasRow (now carts) (number .0) × (number .0 < 64) × (cartsIn (now carts) .place (number .0) ≡ at (old .0)) ⌝ }
     requires { ⌜ (form (now lines) ≡ true) × (used (now lines) < capacity (now lines)) × (old .0 < 16) × (to .0 < 16) ⌝ }
     ensures { λ _. ⌜ Moved (now (carts .entry)) (now (carts .exit)) (now (lines .entry)) (now (lines .exit)) (number .0) (old .0) (to .0) ⌝ }
+    ensures { λ r. ⌜ r ≡ putting 1 ⌝ }
 {
     let cart = carts::cart_at(carts, number);
     carts::put_cart(carts, number, cart.greet(to));
@@ -42,14 +50,13 @@ pub fn on_move(carts: &mut [u64], lines: &mut [u64], number: CartNumber, old: St
         old.0 as usize,
         view::deregister(number),
     );
+    reports::putting(1)
 }
 
 // "the cart leaves every queue entry here (emptied entries go)". Only rooms that have an entry are looked at.
 fn unqueue(stations: &mut [u64], number: CartNumber, station: Station)
     requires { ⌜ HasStation (now stations) (station .0) × (number .0 < 64) ⌝ }
-    ensures { λ _. ⌜ stationsIn (now (stations .exit)) ≡ unqueued (stationsIn (now (stations .entry))) (station .0) (number .0) ⌝ }
-    ensures { λ _. ⌜ headIn (now (stations .exit)) ≡ headIn (now (stations .entry)) ⌝ }
-    ensures { λ _. ⌜ length (now (stations .exit)) ≡ length (now (stations .entry)) ⌝ }
+    ensures { λ _. ⌜ Leaves (now (stations .entry)) (now (stations .exit)) (unqueued (stationsIn (now (stations .entry))) (station .0) (number .0)) ⌝ }
 {
     let mut left = stations::entries_of(stations, station);
     while 0 < left {
@@ -63,9 +70,7 @@ fn unqueue(stations: &mut [u64], number: CartNumber, station: Station)
 // "the cart leaves every queue entry here (emptied entries go) and the local list"
 fn leave(stations: &mut [u64], number: CartNumber, station: Station)
     requires { ⌜ HasStation (now stations) (station .0) × (number .0 < 64) ⌝ }
-    ensures { λ _. ⌜ stationsIn (now (stations .exit)) ≡ left (stationsIn (now (stations .entry))) (station .0) (number .0) ⌝ }
-    ensures { λ _. ⌜ headIn (now (stations .exit)) ≡ headIn (now (stations .entry)) ⌝ }
-    ensures { λ _. ⌜ length (now (stations .exit)) ≡ length (now (stations .entry)) ⌝ }
+    ensures { λ _. ⌜ Leaves (now (stations .entry)) (now (stations .exit)) (left (stationsIn (now (stations .entry))) (station .0) (number .0)) ⌝ }
 {
     unqueue(stations, number, station);
     let local = sets::without_member(stations::local_of(stations, station), number.0);
@@ -81,10 +86,11 @@ pub fn on_deregister(
     number: CartNumber,
     station: Station,
     from: Station,
-)
+) -> Effect
     requires { ⌜ HasStation (now stations) (station .0) × HasRow (now carts) (number .0) × (number .0 < 64) × (cartsIn (now carts) .place (number .0) ≡ leaving (station .0) (from .0)) ⌝ }
     requires { ⌜ (form (now lines) ≡ true) × (used (now lines) < capacity (now lines)) × (station .0 < 16) × (from .0 < 16) ⌝ }
     ensures { λ _. ⌜ Left (now (stations .entry)) (now (stations .exit)) (now (carts .entry)) (now (carts .exit)) (now (lines .entry)) (now (lines .exit)) (number .0) (station .0) (from .0) ⌝ }
+    ensures { λ r. ⌜ r ≡ putting 1 ⌝ }
 {
     leave(stations, number, station);
     let cart = carts::cart_at(carts, number);
@@ -97,6 +103,7 @@ pub fn on_deregister(
         from.0 as usize,
         view::register(number),
     );
+    reports::putting(1)
 }
 
 // Is the message in room m, of that initiator, buffered at the station, "with a number below the cart's next number"?
@@ -136,9 +143,7 @@ fn strike_from(
 ) -> u64
     requires { ⌜ HasStation (now stations) (station .0) × HasRooms (now messages) × (station .0 < 16) × (cart .0 < 64) × (m < roomCount (now messages)) × (initiator .0 < initiators) ⌝ }
     requires { ⌜ (initiator .0 ≡ roomsIn (now messages) .initiator m) × Covers (roomCount (now messages)) (stationsIn (now stations)) (station .0) (cart .0) naming ⌝ }
-    ensures { λ _. ⌜ stationsIn (now (stations .exit)) ≡ struckIn (stationsIn (now (stations .entry))) (roomsIn (now (messages .entry))) (station .0) (cart .0) m next ⌝ }
-    ensures { λ _. ⌜ headIn (now (stations .exit)) ≡ headIn (now (stations .entry)) ⌝ }
-    ensures { λ _. ⌜ length (now (stations .exit)) ≡ length (now (stations .entry)) ⌝ }
+    ensures { λ _. ⌜ Leaves (now (stations .entry)) (now (stations .exit)) (struckIn (stationsIn (now (stations .entry))) (roomsIn (now (messages .entry))) (station .0) (cart .0) m next) ⌝ }
     ensures { λ r. ⌜ Covers (roomCount (now (messages .entry))) (stationsIn (now (stations .exit))) (station .0) (cart .0) r ⌝ }
 {
     if !is_passed(stations, messages, station, initiator, next, m) {
@@ -162,9 +167,7 @@ fn strike(
 ) -> u64
     requires { ⌜ Covers (roomCount (now messages)) (stationsIn (now stations)) (station .0) (cart .0) naming ⌝ }
     requires { ⌜ HasStation (now stations) (station .0) × HasRooms (now messages) × (station .0 < 16) × (cart .0 < 64) ⌝ }
-    ensures { λ _. ⌜ stationsIn (now (stations .exit)) ≡ struckFrom (stationsIn (now (stations .entry))) (roomsIn (now (messages .entry))) (station .0) (cart .0) row ⌝ }
-    ensures { λ _. ⌜ headIn (now (stations .exit)) ≡ headIn (now (stations .entry)) ⌝ }
-    ensures { λ _. ⌜ length (now (stations .exit)) ≡ length (now (stations .entry)) ⌝ }
+    ensures { λ _. ⌜ Leaves (now (stations .entry)) (now (stations .exit)) (struckFrom (stationsIn (now (stations .entry))) (roomsIn (now (messages .entry))) (station .0) (cart .0) row) ⌝ }
     ensures { λ r. ⌜ Covers (roomCount (now (messages .entry))) (stationsIn (now (stations .exit))) (station .0) (cart .0) r ⌝ }
 {
     let mut ahead = naming;
@@ -201,9 +204,7 @@ fn join(
 )
     requires { ⌜ OwnRooms (roomCount (now messages)) (roomsIn (now messages)) naming nearest ⌝ }
     requires { ⌜ HasStation (now stations) (station .0) × HasRooms (now messages) × (cart .0 < 64) ⌝ }
-    ensures { λ _. ⌜ stationsIn (now (stations .exit)) ≡ joined (stationsIn (now (stations .entry))) (station .0) (cart .0) nearest ⌝ }
-    ensures { λ _. ⌜ headIn (now (stations .exit)) ≡ headIn (now (stations .entry)) ⌝ }
-    ensures { λ _. ⌜ length (now (stations .exit)) ≡ length (now (stations .entry)) ⌝ }
+    ensures { λ _. ⌜ Leaves (now (stations .entry)) (now (stations .exit)) (joined (stationsIn (now (stations .entry))) (station .0) (cart .0) nearest) ⌝ }
 {
     catchup::enqueue_all(stations, messages, station, cart, naming, nearest);
     let local = sets::with_member(stations::local_of(stations, station), cart.0);
@@ -261,7 +262,7 @@ fn dock(
 }
 
 // "Register": of a cart, handled at the station that it greeted. "the cart is struck. Then catch-up for every initiator in rising order, and the
-// cart is at this station": with the row of next numbers that its register carried. Answers how many numbers were passed over.
+// cart is at this station": with the row of next numbers that its register carried.
 pub fn on_register(
     stations: &mut [u64],
     carts: &mut [u64],
@@ -269,17 +270,18 @@ pub fn on_register(
     station: Station,
     number: CartNumber,
     row: [u64; 16],
-) -> u64
+) -> Effect
     requires { ⌜ HasStation (now stations) (station .0) × HasRow (now carts) (number .0) × HasRooms (now messages) × (station .0 < 16) × (number .0 < 64) ⌝ }
     requires { ⌜ ((s : ℕ) → s < initiators → stationsIn (now stations) .expected (station .0) s ≤ 4294967295) ⌝ }
     requires { ⌜ ((m : ℕ) → has (namingIn (stationsIn (now stations)) (station .0) (number .0)) m ≡ true → m < roomCount (now messages)) ⌝ }
-    ensures { λ r. ⌜ Arrived (now (stations .entry)) (now (stations .exit)) (now (carts .entry)) (now (carts .exit)) (now (messages .entry)) (station .0) (number .0) row r ⌝ }
+    ensures { λ r. ⌜ Arrived (now (stations .entry)) (now (stations .exit)) (now (carts .entry)) (now (carts .exit)) (now (messages .entry)) (station .0) (number .0) row (r .passed) ⌝ }
+    ensures { λ r. ⌜ r ≡ passing (r .passed) ⌝ }
 {
     let caught = dock(stations, messages, station, number, row);
     let upto = caught.row;
     let cart = carts::cart_at(carts, number);
     carts::put_cart(carts, number, cart.arrive(station, upto));
-    caught.passed
+    reports::passing(caught.passed)
 }
 
 // "Enter (station, cart): as a register with all next numbers 0, handled at once"
@@ -289,11 +291,12 @@ pub fn on_enter(
     messages: &[u64],
     station: Station,
     number: CartNumber,
-) -> u64
+) -> Effect
     requires { ⌜ HasStation (now stations) (station .0) × HasRow (now carts) (number .0) × HasRooms (now messages) × (station .0 < 16) × (number .0 < 64) ⌝ }
     requires { ⌜ ((s : ℕ) → s < initiators → stationsIn (now stations) .expected (station .0) s ≤ 4294967295) ⌝ }
     requires { ⌜ ((m : ℕ) → has (namingIn (stationsIn (now stations)) (station .0) (number .0)) m ≡ true → m < roomCount (now messages)) ⌝ }
-    ensures { λ r. ⌜ Arrived (now (stations .entry)) (now (stations .exit)) (now (carts .entry)) (now (carts .exit)) (now (messages .entry)) (station .0) (number .0) allZero r ⌝ }
+    ensures { λ r. ⌜ Arrived (now (stations .entry)) (now (stations .exit)) (now (carts .entry)) (now (carts .exit)) (now (messages .entry)) (station .0) (number .0) allZero (r .passed) ⌝ }
+    ensures { λ r. ⌜ r ≡ passing (r .passed) ⌝ }
 {
     let row = [0u64; 16];
     on_register(stations, carts, messages, station, number, row)

@@ -132,15 +132,13 @@ pub fn put_text(texts: &mut [u8], m: usize, text: &[u8])
     bytes::copy(text, &mut texts[at..end]);
 }
 
-// "writes the text at the front of the lent buffer and leaves the rest": the first n octets of room m's part. Answers how many it wrote.
-pub fn copy_text(texts: &[u8], m: usize, n: usize, buffer: &mut [u8]) -> usize
+// "writes the text at the front of the lent buffer and leaves the rest": the first n octets of room m's part.
+pub fn copy_text(texts: &[u8], m: usize, n: usize, buffer: &mut [u8])
     requires { ⌜ HasText (now texts) m × (n ≤ longest) × (n ≤ length (now buffer)) ⌝ }
-    ensures { λ r. ⌜ r ≡ n ⌝ }
     ensures { λ _. ⌜ now (buffer .exit) ≡ textIn (now (texts .entry)) n m ++ drop n (now (buffer .entry)) ⌝ }
     ensures { λ _. ⌜ length (now (buffer .exit)) ≡ length (now (buffer .entry)) ⌝ }
 {
     let at = m * products::TEXT;
     let end = at + n;
     bytes::copy(&texts[at..end], buffer);
-    n
 }

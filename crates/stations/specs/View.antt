@@ -1,8 +1,10 @@
 -- THE STATIONS THAT A LENT TABLE HOLDS, and the stations with one entry changed.
+use mathlib.Core.Path.{_≡_}
 use mathlib.Core.Bool.{Bool, cond}
 use mathlib.Core.List.{List}
 use Prim.Native.Nat.{ℕ, _+_, _*_}
 use lib.Dec.{eqb}
+use lib.ListN.{length}
 use Rattle.protocol.specs.CartSets.{has, with, without, setOf}
 use Rattle.protocol.specs.Folds.{update, update2}
 use Rattle.rows.specs.Rows.{cell, column, RowIn}
@@ -133,6 +135,10 @@ namingIn S t c = setOf rooms (λ m. has (S .copy m t) c)
 -- nothing at any station
 abbrev pub noStations : Stations
 noStations = record { sent = λ t. 0; expected = λ t s. 0; local = λ t. 0; copy = λ m t. 0; acks = λ m t. 0; queue = λ m t. 0 }
+
+-- WHAT A WRITER LEAVES, S before and S′ after: these stations, in a table as long as it was, and the floor's own row stays
+abbrev pub Leaves : List ℕ → List ℕ → Stations → Type 0
+Leaves S S′ X = (stationsIn S′ ≡ X) × ((headIn S′ ≡ headIn S) × (length S′ ≡ length S))
 
 -- ONE ENTRY CHANGED
 

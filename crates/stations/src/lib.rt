@@ -3,10 +3,11 @@ use ids::CartNumber;
 use ids::Station;
 ghost use mathlib.Core.Path.{_≡_};
 ghost use Prim.Native.Nat.{ℕ, _<_, _≤_};
+ghost use lib.Dec.{eqb};
 ghost use lib.ListN.{length, getD};
 ghost use Rattle.protocol.specs.CartSets.{has, setOf};
 ghost use Rattle.protocol.specs.Folds.{update2};
-ghost use Rattle.stations.specs.View.{width, initiators, rooms, HasHead, HasStation, countedWith, entriesIn, wordNames, namingIn, stationWord, head, headIn, stationsIn, noStations, withSent, withExpected, withLocal, withCopy, withAcks, withQueue};
+ghost use Rattle.stations.specs.View.{width, initiators, rooms, HasHead, HasStation, countedWith, entriesIn, wordNames, namingIn, stationWord, head, headIn, stationsIn, noStations, withSent, withExpected, withLocal, withCopy, withAcks, withQueue, Leaves};
 
 // A row of the table has this many words. Row 0 is the floor's own, row 1 + t is station t's.
 const WIDTH: usize = 116;
@@ -72,6 +73,14 @@ pub fn mark_of(stations: &[u64]) -> u64
     rows::word_at(stations, WIDTH, 0, MARK)
 }
 
+// Is the floor started?
+pub fn is_started(stations: &[u64]) -> bool
+    requires { ⌜ HasHead (now stations) ⌝ }
+    ensures { λ r. ⌜ r ≡ eqb (headIn (now (stations .entry)) .mark) 1 ⌝ }
+{
+    mark_of(stations) == STARTED
+}
+
 // How many stations the floor has.
 pub fn station_count(stations: &[u64]) -> u64
     requires { ⌜ HasHead (now stations) ⌝ }
@@ -111,9 +120,7 @@ pub fn sent_of(stations: &[u64], station: Station) -> u64
 // The station has sent so many.
 pub fn put_sent(stations: &mut [u64], station: Station, sent: u64)
     requires { ⌜ HasStation (now stations) (station .0) ⌝ }
-    ensures { λ _. ⌜ stationsIn (now (stations .exit)) ≡ withSent (stationsIn (now (stations .entry))) (station .0) sent ⌝ }
-    ensures { λ _. ⌜ headIn (now (stations .exit)) ≡ headIn (now (stations .entry)) ⌝ }
-    ensures { λ _. ⌜ length (now (stations .exit)) ≡ length (now (stations .entry)) ⌝ }
+    ensures { λ _. ⌜ Leaves (now (stations .entry)) (now (stations .exit)) (withSent (stationsIn (now (stations .entry))) (station .0) sent) ⌝ }
 {
     put_word(stations, station, SENT, sent);
 }
@@ -129,9 +136,7 @@ pub fn expected_of(stations: &[u64], station: Station, initiator: Station) -> u6
 // The station expects another number of an initiator.
 pub fn put_expected(stations: &mut [u64], station: Station, initiator: Station, expected: u64)
     requires { ⌜ HasStation (now stations) (station .0) × (initiator .0 < initiators) ⌝ }
-    ensures { λ _. ⌜ stationsIn (now (stations .exit)) ≡ withExpected (stationsIn (now (stations .entry))) (station .0) (initiator .0) expected ⌝ }
-    ensures { λ _. ⌜ headIn (now (stations .exit)) ≡ headIn (now (stations .entry)) ⌝ }
-    ensures { λ _. ⌜ length (now (stations .exit)) ≡ length (now (stations .entry)) ⌝ }
+    ensures { λ _. ⌜ Leaves (now (stations .entry)) (now (stations .exit)) (withExpected (stationsIn (now (stations .entry))) (station .0) (initiator .0) expected) ⌝ }
 {
     put_word(stations, station, EXPECTED + initiator.0 as usize, expected);
 }
@@ -147,9 +152,7 @@ pub fn local_of(stations: &[u64], station: Station) -> u64
 // Other carts are local to the station.
 pub fn put_local(stations: &mut [u64], station: Station, carts: u64)
     requires { ⌜ HasStation (now stations) (station .0) ⌝ }
-    ensures { λ _. ⌜ stationsIn (now (stations .exit)) ≡ withLocal (stationsIn (now (stations .entry))) (station .0) carts ⌝ }
-    ensures { λ _. ⌜ headIn (now (stations .exit)) ≡ headIn (now (stations .entry)) ⌝ }
-    ensures { λ _. ⌜ length (now (stations .exit)) ≡ length (now (stations .entry)) ⌝ }
+    ensures { λ _. ⌜ Leaves (now (stations .entry)) (now (stations .exit)) (withLocal (stationsIn (now (stations .entry))) (station .0) carts) ⌝ }
 {
     put_word(stations, station, LOCAL, carts);
 }
@@ -228,9 +231,7 @@ pub fn rooms_naming(stations: &[u64], station: Station, cart: CartNumber) -> u64
 // The station has another copy.
 pub fn put_copy(stations: &mut [u64], m: usize, station: Station, carts: u64)
     requires { ⌜ HasStation (now stations) (station .0) × (m < rooms) ⌝ }
-    ensures { λ _. ⌜ stationsIn (now (stations .exit)) ≡ withCopy (stationsIn (now (stations .entry))) m (station .0) carts ⌝ }
-    ensures { λ _. ⌜ headIn (now (stations .exit)) ≡ headIn (now (stations .entry)) ⌝ }
-    ensures { λ _. ⌜ length (now (stations .exit)) ≡ length (now (stations .entry)) ⌝ }
+    ensures { λ _. ⌜ Leaves (now (stations .entry)) (now (stations .exit)) (withCopy (stationsIn (now (stations .entry))) m (station .0) carts) ⌝ }
 {
     let among = counted_with(word_of(stations, station, COPIES), m, carts);
     put_word(stations, station, COPIES, among);
@@ -248,9 +249,7 @@ pub fn acks_of(stations: &[u64], m: usize, station: Station) -> u64
 // The station has another ack list for it.
 pub fn put_acks(stations: &mut [u64], m: usize, station: Station, carts: u64)
     requires { ⌜ HasStation (now stations) (station .0) × (m < rooms) ⌝ }
-    ensures { λ _. ⌜ stationsIn (now (stations .exit)) ≡ withAcks (stationsIn (now (stations .entry))) m (station .0) carts ⌝ }
-    ensures { λ _. ⌜ headIn (now (stations .exit)) ≡ headIn (now (stations .entry)) ⌝ }
-    ensures { λ _. ⌜ length (now (stations .exit)) ≡ length (now (stations .entry)) ⌝ }
+    ensures { λ _. ⌜ Leaves (now (stations .entry)) (now (stations .exit)) (withAcks (stationsIn (now (stations .entry))) m (station .0) carts) ⌝ }
 {
     put_word(stations, station, ACKS + ROOM * m, carts);
 }
@@ -269,9 +268,7 @@ pub fn queue_of(stations: &[u64], m: usize, station: Station) -> u64
 // Other carts are queued for it.
 pub fn put_queue(stations: &mut [u64], m: usize, station: Station, carts: u64)
     requires { ⌜ HasStation (now stations) (station .0) × (m < rooms) ⌝ }
-    ensures { λ _. ⌜ stationsIn (now (stations .exit)) ≡ withQueue (stationsIn (now (stations .entry))) m (station .0) carts ⌝ }
-    ensures { λ _. ⌜ headIn (now (stations .exit)) ≡ headIn (now (stations .entry)) ⌝ }
-    ensures { λ _. ⌜ length (now (stations .exit)) ≡ length (now (stations .entry)) ⌝ }
+    ensures { λ _. ⌜ Leaves (now (stations .entry)) (now (stations .exit)) (withQueue (stationsIn (now (stations .entry))) m (station .0) carts) ⌝ }
 {
     let among = counted_with(word_of(stations, station, ENTRIES), m, carts);
     put_word(stations, station, ENTRIES, among);

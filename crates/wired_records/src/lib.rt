@@ -3,6 +3,7 @@ use ids::CartNumber;
 use ids::MessageNumber;
 use ids::Station;
 use lines::Record;
+use reports::Effect;
 ghost use mathlib.Core.Path.{_≡_};
 ghost use mathlib.Core.Bool.{true, cond, not};
 ghost use Prim.Native.Nat.{ℕ, _+_, _<_, _≤_};
@@ -12,6 +13,7 @@ ghost use Rattle.carts.specs.Words.{HasRow};
 ghost use Rattle.carts.specs.View.{cartsIn};
 ghost use Rattle.messages.specs.View.{HasRoom, roomsIn};
 ghost use Rattle.sets.specs.Masks.{size};
+ghost use Rattle.reports.specs.Effects.{nothing, passing, putting};
 ghost use Rattle.lines.specs.Form.{form};
 ghost use Rattle.lines.specs.Lines.{used};
 ghost use Rattle.lines.specs.Words.{capacity};
@@ -19,14 +21,14 @@ ghost use Rattle.view.specs.Records.{indexOf, numberOf};
 ghost use Rattle.wired_records.specs.Handled.{dueAmong, pastAmong, Raised, Stored, Buffered, Deleted, Acknowledged};
 
 // The local carts as a message comes: those whose next number is its number, those whose next number is greater, and how many numbers rise.
-struct Met {
+struct Sorted {
     due: u64,
     past: u64,
     passed: u64,
 }
 
 // "equal and not named, its next number rises": by one, or by none.
-fn rise(named: bool) -> u64
+fn rise_of(named: bool) -> u64
     ensures { λ r. ⌜ r ≡ cond (not named) 1 0 ⌝ }
 {
     if named { 0 } else { 1 }
@@ -34,7 +36,7 @@ fn rise(named: bool) -> u64
 
 // "For each local cart: next number equal ..; greater ..". Nearly all are equal, so that is asked first, and the others are gathered; whether a cart
 // that is due is named cannot be guessed, so its number is put back risen or not, without a branch.
-fn meet(carts: &mut [u64], local: u64, named: u64, initiator: Station, number: u64) -> Met
+fn sort_local(carts: &mut [u64], local: u64, named: u64, initiator: Station, number: u64) -> Sorted
     requires { ⌜ ((c : ℕ) → has local c ≡ true → HasRow (now carts) c) × (initiator .0 < initiators) × (number < 4294967296) ⌝ }
     ensures { λ r. ⌜ r .due ≡ dueAmong (cartsIn (now (carts .entry))) local (initiator .0) number ⌝ }
     ensures { λ r. ⌜ r .past ≡ pastAmong (cartsIn (now (carts .entry))) local (initiator .0) number ⌝ }
@@ -50,7 +52,7 @@ fn meet(carts: &mut [u64], local: u64, named: u64, initiator: Station, number: u
         left = sets::without_first(left);
         let next = carts::next_of(carts, CartNumber(cart), initiator);
         if next == number {
-            let rises = rise(sets::has(named, cart));
+            let rises = rise_of(sets::has(named, cart));
             carts::put_next(carts, CartNumber(cart), initiator, next + rises);
             passed += rises;
         } else {
@@ -58,7 +60,7 @@ fn meet(carts: &mut [u64], local: u64, named: u64, initiator: Station, number: u
             past = sets::with_if(past, cart, number < next);
         }
     }
-    Met {
+    Sorted {
         due: sets::minus(local, others),
         past,
         passed,
@@ -77,7 +79,7 @@ fn store(stations: &mut [u64], m: usize, initiator: Station, to: Station, copy: 
 }
 
 // "Multicast: the message is buffered with its own copy of the set. For each local cart: next number equal and cart named, it is queued for that
-// message; equal and not named, its next number rises; greater and named, it is struck from the copy." Answers how many numbers rise.
+// message; equal and not named, its next number rises; greater and named, it is struck from the copy." The numbers that rise are passed over.
 pub fn on_multicast(
     stations: &mut [u64],
     carts: &mut [u64],
@@ -85,65 +87,68 @@ pub fn on_multicast(
     said: Record,
     initiator: Station,
     to: Station,
-) -> u64
+) -> Effect
     requires { ⌜ HasStation (now stations) (to .0) × (initiator .0 < initiators) × (stationsIn (now stations) .expected (to .0) (initiator .0) < 4294967296) ⌝ }
     requires { ⌜ ((c : ℕ) → has (stationsIn (now stations) .local (to .0)) c ≡ true → HasRow (now carts) c) × HasRoom (now messages) (indexOf (said .0)) × (indexOf (said .0) < rooms) × (numberOf (said .0) < 4294967296) ⌝ }
-    ensures { λ r. ⌜ Buffered (now (stations .entry)) (now (stations .exit)) (now (carts .entry)) (now (carts .exit)) (now (messages .entry)) (indexOf (said .0)) (numberOf (said .0)) (initiator .0) (to .0) r ⌝ }
+    ensures { λ r. ⌜ Buffered (now (stations .entry)) (now (stations .exit)) (now (carts .entry)) (now (carts .exit)) (now (messages .entry)) (indexOf (said .0)) (numberOf (said .0)) (initiator .0) (to .0) (r .passed) ⌝ }
+    ensures { λ r. ⌜ r ≡ passing (r .passed) ⌝ }
 {
     let m = view::index_of(said) as usize;
     let number = view::number_of(said);
     let named = messages::named_of(messages, m);
-    let met = meet(
+    let sorted = sort_local(
         carts,
         stations::local_of(stations, to),
         named,
         initiator,
         number,
     );
-    let over = sets::minus(met.due, named);
+    let over = sets::minus(sorted.due, named);
     store(
         stations,
         m,
         initiator,
         to,
-        sets::minus(named, met.past),
-        sets::minus(met.due, over),
+        sets::minus(named, sorted.past),
+        sets::minus(sorted.due, over),
     );
-    met.passed
+    reports::passing(sorted.passed)
 }
 
 // "Delete: the message leaves this station's buffer."
-pub fn on_delete(messages: &mut [u64], said: Record, to: Station)
+pub fn on_delete(messages: &mut [u64], said: Record, to: Station) -> Effect
     requires { ⌜ HasRoom (now messages) (indexOf (said .0)) × (to .0 < 16) ⌝ }
     ensures { λ _. ⌜ Deleted (now (messages .entry)) (now (messages .exit)) (indexOf (said .0)) (to .0) ⌝ }
+    ensures { λ r. ⌜ r ≡ nothing ⌝ }
 {
     let m = view::index_of(said) as usize;
     let waiting = messages::waiting_of(messages, m);
     messages::put_waiting(messages, m, sets::without_member(waiting, to.0));
+    reports::nothing()
 }
 
-// "Ack list: the initiator adds its carts. When they make up the whole set, a delete goes to every station": to the first n, and so many
-// records go on lines.
+// "Ack list: the initiator adds its carts. When they make up the whole set, a delete goes to every station": to the first n.
 pub fn on_ack_list(
     messages: &mut [u64],
     lines: &mut [u64],
     said: Record,
     initiator: Station,
     n: u64,
-) -> u64
+) -> Effect
     requires { ⌜ HasRoom (now messages) (indexOf (said .0)) × (indexOf (said .0) < rooms) × (numberOf (said .0) < 4294967296) ⌝ }
     requires { ⌜ (initiator .0 < initiators) × (n ≤ 16) × (form (now lines) ≡ true) ⌝ }
     requires { ⌜ (union (roomsIn (now messages) .acked (indexOf (said .0))) (said .1) ≡ roomsIn (now messages) .named (indexOf (said .0)) → used (now lines) + n ≤ capacity (now lines)) ⌝ }
-    ensures { λ r. ⌜ Acknowledged (now (messages .entry)) (now (messages .exit)) (now (lines .entry)) (now (lines .exit)) (indexOf (said .0)) (numberOf (said .0)) (said .1) (initiator .0) n r ⌝ }
+    ensures { λ r. ⌜ Acknowledged (now (messages .entry)) (now (messages .exit)) (now (lines .entry)) (now (lines .exit)) (indexOf (said .0)) (numberOf (said .0)) (said .1) (initiator .0) n (r .records) ⌝ }
+    ensures { λ r. ⌜ r ≡ putting (r .records) ⌝ }
 {
     let m = view::index_of(said) as usize;
     let known = sets::union(messages::acked_of(messages, m), said.1);
     let named = messages::named_of(messages, m);
     messages::put_acked(messages, m, known);
     if known != named {
-        return 0;
+        return reports::nothing();
     }
     let number = MessageNumber(view::number_of(said));
     wired_lines::push_to_every(lines, initiator, n, view::delete(m, number));
-    n
+    reports::putting(n)
 }

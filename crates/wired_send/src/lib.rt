@@ -1,6 +1,7 @@
 // START, AND SEND (of the wired module) over the lent parts.
 use ids::MessageNumber;
 use ids::Station;
+use reports::Effect;
 ghost use mathlib.Core.Path.{_≡_};
 ghost use mathlib.Core.Bool.{true};
 ghost use Prim.Native.Nat.{_+_, _*_, _<_, _≤_};
@@ -10,7 +11,8 @@ ghost use Rattle.lines.specs.Lines.{used};
 ghost use Rattle.lines.specs.Words.{capacity};
 ghost use Rattle.messages.specs.View.{HasRoom};
 ghost use Rattle.messages.specs.Texts.{HasText};
-ghost use Rattle.stations.specs.View.{rooms, HasHead, HasStation, headIn, stationsIn};
+ghost use Rattle.reports.specs.Effects.{putting};
+ghost use Rattle.stations.specs.View.{rooms, HasHead, HasStation, stationsIn, Leaves};
 ghost use Rattle.wired_send.specs.Rooms.{firstFree};
 ghost use Rattle.wired_send.specs.Copies.{withoutCopy, withoutCopies};
 ghost use Rattle.wired_send.specs.Begun.{Begun};
@@ -34,9 +36,7 @@ pub fn free_room(messages: &[u64], held: usize) -> usize
 // One station has no copy of the message in room m, no ack list and no entry for it.
 fn clear_copy(stations: &mut [u64], m: usize, station: Station)
     requires { ⌜ HasStation (now stations) (station .0) × (m < rooms) ⌝ }
-    ensures { λ _. ⌜ stationsIn (now (stations .exit)) ≡ withoutCopy (stationsIn (now (stations .entry))) m (station .0) ⌝ }
-    ensures { λ _. ⌜ headIn (now (stations .exit)) ≡ headIn (now (stations .entry)) ⌝ }
-    ensures { λ _. ⌜ length (now (stations .exit)) ≡ length (now (stations .entry)) ⌝ }
+    ensures { λ _. ⌜ Leaves (now (stations .entry)) (now (stations .exit)) (withoutCopy (stationsIn (now (stations .entry))) m (station .0)) ⌝ }
 {
     stations::put_copy(stations, m, station, 0);
     stations::put_acks(stations, m, station, 0);
@@ -46,9 +46,7 @@ fn clear_copy(stations: &mut [u64], m: usize, station: Station)
 // No station that the table has a row for has a copy of the message in room m yet, an ack list or an entry for it.
 fn clear_copies(stations: &mut [u64], rows: u64, m: usize)
     requires { ⌜ (length (now stations) ≡ 116 + rows * 116) × (rows ≤ 16) × (m < rooms) ⌝ }
-    ensures { λ _. ⌜ stationsIn (now (stations .exit)) ≡ withoutCopies (stationsIn (now (stations .entry))) m ⌝ }
-    ensures { λ _. ⌜ headIn (now (stations .exit)) ≡ headIn (now (stations .entry)) ⌝ }
-    ensures { λ _. ⌜ length (now (stations .exit)) ≡ length (now (stations .entry)) ⌝ }
+    ensures { λ _. ⌜ Leaves (now (stations .entry)) (now (stations .exit)) (withoutCopies (stationsIn (now (stations .entry))) m) ⌝ }
 {
     let mut t: u64 = 0;
     while t < rows {
@@ -113,11 +111,12 @@ pub fn on_send(
     n: u64,
     message: NewMessage,
     text: &[u8],
-)
+) -> Effect
     requires { ⌜ (length (now stations) ≡ 116 + rows * 116) × (rows ≤ 16) × HasStation (now stations) (message .initiator .0) × HasRoom (now messages) (message .room) × HasText (now texts) (message .room) × (length (now text) ≤ 32) ⌝ }
     requires { ⌜ (message .room < rooms) × (message .initiator .0 < 16) × (n ≤ 16) × (message .number .0 < 4294967296) ⌝ }
     requires { ⌜ (form (now lines) ≡ true) × (used (now lines) + n ≤ capacity (now lines)) ⌝ }
     ensures { λ _. ⌜ Sent (now (stations .entry)) (now (stations .exit)) (now (messages .entry)) (now (messages .exit)) (now (lines .entry)) (now (lines .exit)) (now (texts .entry)) (now (texts .exit)) (message .room) (message .initiator .0) n (message .number .0) (message .set) (now (text .entry)) ⌝ }
+    ensures { λ r. ⌜ r ≡ putting n ⌝ }
 {
     keep_message(messages, texts, n, message, text);
     let m = message.room;
@@ -126,4 +125,5 @@ pub fn on_send(
     clear_copies(stations, rows, m);
     stations::put_sent(stations, s, number.next().0);
     wired_lines::push_to_every(lines, s, n, view::multicast(m, number));
+    reports::putting(n)
 }

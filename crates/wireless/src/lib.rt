@@ -2,6 +2,7 @@
 use ids::CartNumber;
 use ids::MessageNumber;
 use ids::Station;
+use reports::Effect;
 ghost use mathlib.Core.Path.{_≡_};
 ghost use mathlib.Core.Bool.{true};
 ghost use Prim.Native.Nat.{ℕ, _+_, _<_, _≤_};
@@ -112,12 +113,6 @@ fn catch_up(
     upto - next
 }
 
-// What a radio step reports besides the message: the numbers passed over, and the records that went.
-pub struct Handed {
-    pub passed: u64,
-    pub sent: u64,
-}
-
 // "the head message of the queue is handed to the cart, acknowledged in the same step": the message in room m.
 pub fn hand_over(
     stations: &mut [u64],
@@ -129,15 +124,15 @@ pub fn hand_over(
     n: MessageNumber,
     station: Station,
     number: CartNumber,
-) -> Handed
+) -> Effect
     requires { ⌜ HasStation (now stations) (station .0) × (station .0 < 16) × (m < roomCount (now messages)) × (initiator .0 < initiators) × (n .0 < 4294967296) × HasRooms (now messages) ⌝ }
     requires { ⌜ HasRow (now carts) (number .0) × (number .0 < 64) ⌝ }
     requires { ⌜ ((r : ℕ) → roomCount (now messages) ≤ r → stationsIn (now stations) .copy r (station .0) ≡ 0) ⌝ }
     requires { ⌜ (form (now lines) ≡ true) × (holdNone (tookFrom (stationsIn (now stations)) m (station .0) (number .0)) m (station .0) ≡ true → used (now lines) < capacity (now lines)) ⌝ }
-    ensures { λ r. ⌜ HandedOver (now (stations .entry)) (now (stations .exit)) (now (carts .entry)) (now (carts .exit)) (now (messages .entry)) (now (lines .entry)) (now (lines .exit)) m (initiator .0) (n .0) (station .0) (number .0) (r .passed) (r .sent) ⌝ }
+    ensures { λ r. ⌜ HandedOver (now (stations .entry)) (now (stations .exit)) (now (carts .entry)) (now (carts .exit)) (now (messages .entry)) (now (lines .entry)) (now (lines .exit)) m (initiator .0) (n .0) (station .0) (number .0) (r .passed) (r .records) ⌝ }
 {
     let next = receive(stations, carts, m, initiator, n, station, number);
-    let sent = send_acks_if_all(stations, lines, m, initiator, n, station);
+    let records = send_acks_if_all(stations, lines, m, initiator, n, station);
     let passed = catch_up(stations, carts, messages, initiator, station, number, next);
-    Handed { passed, sent }
+    Effect { passed, records }
 }

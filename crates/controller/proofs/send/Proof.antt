@@ -1,11 +1,11 @@
 -- `controller::send` meets its contract.
-use mathlib.Core.Path.{sym, _∙_}
 use native.Mathlib.Omega.{arith}
-use borrow.Author.Tests.{not-true, not-false}
+use borrow.Author.Tests.{not-true}
 use denote.Ref.{now}
 use Rattle.protocol.specs.Floor.{wholeFloor}
 use Rattle.view.specs.View.{lent}
-use Rattle.controller.proofs.Broken.{long-send, broken-send}
+use Rattle.event_answers.proofs.Broken.{long-send, broken-send}
+use Rattle.event_answers.proofs.Readies.{tested-ready}
 use borrow.Author.Needs.{needs}
 use Rattle.controller.proofs.send.Statement.{statement}
 use Rattle.controller.proofs.send.Tie as tie
@@ -39,7 +39,7 @@ send-requires c κs =
     let passing = c .before .before .before .before .before in
     let tested = passing .before in
     let short = tested .before .before .before .before .before in
-    ((wholeFloor, c .floor-bounds .ensures .1, sym (tested .passes .ensures) ∙ not-false _ (passing .if2 .left)), omega (arith, short .if1 .left))
+    ((wholeFloor, c .floor-bounds .ensures .1, tested-ready _ _ (tested .passes .ensures) (passing .if2 .left)), omega (arith, short .if1 .left))
 
 same-length-5 : tie.Need-same-length-5
 same-length-5 c = search needs
@@ -59,7 +59,7 @@ returns-3 c =
     let bounds = sent .before in
     let passing = bounds .before .before .before .before .before in
     let tested = passing .before in
-    sent .send .ensures wholeFloor (bounds .floor-bounds .ensures .1) (sym (tested .passes .ensures) ∙ not-false _ (passing .if2 .left))
+    sent .send .ensures wholeFloor (bounds .floor-bounds .ensures .1) (tested-ready _ _ (tested .passes .ensures) (passing .if2 .left))
 
 pub send-spec : {M : Type 1} → statement M
 send-spec =

@@ -1,10 +1,10 @@
 -- `controller::wire` meets its contract.
-use mathlib.Core.Path.{sym, _∙_}
-use borrow.Author.Tests.{not-true, not-false}
+use borrow.Author.Tests.{not-true}
 use denote.Ref.{now}
 use Rattle.protocol.specs.Floor.{wholeFloor}
 use Rattle.view.specs.View.{lent}
-use Rattle.controller.proofs.Broken.{broken-wire}
+use Rattle.event_answers.proofs.Broken.{broken-wire}
+use Rattle.event_answers.proofs.Readies.{tested-ready}
 use borrow.Author.Needs.{needs}
 use Rattle.controller.proofs.wire.Statement.{statement}
 use Rattle.controller.proofs.wire.Tie as tie
@@ -28,7 +28,7 @@ returns : tie.Need-returns
 returns c = let a = c .before .before .before .before .before .before .before .before .before .before .before .args in broken-wire (lent wholeFloor (now (a .stations)) (now (a .carts)) (now (a .messages)) (now (a .lines)) (now (a .texts))) _ (c .before .passes .ensures) (not-true _ (c .if1 .taken)) (a .from .0) (a .to .0)
 
 wire-requires : tie.Need-wire-requires
-wire-requires c κs = (wholeFloor, sym (c .before .before .before .before .before .passes .ensures) ∙ not-false _ (c .before .before .before .before .if1 .left))
+wire-requires c κs = (wholeFloor, tested-ready _ _ (c .before .before .before .before .before .passes .ensures) (c .before .before .before .before .if1 .left))
 
 same-length-5 : tie.Need-same-length-5
 same-length-5 c = search needs
@@ -43,7 +43,7 @@ same-length-8 : tie.Need-same-length-8
 same-length-8 c = search needs
 
 returns-2 : tie.Need-returns-2
-returns-2 c = c .before .before .before .before .before .before .before .before .wire .ensures wholeFloor (sym (c .before .before .before .before .before .before .before .before .before .before .before .before .before .before .passes .ensures) ∙ not-false _ (c .before .before .before .before .before .before .before .before .before .before .before .before .before .if1 .left))
+returns-2 c = c .before .before .before .before .before .before .before .before .wire .ensures wholeFloor (tested-ready _ _ (c .before .before .before .before .before .before .before .before .before .before .before .before .before .before .passes .ensures) (c .before .before .before .before .before .before .before .before .before .before .before .before .before .if1 .left))
 
 pub wire-spec : {M : Type 1} → statement M
 wire-spec =

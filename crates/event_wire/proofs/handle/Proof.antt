@@ -37,7 +37,7 @@ same-length-3 c = search needs
 returns : tie.Need-returns
 returns c =
     let a = c .before .before .before .before .before .before .before .before .before .before .before .before .before .before .before .before .before .args in
-    λ P W T off. meets-ack-list P (now (a .stations)) (now (a .carts)) (now (a .messages)) W (now (a .lines)) T (a .from .0) (a .to .0) (a .said) off (sym (c .before .before .before .before .before .before .before .before .before .before .before .before .kind-of .ensures) ∙ c .before .before .before .before .before .before .before .before .before .if2 .taken) _ _ _ _ _ (c .before .before .before .before .before .before .before .before .before .before .number-of .ensures) (c .before .before .before .before .before .before .before .station-count .ensures) (c .before .before .before .before .on-ack-list .ensures)
+    λ P W T off. meets-ack-list P (now (a .stations)) (now (a .carts)) (now (a .messages)) W (now (a .lines)) T (a .from .0) (a .to .0) (a .said) off (sym (c .before .before .before .before .before .before .before .before .before .before .before .before .kind-of .ensures) ∙ c .before .before .before .before .before .before .before .before .before .if2 .taken) _ _ _ _ _ (c .before .before .before .before .before .before .before .before .before .before .number-of .ensures) (c .before .before .before .before .before .before .before .station-count .ensures) (c .before .before .before .before .on-ack-list .ensures .0) (c .before .before .before .before .on-ack-list .ensures .1)
 
 on-delete-requires : tie.Need-on-delete-requires
 on-delete-requires c κs =
@@ -51,7 +51,7 @@ same-length-4 c = search needs
 returns-2 : tie.Need-returns-2
 returns-2 c =
     let a = c .before .before .before .before .before .before .before .before .before .before .before .before .before .args in
-    λ P W T off. meets-delete P (now (a .stations)) (now (a .carts)) (now (a .messages)) W (now (a .lines)) T (a .from .0) (a .to .0) (a .said) off (sym (c .before .before .before .before .before .before .before .before .kind-of .ensures) ∙ c .before .before .before .before .if3 .taken) _ _ (c .before .before .before .before .before .before .number-of .ensures) (c .before .before .on-delete .ensures)
+    λ P W T off. meets-delete P (now (a .stations)) (now (a .carts)) (now (a .messages)) W (now (a .lines)) T (a .from .0) (a .to .0) (a .said) off (sym (c .before .before .before .before .before .before .before .before .kind-of .ensures) ∙ c .before .before .before .before .if3 .taken) _ _ _ (c .before .before .before .before .before .before .number-of .ensures) (c .before .before .on-delete .ensures .0) (c .before .before .on-delete .ensures .1)
 
 on-multicast-requires : tie.Need-on-multicast-requires
 on-multicast-requires c κs =
@@ -79,7 +79,7 @@ returns-3 c =
     let few = c .before .before .before .before .before .before .before .before .before .before .before .if1 .taken in
     let two = c .before .before .before .before .before .before .before .before .before .if2 .left in
     let three = c .before .before .before .before .before .before .before .before .if3 .left in
-    λ P W T off. meets-multicast P (now (a .stations)) (now (a .carts)) (now (a .messages)) W (now (a .lines)) T (a .from .0) (a .to .0) (a .said) off (is-multicast P (now (a .stations)) (now (a .carts)) (now (a .messages)) W (now (a .lines)) T (a .from .0) (a .to .0) (a .said) off (omega arith) (λ z. two (k ∙ z)) (λ z. three (k ∙ z))) _ _ _ _ (c .before .before .before .before .before .before .before .before .before .before .number-of .ensures) (c .before .before .before .before .on-multicast .ensures)
+    λ P W T off. meets-multicast P (now (a .stations)) (now (a .carts)) (now (a .messages)) W (now (a .lines)) T (a .from .0) (a .to .0) (a .said) off (is-multicast P (now (a .stations)) (now (a .carts)) (now (a .messages)) W (now (a .lines)) T (a .from .0) (a .to .0) (a .said) off (omega arith) (λ z. two (k ∙ z)) (λ z. three (k ∙ z))) _ _ _ _ (c .before .before .before .before .before .before .before .before .before .before .number-of .ensures) (c .before .before .before .before .on-multicast .ensures .0) (c .before .before .before .before .on-multicast .ensures .1)
 
 index-of-requires : tie.Need-index-of-requires
 index-of-requires c κs = search needs
@@ -102,7 +102,7 @@ same-length-10 c = search needs
 returns-4 : tie.Need-returns-4
 returns-4 c =
     let a = c .before .before .before .before .before .before .before .before .before .before .before .before .before .before .before .before .before .before .args in
-    λ P W T off. meets-deregister P (now (a .stations)) (now (a .carts)) (now (a .messages)) W (now (a .lines)) T (a .from .0) (a .to .0) (a .said) off _ (c .before .before .before .before .before .before .before .before .before .before .before .index-of .ensures) (sym (c .before .before .before .before .before .before .before .before .before .before .before .before .before .kind-of .ensures) ∙ c .before .before .before .before .before .before .before .before .before .before .if4 .taken) _ _ _ (c .before .before .before .before .before .before .on-deregister .ensures)
+    λ P W T off. meets-deregister P (now (a .stations)) (now (a .carts)) (now (a .messages)) W (now (a .lines)) T (a .from .0) (a .to .0) (a .said) off _ (c .before .before .before .before .before .before .before .before .before .before .before .index-of .ensures) (sym (c .before .before .before .before .before .before .before .before .before .before .before .before .before .kind-of .ensures) ∙ c .before .before .before .before .before .before .before .before .before .before .if4 .taken) _ _ _ _ (c .before .before .before .before .before .before .on-deregister .ensures .0) (c .before .before .before .before .before .before .on-deregister .ensures .1)
 
 register-of-requires : tie.Need-register-of-requires
 register-of-requires c κs =
@@ -140,7 +140,7 @@ returns-5 c =
     let k = c .before .before .before .before .before .before .before .before .before .before .before .before .before .kind-of .ensures in
     let many = c .before .before .before .before .before .before .before .before .before .before .before .before .if1 .left in
     let four = c .before .before .before .before .before .before .before .before .before .before .if4 .left in
-    λ P W T off. meets-register P (now (a .stations)) (now (a .carts)) (now (a .messages)) W (now (a .lines)) T (a .from .0) (a .to .0) (a .said) off _ (c .before .before .before .before .before .before .before .before .before .before .before .index-of .ensures) (λ z. omega arith) (λ z. omega arith) (λ z. omega arith) (λ z. four (k ∙ z)) _ _ _ _ (c .before .before .before .before .before .before .before .before .register-of .ensures) (c .before .before .before .before .on-register .ensures)
+    λ P W T off. meets-register P (now (a .stations)) (now (a .carts)) (now (a .messages)) W (now (a .lines)) T (a .from .0) (a .to .0) (a .said) off _ (c .before .before .before .before .before .before .before .before .before .before .before .index-of .ensures) (λ z. omega arith) (λ z. omega arith) (λ z. omega arith) (λ z. four (k ∙ z)) _ _ _ _ (c .before .before .before .before .before .before .before .before .register-of .ensures) (c .before .before .before .before .on-register .ensures .0) (c .before .before .before .before .on-register .ensures .1)
 
 pub handle-spec : {M : Type 1} → statement M
 handle-spec =

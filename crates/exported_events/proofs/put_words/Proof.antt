@@ -2,7 +2,7 @@
 use mathlib.Core.Path.{refl}
 use native.Mathlib.Omega.{arith}
 use lib.ListN.{length-set}
-use Rattle.exported_events.specs.Told.{sevenWords}
+use Rattle.exported_events.specs.Words.{sevenWords}
 use borrow.Author.Needs.{needs}
 use Rattle.exported_events.proofs.put_words.Statement.{statement}
 use Rattle.exported_events.proofs.put_words.Tie as tie

@@ -1,7 +1,7 @@
 -- `frame_lines::end_accepted` meets its contract.
 use native.Mathlib.Omega.{arith}
 use lib.ListN.{take}
-use Rattle.frame_lines.specs.Lines.{reportIn}
+use Rattle.reports.specs.Effects.{reportIn}
 use Rattle.frame_lines.proofs.Fields.{accepted-ended}
 use borrow.Author.Needs.{needs}
 use Rattle.frame_lines.proofs.end_accepted.Statement.{statement}

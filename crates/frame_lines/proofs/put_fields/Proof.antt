@@ -1,7 +1,7 @@
 -- `frame_lines::put_fields` meets its contract.
 use native.Mathlib.Omega.{arith}
 use lib.ListN.{take}
-use Rattle.frame_lines.specs.Lines.{reportIn}
+use Rattle.reports.specs.Effects.{reportIn}
 use Rattle.frame_lines.proofs.Fields.{with-text, without-text}
 use borrow.Author.Needs.{needs}
 use Rattle.frame_lines.proofs.put_fields.Statement.{statement}

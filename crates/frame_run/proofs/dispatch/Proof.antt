@@ -1,12 +1,16 @@
 -- `frame_run::dispatch` meets its contract.
-use mathlib.Core.Path.{ap}
+use mathlib.Core.Path.{sym, ap, subst}
+use Prim.Native.Nat.{ℕ}
 use native.Mathlib.Omega.{arith}
 use lib.ListN.{drop}
 use denote.Ref.{now}
 use Rattle.protocol.specs.Floor.{wholeFloor}
 use Rattle.view.specs.View.{lent}
 use Rattle.frames.specs.Decoded.{eventIn, sizeOf}
-use Rattle.frame_run.proofs.Events.{told-plainly, for-event, send-is, short-part}
+use Rattle.frame_run.proofs.Events.{send-is, short-part, answered-plainly, answered-text}
+use Rattle.protocol.specs.Printed.{decimal}
+use Rattle.frame_lines.specs.Lines.{Began}
+use Rattle.frame_run.specs.declared.Dispatched.{Dispatched}
 use borrow.Author.Needs.{needs}
 use Rattle.frame_run.proofs.dispatch.Statement.{statement}
 use Rattle.frame_run.proofs.dispatch.Tie as tie
@@ -20,8 +24,8 @@ put-index-requires c κs = search needs
 start-requires : tie.Need-start-requires
 start-requires c κs = search needs
 
-plainly-requires : tie.Need-plainly-requires
-plainly-requires c κs = search needs
+without-text-requires : tie.Need-without-text-requires
+without-text-requires c κs = search needs
 
 enum-known-e-2 : tie.Need-enum-known-e-2
 enum-known-e-2 c = search needs
@@ -30,7 +34,12 @@ put-index-requires-2 : tie.Need-put-index-requires-2
 put-index-requires-2 c κs = search needs
 
 enter-requires : tie.Need-enter-requires
-enter-requires c κs = search needs
+enter-requires c κs =
+    let start = c .before .before .before .before .before .before .before .before .before .before .before .before .before .before .before .before .before .before .before .before in
+    (wholeFloor, start .pre .0 .ready)
+
+without-text-requires-2 : tie.Need-without-text-requires-2
+without-text-requires-2 c κs = search needs
 
 enum-known-e-3 : tie.Need-enum-known-e-3
 enum-known-e-3 c = search needs
@@ -41,8 +50,13 @@ put-index-requires-3 c κs = search needs
 add-from : tie.Need-add-from
 add-from c = search needs
 
-add-end : tie.Need-add-end
-add-end c = let q = ap sizeOf (c .before .before .before .before .before .e3 .given .1) in let h = c .before .before .before .before .before .before .before .before .before .before .before .before .before .before .before .pre .1 .0 .0 in omega (arith, q, h)
+add-text : tie.Need-add-text
+add-text c =
+    let kind = c .before .before .before .before .before in
+    let start = kind .before .before .before .before .before .before .before .before .before .before in
+    let q = ap sizeOf (kind .e3 .given .1) in
+    let h = start .pre .1 .0 .0 in
+    omega (arith, q, h)
 
 sub-text : tie.Need-sub-text
 sub-text c = search needs
@@ -51,10 +65,26 @@ part-text-start : tie.Need-part-text-start
 part-text-start c = search needs
 
 part-text-end : tie.Need-part-text-end
-part-text-end c = let q = ap sizeOf (c .before .before .before .before .before .e3 .given .1) in let h = c .before .before .before .before .before .before .before .before .before .before .before .before .before .before .before .pre .1 .0 .0 in omega (arith, q, h)
+part-text-end c =
+    let kind = c .before .before .before .before .before in
+    let start = kind .before .before .before .before .before .before .before .before .before .before in
+    let q = ap sizeOf (kind .e3 .given .1) in
+    let h = start .pre .1 .0 .0 in
+    omega (arith, q, h)
+
+floor-bounds-requires : tie.Need-floor-bounds-requires
+floor-bounds-requires c κs = search needs
 
 send-requires : tie.Need-send-requires
-send-requires c κs = let a = c .before .before .before .before .before .before .before .before .before .before .before .before .before .before .before .before .before .before .before .before .before .args in let h = c .before .before .before .before .before .before .before .before .before .before .before .before .before .before .before .before .before .before .before .before .before .pre in let q = ap sizeOf (c .before .before .before .before .before .before .before .before .before .before .before .e3 .given .1) in (h .0, short-part (now (a .input)) (a .at) (c .before .before .before .before .before .before .before .before .before .before .before .e3 .given .0 .1 .1 .0) (omega (arith, q, h .1 .0)))
+send-requires c κs =
+    let kind = c .before .before .before .before .before .before .before .before .before .before .before .before in
+    let start = kind .before .before .before .before .before .before .before .before .before .before in
+    let a = start .args in
+    let q = ap sizeOf (kind .e3 .given .1) in
+    ((wholeFloor, c .floor-bounds .ensures .1, start .pre .0 .ready), short-part (now (a .input)) (a .at) (kind .e3 .given .0 .1 .1 .0) (omega (arith, q, start .pre .1 .0)))
+
+without-text-requires-3 : tie.Need-without-text-requires-3
+without-text-requires-3 c κs = search needs
 
 enum-known-e-4 : tie.Need-enum-known-e-4
 enum-known-e-4 c = search needs
@@ -63,7 +93,12 @@ put-index-requires-4 : tie.Need-put-index-requires-4
 put-index-requires-4 c κs = search needs
 
 wire-requires : tie.Need-wire-requires
-wire-requires c κs = search needs
+wire-requires c κs =
+    let start = c .before .before .before .before .before .before .before .before .before .before .before .before .before .before .before .before .before .before .before .before in
+    (wholeFloor, start .pre .0 .ready)
+
+without-text-requires-4 : tie.Need-without-text-requires-4
+without-text-requires-4 c κs = search needs
 
 enum-known-e-5 : tie.Need-enum-known-e-5
 enum-known-e-5 c = search needs
@@ -72,7 +107,12 @@ put-index-requires-5 : tie.Need-put-index-requires-5
 put-index-requires-5 c κs = search needs
 
 radio-requires : tie.Need-radio-requires
-radio-requires c κs = search needs
+radio-requires c κs =
+    let start = c .before .before .before .before .before .before .before .before .before .before .before .before .before .before .before .before .before .before .before .before in
+    (wholeFloor, start .pre .0 .ready)
+
+told-of-requires : tie.Need-told-of-requires
+told-of-requires c κs = search needs
 
 enum-known-e-6 : tie.Need-enum-known-e-6
 enum-known-e-6 c = search needs
@@ -81,7 +121,12 @@ put-index-requires-6 : tie.Need-put-index-requires-6
 put-index-requires-6 c κs = search needs
 
 move-cart-requires : tie.Need-move-cart-requires
-move-cart-requires c κs = search needs
+move-cart-requires c κs =
+    let start = c .before .before .before .before .before .before .before .before .before .before .before .before .before .before .before .before .before .before .before .before in
+    (wholeFloor, start .pre .0 .ready)
+
+without-text-requires-5 : tie.Need-without-text-requires-5
+without-text-requires-5 c κs = search needs
 
 same-length : tie.Need-same-length
 same-length c = search needs
@@ -102,7 +147,14 @@ same-length-6 : tie.Need-same-length-6
 same-length-6 c = search needs
 
 returns : tie.Need-returns
-returns c = let a = c .before .before .before .before .before .before .before .before .before .before .before .before .before .before .before .before .before .before .before .before .before .before .before .before .before .before .before .before .before .before .args in (for-event (lent wholeFloor (now (a .stations)) (now (a .carts)) (now (a .messages)) (now (a .lines)) (now (a .texts))) _ _ _ (c .plainly .result) _ (ap (eventIn (drop (a .at) (now (a .input)))) (c .before .before .before .before .before .before .before .before .before .before .before .before .before .before .before .before .before .before .before .before .e .given .1)) (told-plainly (lent wholeFloor (now (a .stations)) (now (a .carts)) (now (a .messages)) (now (a .lines)) (now (a .texts))) _ _ _ (c .plainly .result) _ (c .plainly .ensures) (c .before .before .before .before .before .before .before .before .before .start .ensures)), c .before .before .before .before .before .before .before .before .before .before .before .before .before .before .before .before .before .put-index .ensures)
+returns c =
+    let met = c .before .before .before .before .before .before .before .before .before in
+    let index = met .before .before .before .before .before .before .before .before in
+    let kind = index .before .before .before in
+    let start = kind .before .before .before .before .before .before .before .before .before .before in
+    let a = start .args in
+    let began = subst (λ (n : ℕ). Began 3 20 (decimal (a .index)) (now (a .output)) (index .put-index .last .0) (a .line) n) (sym (ap (λ (r : Dispatched). r .next) (c .without-text .ensures))) (index .put-index .ensures) in
+    (answered-plainly (lent wholeFloor (now (a .stations)) (now (a .carts)) (now (a .messages)) (now (a .lines)) (now (a .texts))) _ _ _ (ap (eventIn (drop (a .at) (now (a .input)))) (kind .e .given .1)) _ (met .start .result) _ (c .without-text .result) (c .without-text .ensures) (met .start .ensures), began)
 
 same-length-7 : tie.Need-same-length-7
 same-length-7 c = search needs
@@ -123,7 +175,14 @@ same-length-12 : tie.Need-same-length-12
 same-length-12 c = search needs
 
 returns-2 : tie.Need-returns-2
-returns-2 c = let a = c .before .before .before .before .before .before .before .before .before .before .before .before .before .before .before .before .before .before .before .before .before .before .before .before .before .before .before .before .before .args in (for-event (lent wholeFloor (now (a .stations)) (now (a .carts)) (now (a .messages)) (now (a .lines)) (now (a .texts))) _ _ _ (c .before .before .before .before .before .before .before .before .enter .result) _ (ap (eventIn (drop (a .at) (now (a .input)))) (c .before .before .before .before .before .before .before .before .before .before .before .before .before .before .before .before .before .before .before .e2 .given .1)) (c .before .before .before .before .before .before .before .before .enter .ensures), c .before .before .before .before .before .before .before .before .before .before .before .before .before .before .before .before .put-index2 .ensures)
+returns-2 c =
+    let met = c .before .before .before .before .before in
+    let index = met .before .before .before .before .before .before .before .before in
+    let kind = index .before .before .before in
+    let start = kind .before .before .before .before .before .before .before .before .before .before in
+    let a = start .args in
+    let began = subst (λ (n : ℕ). Began 3 20 (decimal (a .index)) (now (a .output)) (index .put-index2 .last .0) (a .line) n) (sym (ap (λ (r : Dispatched). r .next) (c .without-text2 .ensures))) (index .put-index2 .ensures) in
+    (answered-plainly (lent wholeFloor (now (a .stations)) (now (a .carts)) (now (a .messages)) (now (a .lines)) (now (a .texts))) _ _ _ (ap (eventIn (drop (a .at) (now (a .input)))) (kind .e2 .given .1)) _ (met .enter .result) _ (c .without-text2 .result) (c .without-text2 .ensures) (met .enter .ensures wholeFloor (start .pre .0 .ready)), began)
 
 same-length-13 : tie.Need-same-length-13
 same-length-13 c = search needs
@@ -141,10 +200,19 @@ same-length-17 : tie.Need-same-length-17
 same-length-17 c = search needs
 
 same-length-18 : tie.Need-same-length-18
-same-length-18 c = search needs
+same-length-18 c =
+    let index = c .before .before .before .before .before .before .before .before .before .before .before .before .before .before .before .before .before .before .before in
+    index .put-index3 .ensures .kept
 
 returns-3 : tie.Need-returns-3
-returns-3 c = let a = c .before .before .before .before .before .before .before .before .before .before .before .before .before .before .before .before .before .before .before .before .before .before .before .before .before .before .before .before .before .before .before .before .args in (for-event (lent wholeFloor (now (a .stations)) (now (a .carts)) (now (a .messages)) (now (a .lines)) (now (a .texts))) _ _ _ (c .before .before .before .before .before .before .before .before .before .before .send .result) _ (send-is (now (a .input)) (a .at) _ (a .e) _ _ (c .before .before .before .before .before .before .before .before .before .before .before .before .before .before .before .before .before .before .before .before .before .before .e3 .given .1)) (c .before .before .before .before .before .before .before .before .before .before .send .ensures), c .before .before .before .before .before .before .before .before .before .before .before .before .before .before .before .before .before .before .before .put-index3 .ensures)
+returns-3 c =
+    let met = c .before .before .before .before .before .before .before .before .before in
+    let index = met .before .before .before .before .before .before .before .before .before .before in
+    let kind = index .before .before .before in
+    let start = kind .before .before .before .before .before .before .before .before .before .before in
+    let a = start .args in
+    let began = subst (λ (n : ℕ). Began 3 20 (decimal (a .index)) (now (a .output)) (index .put-index3 .last .0) (a .line) n) (sym (ap (λ (r : Dispatched). r .next) (c .without-text3 .ensures))) (index .put-index3 .ensures) in
+    (answered-plainly (lent wholeFloor (now (a .stations)) (now (a .carts)) (now (a .messages)) (now (a .lines)) (now (a .texts))) _ _ _ (send-is (now (a .input)) (a .at) _ (a .e) _ _ (kind .e3 .given .1)) _ (met .send .result) _ (c .without-text3 .result) (c .without-text3 .ensures) (met .send .ensures wholeFloor (met .before .floor-bounds .ensures .1) (start .pre .0 .ready)), began)
 
 same-length-19 : tie.Need-same-length-19
 same-length-19 c = search needs
@@ -165,7 +233,14 @@ same-length-24 : tie.Need-same-length-24
 same-length-24 c = search needs
 
 returns-4 : tie.Need-returns-4
-returns-4 c = let a = c .before .before .before .before .before .before .before .before .before .before .before .before .before .before .before .before .before .before .before .before .before .before .before .before .before .before .before .before .before .args in (for-event (lent wholeFloor (now (a .stations)) (now (a .carts)) (now (a .messages)) (now (a .lines)) (now (a .texts))) _ _ _ (c .before .before .before .before .before .before .before .before .wire .result) _ (ap (eventIn (drop (a .at) (now (a .input)))) (c .before .before .before .before .before .before .before .before .before .before .before .before .before .before .before .before .before .before .before .e4 .given .1)) (c .before .before .before .before .before .before .before .before .wire .ensures), c .before .before .before .before .before .before .before .before .before .before .before .before .before .before .before .before .put-index4 .ensures)
+returns-4 c =
+    let met = c .before .before .before .before .before .before .before .before .before in
+    let index = met .before .before .before .before .before .before .before .before in
+    let kind = index .before .before .before in
+    let start = kind .before .before .before .before .before .before .before .before .before .before in
+    let a = start .args in
+    let began = subst (λ (n : ℕ). Began 3 20 (decimal (a .index)) (now (a .output)) (index .put-index4 .last .0) (a .line) n) (sym (ap (λ (r : Dispatched). r .next) (c .without-text4 .ensures))) (index .put-index4 .ensures) in
+    (answered-plainly (lent wholeFloor (now (a .stations)) (now (a .carts)) (now (a .messages)) (now (a .lines)) (now (a .texts))) _ _ _ (ap (eventIn (drop (a .at) (now (a .input)))) (kind .e4 .given .1)) _ (met .wire .result) _ (c .without-text4 .result) (c .without-text4 .ensures) (met .wire .ensures wholeFloor (start .pre .0 .ready)), began)
 
 same-length-25 : tie.Need-same-length-25
 same-length-25 c = search needs
@@ -186,7 +261,13 @@ same-length-30 : tie.Need-same-length-30
 same-length-30 c = search needs
 
 returns-5 : tie.Need-returns-5
-returns-5 c = let a = c .before .before .before .before .before .before .before .before .before .before .before .before .before .before .before .before .before .before .before .before .before .before .before .before .before .before .before .before .before .args in (for-event (lent wholeFloor (now (a .stations)) (now (a .carts)) (now (a .messages)) (now (a .lines)) (now (a .texts))) _ _ _ (c .before .before .before .before .before .before .before .before .radio .result) _ (ap (eventIn (drop (a .at) (now (a .input)))) (c .before .before .before .before .before .before .before .before .before .before .before .before .before .before .before .before .before .before .before .e5 .given .1)) (c .before .before .before .before .before .before .before .before .radio .ensures), c .before .before .before .before .before .before .before .before .before .before .before .before .before .before .before .before .put-index5 .ensures)
+returns-5 c =
+    let met = c .before .before .before .before .before .before .before in
+    let index = met .before .before .before .before .before .before .before .before in
+    let kind = index .before .before .before in
+    let start = kind .before .before .before .before .before .before .before .before .before .before in
+    let a = start .args in
+    (answered-text (lent wholeFloor (now (a .stations)) (now (a .carts)) (now (a .messages)) (now (a .lines)) (now (a .texts))) _ _ _ (ap (eventIn (drop (a .at) (now (a .input)))) (kind .e5 .given .1)) (now (a .texts)) (met .radio .result) _ (c .told-of .result) (c .told-of .ensures) (met .radio .ensures .1) (met .radio .ensures .0 wholeFloor (start .pre .0 .ready)), index .put-index5 .ensures)
 
 same-length-31 : tie.Need-same-length-31
 same-length-31 c = search needs
@@ -207,7 +288,14 @@ same-length-36 : tie.Need-same-length-36
 same-length-36 c = search needs
 
 returns-6 : tie.Need-returns-6
-returns-6 c = let a = c .before .before .before .before .before .before .before .before .before .before .before .before .before .before .before .before .before .before .before .before .before .before .before .before .before .before .before .before .before .args in (for-event (lent wholeFloor (now (a .stations)) (now (a .carts)) (now (a .messages)) (now (a .lines)) (now (a .texts))) _ _ _ (c .before .before .before .before .before .before .before .before .move-cart .result) _ (ap (eventIn (drop (a .at) (now (a .input)))) (c .before .before .before .before .before .before .before .before .before .before .before .before .before .before .before .before .before .before .before .e6 .given .1)) (c .before .before .before .before .before .before .before .before .move-cart .ensures), c .before .before .before .before .before .before .before .before .before .before .before .before .before .before .before .before .put-index6 .ensures)
+returns-6 c =
+    let met = c .before .before .before .before .before in
+    let index = met .before .before .before .before .before .before .before .before in
+    let kind = index .before .before .before in
+    let start = kind .before .before .before .before .before .before .before .before .before .before in
+    let a = start .args in
+    let began = subst (λ (n : ℕ). Began 3 20 (decimal (a .index)) (now (a .output)) (index .put-index6 .last .0) (a .line) n) (sym (ap (λ (r : Dispatched). r .next) (c .without-text5 .ensures))) (index .put-index6 .ensures) in
+    (answered-plainly (lent wholeFloor (now (a .stations)) (now (a .carts)) (now (a .messages)) (now (a .lines)) (now (a .texts))) _ _ _ (ap (eventIn (drop (a .at) (now (a .input)))) (kind .e6 .given .1)) _ (met .move-cart .result) _ (c .without-text5 .result) (c .without-text5 .ensures) (met .move-cart .ensures wholeFloor (start .pre .0 .ready)), began)
 
 pub dispatch-spec : {M : Type 1} → statement M
 dispatch-spec =
@@ -216,27 +304,33 @@ dispatch-spec =
     enum-known-e
     put-index-requires
     start-requires
-    plainly-requires
+    without-text-requires
     enum-known-e-2
     put-index-requires-2
     enter-requires
+    without-text-requires-2
     enum-known-e-3
     put-index-requires-3
     add-from
-    add-end
+    add-text
     sub-text
     part-text-start
     part-text-end
+    floor-bounds-requires
     send-requires
+    without-text-requires-3
     enum-known-e-4
     put-index-requires-4
     wire-requires
+    without-text-requires-4
     enum-known-e-5
     put-index-requires-5
     radio-requires
+    told-of-requires
     enum-known-e-6
     put-index-requires-6
     move-cart-requires
+    without-text-requires-5
     same-length
     same-length-2
     same-length-3

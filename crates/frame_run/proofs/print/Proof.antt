@@ -1,6 +1,6 @@
 -- `frame_run::print` meets its contract.
 use denote.Ref.{now}
-use Rattle.frame_run.proofs.Events.{told-refused, told-accepted}
+use Rattle.frame_run.proofs.Events.{ends-refused, ends-accepted}
 use borrow.Author.Needs.{needs}
 use Rattle.frame_run.proofs.print.Statement.{statement}
 use Rattle.frame_run.proofs.print.Tie as tie
@@ -13,10 +13,11 @@ same-length c = search needs
 
 returns : tie.Need-returns
 returns c =
-    let e = c .before .before in
-    let t = e .before .before in
-    let a = t .before .before .before .before .args in
-    told-refused (now (a .texts)) (a .told) _ _ (a .at) _ (t .if1 .taken) (e .end-refused .ensures)
+    let ended = c .before .before in
+    let asked = ended .before .before in
+    let start = asked .before .before .before .before .before in
+    let a = start .args in
+    ends-refused (now (a .texts)) (a .dispatched) _ _ (a .dispatched .next) _ (asked .if1 .taken) (ended .end-refused .ensures)
 
 mul-from : tie.Need-mul-from
 mul-from c = search needs
@@ -41,11 +42,11 @@ same-length-2 c = search needs
 
 returns-2 : tie.Need-returns-2
 returns-2 c =
-    let e = c .before .before in
-    let t = e .before .before .before .before in
-    let s = t .before .before .before .before in
-    let a = s .args in
-    told-accepted (now (a .texts)) (a .told) _ _ (a .at) _ (t .if1 .left) (s .pre .3 .size) (e .end-accepted .ensures)
+    let ended = c .before .before in
+    let asked = ended .before .before .before .before in
+    let start = asked .before .before .before .before .before in
+    let a = start .args in
+    ends-accepted (now (a .texts)) (a .dispatched) _ _ (a .dispatched .next) _ (asked .if1 .left) (start .pre .3 .size) (ended .end-accepted .ensures)
 
 pub print-spec : {M : Type 1} → statement M
 print-spec =

@@ -13,23 +13,33 @@ use Rattle.frame_run.proofs.take_event.Statement.{statement}
 use Rattle.frame_run.proofs.take_event.Tie as tie
 
 dispatch-requires : tie.Need-dispatch-requires
-dispatch-requires c κs = let s = c .before .before .before .before .before .before .before .before .before .before .before .before .before .before in (s .pre .0, ((s .pre .1 .0 .0, s .pre .1 .0 .1), (omega (arith, s .pre .1 .0 .2), s .pre .1 .1 .2)))
+dispatch-requires c κs =
+    let start = c .before .before .before .before .before .before .before .before .before .before .before .before .before .before in
+    (start .pre .0, ((start .pre .1 .0 .0, start .pre .1 .0 .1), (omega (arith, start .pre .1 .0 .2), start .pre .1 .1 .2)))
 
 print-requires : tie.Need-print-requires
 print-requires c κs =
-    let s = c .before .before .before .before .before .before .before .before .before .before .before .before .before .before .before .before .before .before .before .before .before .before .before .before .before .before .before .before .before .before in
-    let a = s .args in
-    let h = c .before .before .before .before .before .before .before .before .before .before .before .before .before .before .before .dispatch .ensures in
-    (omega (arith, s .pre .1 .0 .2, h .1 .few, h .1 .kept), text-there _ (goes-on (lent wholeFloor (now (a .stations)) (now (a .carts)) (now (a .messages)) (now (a .lines)) (now (a .texts))) _ _ _ (s .pre .0) refl (h .0 .1)) _ (h .0 .0 .room), s .pre .1 .1 .2, h .0 .0)
+    let done = c .before .before .before .before .before .before .before .before .before .before .before .before .before .before in
+    let start = done .before .before .before .before .before .before .before .before .before .before .before .before .before .before .before in
+    let a = start .args in
+    let h = done .dispatch .ensures in
+    (omega (arith, start .pre .1 .0 .2, h .1 .few, h .1 .kept), text-there _ (goes-on (lent wholeFloor (now (a .stations)) (now (a .carts)) (now (a .messages)) (now (a .lines)) (now (a .texts))) _ _ _ (start .pre .0) (h .0 .1)) _ (h .0 .0 .room), start .pre .1 .1 .2, h .0 .0)
 
 size-of-requires : tie.Need-size-of-requires
-size-of-requires c κs = omega (arith, c .before .before .before .before .before .before .before .before .before .before .before .before .before .before .before .before .before .before .before .before .before .before .before .before .before .before .before .before .before .before .before .before .before .pre .1 .0)
+size-of-requires c κs =
+    let start = c .before .before .before .before .before .before .before .before .before .before .before .before .before .before .before .before .before .before .before .before .before .before .before .before .before .before .before .before .before .before .before .before in
+    omega (arith, start .pre .1 .0)
+
+add-t31 : tie.Need-add-t31
+add-t31 c =
+    let sized = c .before in
+    let start = sized .before .before .before .before .before .before .before .before .before .before .before .before .before .before .before .before .before .before .before .before .before .before .before .before .before .before .before .before .before .before .before .before .before in
+    omega (arith, start .pre .1 .0, start .pre .1 .1 .1, sized .size-of .ensures)
 
 add-t32 : tie.Need-add-t32
-add-t32 c = omega (arith, c .before .before .before .before .before .before .before .before .before .before .before .before .before .before .before .before .before .before .before .before .before .before .before .before .before .before .before .before .before .before .before .before .before .before .before .pre .1 .0, c .before .before .before .before .before .before .before .before .before .before .before .before .before .before .before .before .before .before .before .before .before .before .before .before .before .before .before .before .before .before .before .before .before .before .before .pre .1 .1 .1, c .before .size-of .ensures)
-
-add-t33 : tie.Need-add-t33
-add-t33 c = omega (arith, c .before .before .before .before .before .before .before .before .before .before .before .before .before .before .before .before .before .before .before .before .before .before .before .before .before .before .before .before .before .before .before .before .before .before .before .before .pre .1 .0, c .before .before .before .before .before .before .before .before .before .before .before .before .before .before .before .before .before .before .before .before .before .before .before .before .before .before .before .before .before .before .before .before .before .before .before .before .pre .1 .1 .0, c .before .before .before .before .before .before .before .before .before .before .before .before .before .before .before .before .before .before .before .before .before .before .before .before .before .before .before .before .before .before .before .before .before .before .before .before .pre .1 .1 .1)
+add-t32 c =
+    let start = c .before .before .before .before .before .before .before .before .before .before .before .before .before .before .before .before .before .before .before .before .before .before .before .before .before .before .before .before .before .before .before .before .before .before .before in
+    omega (arith, start .pre .1 .0, start .pre .1 .1 .0, start .pre .1 .1 .1)
 
 same-length : tie.Need-same-length
 same-length c = search needs
@@ -51,11 +61,14 @@ same-length-6 c = search needs
 
 returns : tie.Need-returns
 returns c =
-    let s = c .before .before .before .before .before .before .before .before .before .before .before .before .before .before .before .before .before .before .before .before .before .before .before .before .before .before .before .before .before .before .before .before .before .before .before .before in
-    let a = s .args in
-    let h = c .before .before .before .before .before .before .before .before .before .before .before .before .before .before .before .before .before .before .before .before .before .dispatch .ensures in
-    took (a .index) (lent wholeFloor (now (a .stations)) (now (a .carts)) (now (a .messages)) (now (a .lines)) (now (a .texts))) _ (now (a .output)) _ (a .p) _ _ _ _ (s .pre .0) refl (h .0 .1) (line-written (a .index) _ (h .1) (c .before .before .before .before .before .print .ensures))
-    (ap (λ (k : ℕ). a .p .read + k) (c .before .before .size-of .ensures)) refl refl
+    let sized = c .before .before in
+    let printed = sized .before .before .before in
+    let done = printed .before .before .before .before .before .before .before .before .before .before .before .before .before .before .before in
+    let start = done .before .before .before .before .before .before .before .before .before .before .before .before .before .before .before in
+    let a = start .args in
+    let h = done .dispatch .ensures in
+    took (a .index) (lent wholeFloor (now (a .stations)) (now (a .carts)) (now (a .messages)) (now (a .lines)) (now (a .texts))) _ (now (a .output)) _ (a .p) _ _ _ _ (start .pre .0) (h .0 .1) (line-written (a .index) _ (h .1) (printed .print .ensures))
+    (ap (λ (k : ℕ). a .p .read + k) (sized .size-of .ensures)) refl refl
 
 pub take-event-spec : {M : Type 1} → statement M
 take-event-spec =
@@ -64,8 +77,8 @@ take-event-spec =
     dispatch-requires
     print-requires
     size-of-requires
+    add-t31
     add-t32
-    add-t33
     same-length
     same-length-2
     same-length-3

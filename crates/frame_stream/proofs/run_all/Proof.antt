@@ -7,7 +7,7 @@ use borrow.Author.Needs.{needs}
 use denote.Ref.{now}
 use Rattle.protocol.specs.Floor.{wholeFloor}
 use Rattle.view.specs.View.{lent, floorIn}
-use Rattle.frame_run.specs.Ready.{Ready}
+use Rattle.frame_run.specs.CanRun.{CanRun}
 use Rattle.frame_run.proofs.Loop.{same-stations, same-carts, same-messages, same-lines, same-texts}
 use Rattle.frame_stream.specs.Feed.{Inside, streamOf}
 use Rattle.frame_stream.proofs.Loop.{Came, came-first, came-next, goes, finished}
@@ -16,7 +16,7 @@ use Rattle.frame_stream.proofs.run_all.Tie as tie
 
 abbrev Inv-loop : tie.InvT-loop
 Inv-loop from to input₀ output₀ stations₀ carts₀ messages₀ lines₀ texts₀ numbers f₀ turns₀ input output stations carts messages lines texts f turns =
-    Ready (lent wholeFloor stations carts messages lines texts) × Inside (length input) f × (length input ≡ 65536) × (length output ≡ 65536)
+    CanRun (lent wholeFloor stations carts messages lines texts) × Inside (length input) f × (length input ≡ 65536) × (length output ≡ 65536)
     × Came (floorIn (lent wholeFloor stations₀ carts₀ messages₀ lines₀ texts₀)) (streamOf input (lent wholeFloor stations carts messages lines texts) f) turns
 
 abbrev μ-loop : tie.MeasureT-loop

@@ -48,8 +48,8 @@ join-requires c κs =
     let a = b .args in
     let S = k .strike .last .0 in
     let s = o .stops-of in (
-      own-rooms (tablesFloor S (a .messages .now)) (a .station .0) (a .cart .0) (a .row) (s .result .nearest) (s .ensures .0) _ (roomsIn (a .messages .now)) (stationsIn S) (k .strike .result) refl refl (k .strike .ensures .1 .1 .1),
-      (omega (arith, b .pre .0 .0, k .strike .ensures .1 .1 .0), b .pre .0 .1, b .pre .0 .3),
+      own-rooms (tablesFloor S (a .messages .now)) (a .station .0) (a .cart .0) (a .row) (s .result .nearest) (s .ensures .0) _ (roomsIn (a .messages .now)) (stationsIn S) (k .strike .result) refl refl (k .strike .ensures .1),
+      (omega (arith, b .pre .0 .0, k .strike .ensures .0 .1 .1), b .pre .0 .1, b .pre .0 .3),
     )
 
 passed-over-requires : tie.Need-passed-over-requires
@@ -59,7 +59,7 @@ passed-over-requires c κs =
     let b = k .before .before .before .before .before .before .before in
     let a = b .args in
     let s = o .stops-of in
-    let few = few-still (stationsIn (a .stations .now)) (roomsIn (a .messages .now)) (a .station .0) (a .cart .0) (a .row) (k .strike .ensures .0) (b .pre .1 .0) in
+    let few = few-still (stationsIn (a .stations .now)) (roomsIn (a .messages .now)) (a .station .0) (a .cart .0) (a .row) (k .strike .ensures .0 .0) (b .pre .1 .0) in
     rises-little (tablesFloor (k .strike .last .0) (a .messages .now)) (a .station .0) (a .cart .0) (a .row) (s .result .nearest) (s .ensures .0) (s .result .upto) (s .ensures .1) few
 
 same-length-2 : tie.Need-same-length-2
@@ -76,12 +76,12 @@ returns-2 c =
     let p = c .passed-over in
     record {
       struck = k .last .0;
-      is-struck = k .ensures .0;
+      is-struck = k .ensures .0 .0;
       nearest = s .result .nearest;
       is-nearest = s .ensures .0;
       stations = j .join .ensures .0;
-      head = j .join .ensures .1 .0 ∙ k .ensures .1 .0;
-      table = j .join .ensures .1 .1 ∙ k .ensures .1 .1 .0;
+      head = j .join .ensures .1 .0 ∙ k .ensures .0 .1 .0;
+      table = j .join .ensures .1 .1 ∙ k .ensures .0 .1 .1;
       caught-up = s .ensures .1;
       count = rise-is (tablesFloor (k .last .0) (a .messages .now)) (a .station .0) (a .cart .0) (a .row) (s .result .nearest) (s .ensures .0) (s .result .upto) (s .ensures .1) (p .result) (p .ensures);
     }

@@ -37,6 +37,9 @@ push-back-requires c κs =
     let r = c .before .before .before .before .put-register .ensures in
     (omega (arith, s .pre .1 .2, s .pre .1 .3), omega (arith, s .pre .1 .2, s .pre .1 .3), r .formed, omega (arith, s .pre .1 .1, r .same, r .room))
 
+putting-requires : tie.Need-putting-requires
+putting-requires c κs = search needs
+
 same-length : tie.Need-same-length
 same-length c = search needs
 
@@ -48,27 +51,29 @@ same-length-3 c = search needs
 
 returns : tie.Need-returns
 returns c =
-    let s = c .before .before .before .before .before .before .before .before .before .before .before .before .before .before .before .before .before .before .before .before .before .before .before .before in
+    let s = c .before .before .before .before .before .before .before .before .before .before .before .before .before .before .before .before .before .before .before .before .before .before .before .before .before in
     let a = s .args in
     let C = cartsIn (now (a .carts)) in
-    let gone = c .before .before .before .before .before .before .before .before .before .before .before .before .before .before .before .before .before .before .before .leave .ensures in
-    let k = c .before .before .before .before .before .before .before .before .before .before .before .before .before .before .before .cart-at in
-    let d = c .before .before .before .before .before .before .before .before .before .before .before .before .depart in
-    let kept = c .before .before .before .before .before .before .before .before .before .before .before .put-cart .ensures in
-    let r = c .before .before .before .before .before .before .before .put-register in
-    let q = c .before .before .before .register in
-    let p = c .before .before .push-back in
-    record {
-      stations = gone .0;
-      head = gone .1 .0;
-      table = gone .1 .1;
-      carts = kept .0 ∙ depart-step C (next-beyond (now (a .carts))) (a .number .0) (k .result) (k .ensures) (a .station .0) (a .from .0) (d .result) (s .pre .0 .3) (d .ensures);
-      canonical = kept .1 .0;
-      length = kept .1 .1;
-      carrying = r .last .0;
-      row = subst (λ (row : List ℕ). Carried (now (a .lines)) (r .last .0) (a .number .0) row) (k .ensures .next) (r .ensures);
-      lines = subst (λ (r′ : word.Record). Pushed (r .last .0) (p .last .0) (a .station .0 * 16 + a .from .0) r′) (q .ensures) (p .ensures);
-    }
+    let gone = c .before .before .before .before .before .before .before .before .before .before .before .before .before .before .before .before .before .before .before .before .leave .ensures in
+    let k = c .before .before .before .before .before .before .before .before .before .before .before .before .before .before .before .before .cart-at in
+    let d = c .before .before .before .before .before .before .before .before .before .before .before .before .before .depart in
+    let kept = c .before .before .before .before .before .before .before .before .before .before .before .before .put-cart .ensures in
+    let r = c .before .before .before .before .before .before .before .before .put-register in
+    let q = c .before .before .before .before .register in
+    let p = c .before .before .before .push-back in (
+      record {
+        stations = gone .0;
+        head = gone .1 .0;
+        table = gone .1 .1;
+        carts = kept .0 ∙ depart-step C (next-beyond (now (a .carts))) (a .number .0) (k .result) (k .ensures) (a .station .0) (a .from .0) (d .result) (s .pre .0 .3) (d .ensures);
+        canonical = kept .1 .0;
+        length = kept .1 .1;
+        carrying = r .last .0;
+        row = subst (λ (row : List ℕ). Carried (now (a .lines)) (r .last .0) (a .number .0) row) (k .ensures .next) (r .ensures);
+        lines = subst (λ (r′ : word.Record). Pushed (r .last .0) (p .last .0) (a .station .0 * 16 + a .from .0) r′) (q .ensures) (p .ensures);
+      },
+      c .putting .ensures,
+    )
 
 pub on-deregister-spec : {M : Type 1} → statement M
 on-deregister-spec =
@@ -81,7 +86,7 @@ on-deregister-spec =
     put-register-requires
     register-requires
     push-back-requires
-    same-length
+    putting-requires same-length
     same-length-2
     same-length-3
     returns)

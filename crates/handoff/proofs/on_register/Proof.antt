@@ -1,7 +1,10 @@
 -- `handoff::on_register` meets its contract.
 use mathlib.Core.Path.{ap, _∙_}
+use Prim.Native.Nat.{ℕ}
 use Rattle.carts.specs.declared.Cart.{Cart}
 use Rattle.carts.specs.View.{cartsIn, withCart}
+use Rattle.reports.proofs.Effects.{only-passes}
+use Rattle.handoff.specs.Arrived.{Arrived}
 use borrow.Author.Needs.{needs}
 use Rattle.handoff.proofs.on_register.Statement.{statement}
 use Rattle.handoff.proofs.on_register.Tie as tie
@@ -18,6 +21,9 @@ arrive-requires c κs = search needs
 put-cart-requires : tie.Need-put-cart-requires
 put-cart-requires c κs = search needs
 
+passing-requires : tie.Need-passing-requires
+passing-requires c κs = search needs
+
 same-length : tie.Need-same-length
 same-length c = search needs
 
@@ -26,17 +32,20 @@ same-length-2 c = search needs
 
 returns : tie.Need-returns
 returns c =
-    let a = c .before .before .before .before .before .before .before .before .before .before .before .before .before .before .before .args in
-    let d = c .before .before .before .before .before .before .before .before .before .before .dock in
-    let k = c .before .before .before .arrive in
-    let kept = c .before .before .put-cart .ensures in
-    record {
+    let a = c .before .before .before .before .before .before .before .before .before .before .before .before .before .before .before .before .args in
+    let d = c .before .before .before .before .before .before .before .before .before .before .before .dock in
+    let k = c .before .before .before .before .arrive in
+    let kept = c .before .before .before .put-cart .ensures in
+    only-passes (λ (p : ℕ). Arrived (a .stations .now) (d .last .0) (a .carts .now) (c .before .before .before .put-cart .last .0) (a .messages .now) (a .station .0) (a .number .0) (a .row) p)
+    (c .passing .result) (d .result .passed)
+    (record {
       upto = d .result .row;
       docked = d .ensures;
       carts = kept .0 ∙ ap (λ (x : Cart). withCart (cartsIn (a .carts .now)) (a .number .0) x) (k .ensures);
       canonical = kept .1 .0;
       length = kept .1 .1;
-    }
+    })
+    (c .passing .ensures)
 
 pub on-register-spec : {M : Type 1} → statement M
 on-register-spec =
@@ -46,6 +55,6 @@ on-register-spec =
     cart-at-requires
     arrive-requires
     put-cart-requires
-    same-length
+    passing-requires same-length
     same-length-2
     returns)

@@ -100,10 +100,10 @@ loop-again c =
     let k = c .before .before .strike-from in (
       m + 1,
       turn .ahead,
-      k .ensures .1 .1 .0 ∙ l .inv .2,
-      k .ensures .1 .0 ∙ l .inv .3,
-      strike-by S R t (a .cart .0) (a .t6) m (b .result) come (by-initiator (stationsIn (l .stations)) R t (a .cart .0) m (b .result) (b .ensures) (c .before .before .before .before .if1 .taken) .0) (k .ensures .0),
-      k .ensures .1 .1 .1,
+      k .ensures .0 .1 .1 ∙ l .inv .2,
+      k .ensures .0 .1 .0 ∙ l .inv .3,
+      strike-by S R t (a .cart .0) (a .t6) m (b .result) come (by-initiator (stationsIn (l .stations)) R t (a .cart .0) m (b .result) (b .ensures) (c .before .before .before .before .if1 .taken) .0) (k .ensures .0 .0),
+      k .ensures .1,
     )
 
 loop-less-2 : tie.Need-loop-less-2 Inv-loop μ-loop
@@ -139,10 +139,9 @@ returns c =
     let a = c .before .before .before .before .args in
     let l = c .before .loop in
     let none : l .left ≡ 0 = omega arith in
-    let A : Ahead (roomCount (a .messages .now)) (a .naming) 0 (l .inv .0) = rw none at (l .inv .1) in (
-      strike-all (stationsIn (a .stations .now)) (roomsIn (a .messages .now)) (a .station .0) (a .cart .0) (a .t6) (a .naming) (c .before .before .before .before .pre .0 .others) (l .inv .0) (l .inv .4) A,
-      (l .inv .3, (l .inv .2, l .inv .5)),
-    )
+    let A : Ahead (roomCount (a .messages .now)) (a .naming) 0 (l .inv .0) = rw none at (l .inv .1) in
+    let struck = strike-all (stationsIn (a .stations .now)) (roomsIn (a .messages .now)) (a .station .0) (a .cart .0) (a .t6) (a .naming) (c .before .before .before .before .pre .0 .others) (l .inv .0) (l .inv .4) A in
+    ((struck, (l .inv .3, l .inv .2)), l .inv .5)
 
 pub strike-spec : {M : Type 1} → statement M
 strike-spec =

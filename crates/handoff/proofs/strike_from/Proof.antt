@@ -21,10 +21,9 @@ returns : tie.Need-returns
 returns c =
     let s = c .before .before .before .before .before in
     let a = s .args in
-    let p = c .before .is-passed in (
-      is-kept (stationsIn (a .stations .now)) (roomsIn (a .messages .now)) (a .station .0) (a .cart .0) (a .m) (a .next) (p .result) (p .ensures) (not-true _ (c .if1 .taken)),
-      (refl, (refl, s .pre .1 .1)),
-    )
+    let p = c .before .is-passed in
+    let kept = is-kept (stationsIn (a .stations .now)) (roomsIn (a .messages .now)) (a .station .0) (a .cart .0) (a .m) (a .next) (p .result) (p .ensures) (not-true _ (c .if1 .taken)) in
+    ((kept, (refl, refl)), s .pre .1 .1)
 
 copy-of-requires : tie.Need-copy-of-requires
 copy-of-requires c κs = search needs
@@ -51,14 +50,11 @@ returns-2 c =
     let a = s .args in
     let S = stationsIn (a .stations .now) in
     let w = q .before .before .without-member in
-    let put = q .put-copy .ensures in (
-      is-struck S (roomsIn (a .messages .now)) (a .station .0) (a .cart .0) (a .m) (a .next) (k .copy-of .result) (w .result) (p .is-passed .result) (p .is-passed .ensures)
-          (not-false _ (e .if1 .left)) (k .copy-of .ensures) (w .ensures) (put .0),
-      (
-        put .1 .0,
-        (put .1 .1, struck-covers S (a .station .0) (a .cart .0) (a .m) (a .naming) (w .result) _ (s .pre .1 .1) (w .ensures ∙ ap (λ (x : ℕ). without x (a .cart .0)) (k .copy-of .ensures)) (put .0) (c .without-member2 .ensures)),
-      ),
-    )
+    let put = q .put-copy .ensures in
+    let struck =
+    is-struck S (roomsIn (a .messages .now)) (a .station .0) (a .cart .0) (a .m) (a .next) (k .copy-of .result) (w .result) (p .is-passed .result) (p .is-passed .ensures)
+    (not-false _ (e .if1 .left)) (k .copy-of .ensures) (w .ensures) (put .0) in
+    ((struck, (put .1 .0, put .1 .1)), struck-covers S (a .station .0) (a .cart .0) (a .m) (a .naming) (w .result) _ (s .pre .1 .1) (w .ensures ∙ ap (λ (x : ℕ). without x (a .cart .0)) (k .copy-of .ensures)) (put .0) (c .without-member2 .ensures))
 
 pub strike-from-spec : {M : Type 1} → statement M
 strike-from-spec =

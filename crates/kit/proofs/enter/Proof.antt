@@ -1,10 +1,10 @@
 -- `kit::enter` meets its contract.
-use mathlib.Core.Path.{sym, _∙_}
-use borrow.Author.Tests.{not-true, not-false}
+use borrow.Author.Tests.{not-true}
 use denote.Ref.{now}
 use Rattle.protocol.specs.Floor.{kit}
 use Rattle.view.specs.View.{lent}
-use Rattle.controller.proofs.Broken.{broken-enter}
+use Rattle.event_answers.proofs.Broken.{broken-enter}
+use Rattle.event_answers.proofs.Readies.{tested-ready}
 use borrow.Author.Needs.{needs}
 use Rattle.kit.proofs.enter.Statement.{statement}
 use Rattle.kit.proofs.enter.Tie as tie
@@ -22,7 +22,7 @@ returns : tie.Need-returns
 returns c = let a = c .before .before .before .before .before .before .before .before .before .args in broken-enter (lent kit (now (a .stations)) (now (a .carts)) (now (a .messages)) (now (a .lines)) (now (a .texts))) _ (c .before .passes .ensures) (not-true _ (c .if1 .taken)) (a .station .0) (a .cart .0)
 
 enter-requires : tie.Need-enter-requires
-enter-requires c κs = (kit, sym (c .before .before .before .passes .ensures) ∙ not-false _ (c .before .before .if1 .left))
+enter-requires c κs = (kit, tested-ready _ _ (c .before .before .before .passes .ensures) (c .before .before .if1 .left))
 
 same-length-3 : tie.Need-same-length-3
 same-length-3 c = search needs
@@ -31,7 +31,7 @@ same-length-4 : tie.Need-same-length-4
 same-length-4 c = search needs
 
 returns-2 : tie.Need-returns-2
-returns-2 c = c .before .before .before .before .enter .ensures kit (sym (c .before .before .before .before .before .before .before .before .passes .ensures) ∙ not-false _ (c .before .before .before .before .before .before .before .if1 .left))
+returns-2 c = c .before .before .before .before .enter .ensures kit (tested-ready _ _ (c .before .before .before .before .before .before .before .before .passes .ensures) (c .before .before .before .before .before .before .before .if1 .left))
 
 pub enter-spec : {M : Type 1} → statement M
 enter-spec =

@@ -28,14 +28,10 @@ same-length : tie.Need-same-length
 same-length c = search needs
 
 returns : tie.Need-returns
-returns c = (
-  refl,
-  (
-    c .before .before .copy .ensures .1
-        ∙ text-copied (c .before .before .before .before .before .before .before .args .texts .now) (c .before .before .before .before .before .before .before .args .buffer .now) (c .before .before .before .before .before .before .before .args .m) (c .before .before .before .before .before .before .before .args .n) _ (omega arith) (omega arith) refl,
-    c .before .buffer .given,
-  ),
-)
+returns c =
+    let copied = c .before .before in
+    let a = copied .before .before .before .before .before .args in
+    (copied .copy .ensures .1 ∙ text-copied (a .texts .now) (a .buffer .now) (a .m) (a .n) _ (omega arith) (omega arith) refl, c .before .buffer .given)
 
 pub copy-text-spec : {M : Type 1} → statement M
 copy-text-spec =

@@ -17,17 +17,20 @@ without-member-requires c κs = search needs
 put-waiting-requires : tie.Need-put-waiting-requires
 put-waiting-requires c κs = search needs
 
+nothing-requires : tie.Need-nothing-requires
+nothing-requires c κs = search needs
+
 same-length : tie.Need-same-length
 same-length c = search needs
 
 returns : tie.Need-returns
 returns c =
-    let a = c .before .before .before .before .before .before .before .before .before .args in
-    let k = c .before .before .before .before .before .before .before .index-of in
-    let w = c .before .before .before .before .before .waiting-of in
-    let x = c .before .before .before .without-member in
-    let p = c .before .before .put-waiting in
-    deletes (a .messages .now) (p .last .0) (indexOf (a .said .0)) (a .to .0) (k .result) (w .result) (x .result) (k .ensures) (w .ensures) (x .ensures) (p .ensures .0) (p .ensures .1)
+    let a = c .before .before .before .before .before .before .before .before .before .before .args in
+    let k = c .before .before .before .before .before .before .before .before .index-of in
+    let w = c .before .before .before .before .before .before .waiting-of in
+    let x = c .before .before .before .before .without-member in
+    let p = c .before .before .before .put-waiting in
+    (deletes (a .messages .now) (p .last .0) (indexOf (a .said .0)) (a .to .0) (k .result) (w .result) (x .result) (k .ensures) (w .ensures) (x .ensures) (p .ensures .0) (p .ensures .1), c .nothing .ensures)
 
 pub on-delete-spec : {M : Type 1} → statement M
 on-delete-spec =
@@ -37,5 +40,5 @@ on-delete-spec =
     waiting-of-requires
     without-member-requires
     put-waiting-requires
-    same-length
+    nothing-requires same-length
     returns)

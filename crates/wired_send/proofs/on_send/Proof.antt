@@ -32,6 +32,9 @@ push-to-every-requires c κs =
     let asked = kept .before .before .before .before .before .before .before .before .pre in
     (asked .1 .0 .1, asked .1 .0 .2, asked .1 .1 .0, asked .1 .1 .1)
 
+putting-requires : tie.Need-putting-requires
+putting-requires c κs = search needs
+
 same-length : tie.Need-same-length
 same-length c = search needs
 
@@ -46,7 +49,7 @@ same-length-4 c = search needs
 
 returns : tie.Need-returns
 returns c =
-    let pushed = c .before .before in
+    let pushed = c .before .before .before in
     let made = pushed .before in
     let rose = made .before .before .before .before in
     let next = rose .before in
@@ -54,19 +57,21 @@ returns c =
     let kept = cleared .before .before .before .before .before .before .before .before in
     let a = kept .before .before .before .before .before .before .before .before .args in
     let k = cleared .clear-copies .ensures in
-    let p = rose .put-sent .ensures in
-    record {
-      stations =
-          p .0
-          ∙ ap (λ (S : Stations). withSent S (a .message .initiator .0) (next .next .result .0)) (k .0)
-          ∙ ap (λ (x : ℕ). withSent (withoutCopies (stationsIn (a .stations .now)) (a .message .room)) (a .message .initiator .0) x) (next .next .ensures ∙ add-one (a .message .number .0));
-      top = p .1 .0 ∙ k .1 .0;
-      words = p .1 .1 ∙ k .1 .1;
-      message = kept .keep-message .ensures;
-      lines =
-          subst (λ (r : word.Record). PushedToEvery (a .lines .now) (pushed .push-to-every .last .0) (a .message .initiator .0) (a .n) r) (made .multicast .ensures)
-          (pushed .push-to-every .ensures);
-    }
+    let p = rose .put-sent .ensures in (
+      record {
+        stations =
+            p .0
+            ∙ ap (λ (S : Stations). withSent S (a .message .initiator .0) (next .next .result .0)) (k .0)
+            ∙ ap (λ (x : ℕ). withSent (withoutCopies (stationsIn (a .stations .now)) (a .message .room)) (a .message .initiator .0) x) (next .next .ensures ∙ add-one (a .message .number .0));
+        top = p .1 .0 ∙ k .1 .0;
+        words = p .1 .1 ∙ k .1 .1;
+        message = kept .keep-message .ensures;
+        lines =
+            subst (λ (r : word.Record). PushedToEvery (a .lines .now) (pushed .push-to-every .last .0) (a .message .initiator .0) (a .n) r) (made .multicast .ensures)
+            (pushed .push-to-every .ensures);
+      },
+      c .putting .ensures,
+    )
 
 pub on-send-spec : {M : Type 1} → statement M
 on-send-spec =
@@ -78,7 +83,7 @@ on-send-spec =
     put-sent-requires
     multicast-requires
     push-to-every-requires
-    same-length
+    putting-requires same-length
     same-length-2
     same-length-3
     same-length-4

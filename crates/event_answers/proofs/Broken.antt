@@ -1,0 +1,48 @@
+-- A FLOOR THAT BREAKS THE FORM RULE is refused with 5: the first check of every event but a start, whose own 5 is in `event_start`, and a send, whose
+-- first is 4.
+use mathlib.Core.Path.{_≡_, refl, sym, _∙_}
+use mathlib.Core.Bool.{Bool, true, false}
+use mathlib.Core.List.{List}
+use Prim.Native.Nat.{ℕ, _≤_, _<_}
+use native.Mathlib.Omega.{arith}
+use lib.ListN.{length}
+use borrow.Author.Tests.{lt-ltb, le-ltb}
+use Rattle.protocol.specs.Floor.{limitsOf}
+use Rattle.protocol.specs.Events.{Event, enter, send, wire, radio, move, refused}
+use Rattle.protocol.specs.Form.{passesForm}
+use Rattle.protocol.specs.Refusals.{refusal, refusalIf}
+use Rattle.view.specs.View.{Lent, floorIn}
+use Rattle.event_answers.specs.Met.{Met}
+use Rattle.event_answers.proofs.Meets.{refusal-broken, meets-refused}
+
+-- what the form test answered, in the way of the code that asked
+module _ (L : Lent) (e : Event) (tested : Bool) (test-is : tested ≡ passesForm (limitsOf (L .product)) (floorIn L)) (no : tested ≡ false) where
+  pub meets-broken : refusalIf (limitsOf (L .product)) (floorIn L) true e ≡ 5 → Met L L e (refused 5)
+  meets-broken q = meets-refused L e 5 (refusal-broken L e (sym test-is ∙ no) ∙ q) (λ z. omega arith)
+
+module _ (L : Lent) (tested : Bool) (test-is : tested ≡ passesForm (limitsOf (L .product)) (floorIn L)) (no : tested ≡ false) where
+  pub broken-enter : (t c : ℕ) → Met L L (enter t c) (refused 5)
+  unfolding refusalIf
+  broken-enter t c = meets-broken L (enter t c) tested test-is no refl
+
+  pub broken-wire : (i j : ℕ) → Met L L (wire i j) (refused 5)
+  unfolding refusalIf
+  broken-wire i j = meets-broken L (wire i j) tested test-is no refl
+
+  pub broken-radio : (t c buffer : ℕ) → Met L L (radio t c buffer) (refused 5)
+  unfolding refusalIf
+  broken-radio t c buffer = meets-broken L (radio t c buffer) tested test-is no refl
+
+  pub broken-move : (c to : ℕ) → Met L L (move c to) (refused 5)
+  unfolding refusalIf
+  broken-move c to = meets-broken L (move c to) tested test-is no refl
+
+  -- a text within the limit
+  pub broken-send : (s set : ℕ) (text : List ℕ) → length text ≤ 32 → Met L L (send s set text) (refused 5)
+  unfolding refusalIf
+  broken-send s set text l = meets-broken L (send s set text) tested test-is no (rw (le-ltb 32 (length text) l) refl)
+
+-- 4: "text longer than 32", whatever floor is lent
+pub long-send : (L : Lent) (s set : ℕ) (text : List ℕ) → 32 < length text → Met L L (send s set text) (refused 4)
+unfolding refusal refusalIf
+long-send L s set text l = meets-refused L (send s set text) 4 (rw (lt-ltb 32 (length text) l) refl) (λ z. omega arith)

@@ -1,0 +1,35 @@
+-- WHAT A CALL FROM ANOTHER LANGUAGE IS TOLD: the answer of its event, in seven words.
+use mathlib.Core.Path.{_≡_}
+use mathlib.Core.List.{List}
+use Prim.Native.Nat.{ℕ}
+use lib.ListN.{set}
+use Rattle.protocol.specs.Events.{Event}
+use Rattle.view.specs.View.{Lent}
+use Rattle.event_answers.specs.declared.Answer.{Answer}
+use Rattle.event_answers.specs.declared.Told.{Told}
+use Rattle.event_answers.specs.Answers.{answerIn, toldOf}
+use Rattle.event_answers.specs.Met.{Met}
+use Rattle.event_answers.specs.Delivered.{Delivered}
+
+-- the first seven words are these, and the others as they were
+unfoldable pub sevenWords : List ℕ → ℕ → ℕ → ℕ → ℕ → ℕ → ℕ → ℕ → List ℕ
+sevenWords out refusal kind a b p w size = set (set (set (set (set (set (set out 0 refusal) 1 kind) 2 a) 3 b) 4 p) 5 w) 6 size
+
+-- a refusal's number, or 0; "kind, a, b, p, w"; how many octets of text
+abbrev pub wordsOf : List ℕ → Told → List ℕ
+wordsOf out r = sevenWords out (r .refusal) (r .report .kind) (r .report .a) (r .report .b) (r .report .effect .passed) (r .report .effect .records) (r .size)
+
+abbrev pub answerWords : List ℕ → Answer → List ℕ
+answerWords out a = wordsOf out (toldOf a)
+
+-- the event was met with an answer, and the lent words out are then those of this answer, out′
+pub record Answered (L L′ : Lent) (e : Event) (octets out out′ : List ℕ) : Type 0 where
+  pub answered : Answer
+  pub met : Met L L′ e (answerIn answered octets)
+  pub words : out′ ≡ answerWords out answered
+
+-- the same of a radio step, which left its buffer as buffer′
+pub record AnsweredText (L L′ : Lent) (t c : ℕ) (buffer buffer′ out out′ : List ℕ) : Type 0 where
+  pub answered : Answer
+  pub delivered : Delivered L L′ t c answered buffer buffer′
+  pub words : out′ ≡ answerWords out answered

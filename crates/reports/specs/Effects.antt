@@ -1,0 +1,26 @@
+-- WHAT A STEP COUNTS, by what it does; and what an accepted event reports.
+use mathlib.Core.List.{List}
+use Prim.Native.Nat.{ℕ}
+use Rattle.protocol.specs.Events as events
+use Rattle.reports.specs.declared.Effect.{Effect}
+use Rattle.reports.specs.declared.Report.{Report}
+
+-- it passes over no number and puts no record on a line
+abbrev pub nothing : Effect
+nothing = record { passed = 0; records = 0 }
+
+-- it only passes over so many numbers
+abbrev pub passing : ℕ → Effect
+passing p = record { passed = p; records = 0 }
+
+-- it only puts so many records on lines
+abbrev pub putting : ℕ → Effect
+putting w = record { passed = 0; records = w }
+
+-- "kind, a, b, p, w"; "Radio adds the text", which is empty for the others
+abbrev pub reportIn : Report → List ℕ → events.Report
+reportIn r text = record { kind = r .kind; a = r .a; b = r .b; p = r .effect .passed; w = r .effect .records; text = text }
+
+-- the answer that reports it
+abbrev pub acceptedIn : Report → List ℕ → events.Answer
+acceptedIn r text = events.accepted (reportIn r text)
