@@ -1,124 +1,87 @@
 -- Laws of the free rows and their summary, and of marks in a row of words.
-use mathlib.Core.Path.{_≡_, refl, sym, ap, ap₂, _∙_, subst}
-use mathlib.Core.Bool.{Bool, true, false, _&&_}
+use mathlib.Core.Path.{_≡_, refl, sym, ap, ap₂, _∙_, subst, fun-ext}
+use mathlib.Core.Bool.{Bool, true, false, not, _&&_, _||_}
+use mathlib.Core.Option.{some}
 use mathlib.Core.List.{List}
-use Prim.Native.Nat.{ℕ, suc, _+_, _-_, _*_, _/_, _%_, _^_, _≤_, _<_, min, max}
-use native.Mathlib.Nat.{mod-eq-of-lt, one-mul, div-eq-of-lt, lt-of-lt-of-le, lt-of-le-of-lt}
-use native.Mathlib.Decide.{ℕ-discrete, decLe}
+use Prim.Native.Nat.{ℕ, _+_, _-_, _*_, _/_, _%_, _^_, _≤_, _<_, min, max}
+use native.Mathlib.Decide.{ℕ-discrete}
 use native.Mathlib.Omega.{arith}
 use lib.Dec.{eqb, ltb}
-use lib.Pow.{pow-lt, pow-mono, pow-pos}
-use lib.Bits.{bitAnd, bitOr, bitXor, or-lt, xor-lt, and-le-l, and-lt}
 use lib.ListN.{length, getD, set, length-set}
 use lib.Seq.{getD-set-same, getD-set-other}
-use borrow.Author.Tests.{eq-eqb, ne-eqb, eqb-true, lt-ltb, ltb-true}
+use borrow.Author.Tests.{lt-ltb, le-ltb, ltb-true}
 use Rattle.protocol.specs.Folds.{every}
-use Rattle.protocol.specs.CartSets.{digit}
+use Rattle.protocol.specs.CartSets.{digit, has, union, with, without, setOf}
 use Rattle.protocol.specs.Form.{bit}
-use Rattle.protocol.proofs.SetLaws.{digit-lt, same-digits}
-use Rattle.protocol.proofs.Tests.{every-at, every-all}
-use Rattle.lines.specs.Bits.{bitAt, lowestOf}
+use Rattle.protocol.proofs.SetLaws.{has-union, union-lt, with-lt, without-lt, member-below, no-member, setOf-lt, has-setOf, same-members}
+use Rattle.protocol.proofs.Tests.{by-lt, every-at, every-all}
+use Rattle.sets.specs.Masks.{least, disjoint}
+use Rattle.sets.proofs.MaskLaws.{with-here, with-other, without-here, without-other, digit-is, least-member}
+use Rattle.lines.specs.Bits.{bitAt}
 use Rattle.lines.specs.Words.{summaryOf}
 use Rattle.lines.specs.Form.{summaryOk}
-use Rattle.lines.specs.Parts.{With, Without, Summed, Full, Freed, Taken, Given, Marked}
-use Rattle.lines.proofs.Digits.{same-yes, same-no, below-yes, below-no, digit-none, or-digit, and-digit, out-digit, one-digit, ones-digit, lowest-out}
+use Rattle.lines.specs.Parts.{Summed, Full, Freed, Taken, Given, Marked}
+use Rattle.lines.proofs.Digits.{same-yes, same-no, below-yes, below-no, digit-none, digit-has, has-digit, with-digit, without-digit}
 use Rattle.lines.proofs.Sums.{not-true-false, and-true}
 
--- ---- one bit of a word
--- a shift of 1 in 64 bits
-shifted : (b : ℕ) → b < 64 → (1 * 2 ^ b) % 18446744073709551616 ≡ 2 ^ b
-shifted b h = ap (λ (x : ℕ). x % 2 ^ 64) (one-mul (2 ^ b)) ∙ mod-eq-of-lt (pow-lt h)
-
-pub shifted-pos : (b : ℕ) → b < 64 → 1 ≤ (1 * 2 ^ b) % 18446744073709551616
-shifted-pos b h = subst (λ (x : ℕ). 1 ≤ x) (sym (shifted b h)) (pow-pos b)
-
-pub with-is : (x b : ℕ) → b < 64 → With x b (bitOr x ((1 * 2 ^ b) % 18446744073709551616))
-with-is x b h = subst (λ (p : ℕ). With x b (bitOr x p)) (sym (shifted b h)) (record {
-  bits = λ c. or-digit x (2 ^ b) c ∙ ap (max (digit x c)) (one-digit b c);
-  small = λ n hb hx. or-lt n x (2 ^ b) hx (pow-lt hb);
+-- ---- one bit of the summary
+pub summed-with : (s w x r : ℕ) → r ≡ with s w → 0 < x → w < 49 → Summed s w x r
+summed-with s w x r e p hw = rw e (record {
+  here = with-here s w ∙ sym (lt-ltb 0 x p);
+  there = λ c q. with-other s w c (λ e. q (sym e));
+  small = λ h. with-lt 49 s w h hw;
 })
 
-pub without-is : (x b : ℕ) → b < 64 → Without x b (bitXor x (bitAnd x ((1 * 2 ^ b) % 18446744073709551616)))
-without-is x b h = subst (λ (p : ℕ). Without x b (bitXor x (bitAnd x p))) (sym (shifted b h)) (record {
-  bits = λ c. out-digit x (2 ^ b) c ∙ ap (λ (y : ℕ). digit x c - y) (one-digit b c);
-  small = λ n hx. xor-lt n x (bitAnd x (2 ^ b)) hx (lt-of-le-of-lt (and-le-l x (2 ^ b)) hx);
+pub summed-without : (s w x r : ℕ) → r ≡ without s w → x ≤ 0 → Summed s w x r
+summed-without s w x r e p = rw e (record {
+  here = without-here s w ∙ sym (le-ltb 0 x p);
+  there = λ c q. without-other s w c (λ e. q (sym e));
+  small = without-lt 49 s w;
 })
-
-pub without-lowest-is : (x : ℕ) → 0 < x → x < 2 ^ 64 → Without x (lowestOf x) (bitAnd x (x - 1))
-without-lowest-is x p h = record {
-  bits = λ c. and-digit x (x - 1) c ∙ lowest-out 64 x p h c;
-  small = λ n hx. lt-of-le-of-lt (and-le-l x (x - 1)) hx;
-}
-
-pub summed-with : (s w x r : ℕ) → With s w r → 0 < x → w < 49 → Summed s w x r
-summed-with s w x r h p hw = record {
-  here = omega (arith, h .bits w, same-yes w w refl, digit-lt s w, below-yes 0 x p);
-  there = λ c q. omega (arith, h .bits c, same-no w c (λ e. q (sym e)));
-  small = h .small 49 hw;
-}
-
-pub summed-without : (s w x r : ℕ) → Without s w r → x ≤ 0 → Summed s w x r
-summed-without s w x r h p = record {
-  here = omega (arith, h .bits w, same-yes w w refl, digit-lt s w, below-no 0 x p);
-  there = λ c q. omega (arith, h .bits c, same-no w c (λ e. q (sym e)));
-  small = h .small 49;
-}
 
 -- ---- a word whose rows are all free
 module _ (rows w : ℕ) where
   pub full-none : rows ≤ w * 64 → Full rows w 0
   full-none h c hc = digit-none c ∙ sym (below-no (w * 64 + c) rows (omega arith))
 
-  full-ones : (n : ℕ) → n ≡ min 64 (rows - w * 64) → Full rows w (2 ^ n - 1)
-  full-ones n e c hc = ones-digit n c ∙ pick (decLe (suc c) n)
-    where
-      pick : Dec (suc c ≤ n) → bit (ltb c n) ≡ bit (ltb (w * 64 + c) rows)
-      pick (yes h) = below-yes c n h ∙ sym (below-yes (w * 64 + c) rows (omega arith))
-      pick (no h) = below-no c n (omega arith) ∙ sym (below-no (w * 64 + c) rows (omega arith))
-
-  pub full-part : rows - w * 64 < 64 → Full rows w ((1 * 2 ^ (rows - w * 64)) % 18446744073709551616 - 1)
-  full-part h = subst (λ (p : ℕ). Full rows w (p - 1)) (sym (shifted (rows - w * 64) h)) (full-ones (rows - w * 64) (omega arith))
-
-  pub full-all : 64 ≤ rows - w * 64 → Full rows w 18446744073709551615
-  full-all h = full-ones 64 (omega arith)
+  pub full-some : (n r : ℕ) → n ≡ min 64 (rows - w * 64) → r ≡ setOf n (λ c. true) → Full rows w r
+  full-some n r e q c hc =
+      ap (λ (x : ℕ). digit x c) q ∙ digit-is (setOf n (λ c. true)) c
+      ∙ by-lt c n
+      (λ h. ap bit (has-setOf n (λ c. true) c h) ∙ sym (below-yes (w * 64 + c) rows (omega arith)))
+      (λ h. ap bit (no-member n (setOf n (λ c. true)) c (setOf-lt n (λ c. true)) h) ∙ sym (below-no (w * 64 + c) rows (omega arith)))
 
 -- ---- the summary
 pub record Summary (l : List ℕ) : Type 0 where
-  pub bits : (w : ℕ) → w < 49 → digit (summaryOf l) w ≡ bit (ltb 0 (getD l w 0))
+  pub bits : (w : ℕ) → w < 49 → has (summaryOf l) w ≡ ltb 0 (getD l w 0)
   pub small : summaryOf l < 2 ^ 49
 
 pub summary-of : (l : List ℕ) → summaryOk l ≡ true → Summary l
 unfolding summaryOk
 summary-of l e =
     let w = and-true (every 49 (λ w. eqb (digit (summaryOf l) w) (bit (ltb 0 (getD l w 0))))) (ltb (summaryOf l) (2 ^ 49)) e in record {
-      bits = λ v h. eqb-true _ _ (every-at 49 (λ w. eqb (digit (summaryOf l) w) (bit (ltb 0 (getD l w 0)))) (w .0) v h);
+      bits = λ v h. digit-has (summaryOf l) v (ltb 0 (getD l v 0)) (every-at 49 (λ w. eqb (digit (summaryOf l) w) (bit (ltb 0 (getD l w 0)))) (w .0) v h);
       small = ltb-true _ _ (w .1);
     }
 
 pub of-summary : (l : List ℕ) → Summary l → summaryOk l ≡ true
 unfolding summaryOk
 of-summary l s =
-    ap₂ _&&_ (every-all 49 (λ w. eqb (digit (summaryOf l) w) (bit (ltb 0 (getD l w 0)))) (λ w h. eq-eqb _ _ (s .bits w h))) (lt-ltb _ _ (s .small))
+    ap₂ _&&_ (every-all 49 (λ w. eqb (digit (summaryOf l) w) (bit (ltb 0 (getD l w 0)))) (λ w h. has-digit (summaryOf l) w (ltb 0 (getD l w 0)) (s .bits w h))) (lt-ltb _ _ (s .small))
 
--- bits past a number's length
-digit-high : (n s c : ℕ) → s < 2 ^ n → n ≤ c → digit s c ≡ 0
-digit-high n s c h hc = ap (λ (x : ℕ). x % 2) (div-eq-of-lt (lt-of-lt-of-le h (pow-mono hc)))
-
--- a bit of the summary is of a word that is not 0
-module _ (l : List ℕ) (s : Summary l) (w : ℕ) (e : digit (summaryOf l) w ≡ 1) where
+-- a member of the summary is a word that is not 0
+module _ (l : List ℕ) (s : Summary l) (w : ℕ) (e : has (summaryOf l) w ≡ true) where
   pub summary-low : w < 49
-  summary-low = pick (decLe (suc w) 49)
-    where
-      pick : Dec (suc w ≤ 49) → w < 49
-      pick (yes h) = h
-      pick (no h) = absurd (omega (arith, e, digit-high 49 (summaryOf l) w (s .small) (omega arith)))
+  summary-low = member-below 49 (summaryOf l) w (s .small) e
 
   pub summary-some : 0 < getD l w 0
-  summary-some = pick (decLe 1 (getD l w 0))
-    where
-      pick : Dec (1 ≤ getD l w 0) → 0 < getD l w 0
-      pick (yes h) = h
-      pick (no h) = absurd (omega (arith, e, s .bits w summary-low, below-no 0 (getD l w 0) (omega arith)))
+  summary-some = ltb-true 0 (getD l w 0) (sym (s .bits w summary-low) ∙ e)
+
+-- the least of them is the word of the lowest free row
+pub first-word : (l : List ℕ) (w : ℕ) → summaryOk l ≡ true → least 64 (summaryOf l) ≡ some w → (w < 49) × (0 < getD l w 0)
+first-word l w ok e =
+    let h = least-member 64 (summaryOf l) w e .1 in
+    (summary-low l (summary-of l ok) w h, summary-some l (summary-of l ok) w h)
 
 -- ---- a word of the free rows
 pub freed-is : (l : List ℕ) (w x s : ℕ) → w < 49 → 50 ≤ length l → Summed (getD (set l w x) 49 0) w x s → Freed l (set (set l w x) 49 s) w x
@@ -139,17 +102,16 @@ freed-still l w x hw hl s was is =
       word = getD-set-same l w x 0 (omega arith);
       others = λ a ha hs. getD-set-other l w a x 0 ha;
       summary = subst (λ (t : ℕ). Summed (summaryOf l) w x t) (sym (getD-set-other l w 49 x 0 far))
-          (record { here = s .bits w hw ∙ ap bit (lt-ltb 0 (getD l w 0) was ∙ sym (lt-ltb 0 x is)); there = λ c d. refl; small = λ q. q });
+          (record { here = s .bits w hw ∙ lt-ltb 0 (getD l w 0) was ∙ sym (lt-ltb 0 x is); there = λ c d. refl; small = λ q. q });
     }
 
 module _ (l l′ : List ℕ) (w x : ℕ) (h : Freed l l′ w x) (hw : w < 49) where
   pub freed-summary : Summary l → Summary l′
   freed-summary s = record { bits = λ v hv. pick v hv (ℕ-discrete v w); small = h .summary .small (s .small) }
     where
-      pick : (v : ℕ) → v < 49 → Dec (v ≡ w) → digit (summaryOf l′) v ≡ bit (ltb 0 (getD l′ v 0))
-      pick v hv (yes q) =
-          ap (digit (summaryOf l′)) q ∙ h .summary .here ∙ ap (λ (y : ℕ). bit (ltb 0 y)) (sym (h .word) ∙ ap (λ (a : ℕ). getD l′ a 0) (sym q))
-      pick v hv (no q) = h .summary .there v q ∙ s .bits v hv ∙ ap (λ (y : ℕ). bit (ltb 0 y)) (sym (h .others v q (omega arith)))
+      pick : (v : ℕ) → v < 49 → Dec (v ≡ w) → has (summaryOf l′) v ≡ ltb 0 (getD l′ v 0)
+      pick v hv (yes q) = ap (has (summaryOf l′)) q ∙ h .summary .here ∙ ap (ltb 0) (sym (h .word) ∙ ap (λ (a : ℕ). getD l′ a 0) (sym q))
+      pick v hv (no q) = h .summary .there v q ∙ s .bits v hv ∙ ap (ltb 0) (sym (h .others v q (omega arith)))
 
   freed-here : (y : ℕ) → y / 64 ≡ w → bitAt l′ y ≡ digit x (y % 64)
   unfolding bitAt
@@ -186,26 +148,28 @@ row-here f w b y e hb q = pick (ℕ-discrete b (y % 64))
 row-there : (f w b y : ℕ) → f ≡ w * 64 + b → b < 64 → (y / 64 ≡ w → ⊥) → bit (eqb f y) ≡ 0
 row-there f w b y e hb q = same-no f y (λ t. q (omega arith))
 
-pub take-is : (l l′ : List ℕ) (w b x : ℕ) → summaryOk l ≡ true → digit (summaryOf l) w ≡ 1 → b < 64 → digit (getD l w 0) b ≡ 1
-    → b ≡ lowestOf (getD l w 0) → Without (getD l w 0) (lowestOf (getD l w 0)) x → Freed l l′ w x → Taken l l′ (w * 64 + b)
-take-is l l′ w b x ok e hb eb low out h =
-    let s = summary-of l ok in
-    let hw = summary-low l s w e in
+-- the least free row of a word is taken out of it
+pub take-is : (l l′ : List ℕ) (w b x : ℕ) → summaryOk l ≡ true → w < 49 → least 64 (getD l w 0) ≡ some b
+    → x ≡ without (getD l w 0) b → Freed l l′ w x → Taken l l′ (w * 64 + b)
+take-is l l′ w b x ok hw low out h =
     record {
-      within = omega (arith, hw);
-      was = row-bit l w b hb ∙ eb;
-      bits = λ y hy. pick hw y hy (ℕ-discrete (y / 64) w);
+      within = omega (arith, hw, here .0);
+      was = row-bit l w b (here .0) ∙ digit-is (getD l w 0) b ∙ ap bit (here .1);
+      bits = λ y hy. pick y hy (ℕ-discrete (y / 64) w);
       rest = λ a ha. h .others a (omega (arith, hw)) (omega arith);
-      summary = of-summary l′ (freed-summary l l′ w x h hw s);
+      summary = of-summary l′ (freed-summary l l′ w x h hw (summary-of l ok));
     }
   where
-    pick : w < 49 → (y : ℕ) → y < 3136 → Dec (y / 64 ≡ w) → bitAt l′ y ≡ bitAt l y - bit (eqb (w * 64 + b) y)
-    pick hw y hy (yes q) =
-        let same = ap (λ (t : ℕ). bit (eqb t (y % 64))) low in
-        omega (arith, freed-here l l′ w x h hw y q, out .bits (y % 64), at-word l w y q, row-here (w * 64 + b) w b y refl hb q)
-    pick hw y hy (no q) = omega (arith, freed-there l l′ w x h hw y hy q, row-there (w * 64 + b) w b y refl hb q)
+    here : (b < 64) × (has (getD l w 0) b ≡ true)
+    here = least-member 64 (getD l w 0) b low
 
-pub give-is : (l l′ : List ℕ) (f x : ℕ) → summaryOk l ≡ true → f < 3136 → With (getD l (f / 64) 0) (f % 64) x → Freed l l′ (f / 64) x → Given l l′ f
+    pick : (y : ℕ) → y < 3136 → Dec (y / 64 ≡ w) → bitAt l′ y ≡ bitAt l y - bit (eqb (w * 64 + b) y)
+    pick y hy (yes q) =
+        let gone = ap (λ (t : ℕ). digit t (y % 64)) out ∙ without-digit (getD l w 0) b (y % 64) in
+        omega (arith, freed-here l l′ w x h hw y q, gone, at-word l w y q, row-here (w * 64 + b) w b y refl (here .0) q)
+    pick y hy (no q) = omega (arith, freed-there l l′ w x h hw y hy q, row-there (w * 64 + b) w b y refl (here .0) q)
+
+pub give-is : (l l′ : List ℕ) (f x : ℕ) → summaryOk l ≡ true → f < 3136 → x ≡ with (getD l (f / 64) 0) (f % 64) → Freed l l′ (f / 64) x → Given l l′ f
 give-is l l′ f x ok hf put h =
     let hw : f / 64 < 49 = omega arith in
     record {
@@ -216,18 +180,19 @@ give-is l l′ f x ok hf put h =
   where
     pick : f / 64 < 49 → (y : ℕ) → y < 3136 → Dec (y / 64 ≡ f / 64) → bitAt l′ y ≡ max (bitAt l y) (bit (eqb f y))
     pick hw y hy (yes q) =
-        omega (arith, freed-here l l′ (f / 64) x h hw y q, put .bits (y % 64), at-word l (f / 64) y q, row-here f (f / 64) (f % 64) y (omega arith) (omega arith) q)
+        let there = ap (λ (t : ℕ). digit t (y % 64)) put ∙ with-digit (getD l (f / 64) 0) (f % 64) (y % 64) in
+        omega (arith, freed-here l l′ (f / 64) x h hw y q, there, at-word l (f / 64) y q, row-here f (f / 64) (f % 64) y (omega arith) (omega arith) q)
     pick hw y hy (no q) = omega (arith, freed-there l l′ (f / 64) x h hw y hy q, row-there f (f / 64) (f % 64) y (omega arith) (omega arith) q)
 
-pub mark-is : (s : List ℕ) (f x : ℕ) → f < length s * 64 → With (getD s (f / 64) 0) (f % 64) x → Marked s (set s (f / 64) x) f
+pub mark-is : (s : List ℕ) (f x : ℕ) → f < length s * 64 → x ≡ with (getD s (f / 64) 0) (f % 64) → Marked s (set s (f / 64) x) f
 unfolding bitAt
 mark-is s f x hf put y = pick (ℕ-discrete (y / 64) (f / 64))
   where
     pick : Dec (y / 64 ≡ f / 64) → digit (getD (set s (f / 64) x) (y / 64) 0) (y % 64) ≡ max (digit (getD s (y / 64) 0) (y % 64)) (bit (eqb f y))
     pick (yes q) =
         ap (λ (a : ℕ). digit (getD (set s (f / 64) x) a 0) (y % 64)) q
-        ∙ ap (λ (t : ℕ). digit t (y % 64)) (getD-set-same s (f / 64) x 0 (omega arith))
-        ∙ put .bits (y % 64)
+        ∙ ap (λ (t : ℕ). digit t (y % 64)) (getD-set-same s (f / 64) x 0 (omega arith) ∙ put)
+        ∙ with-digit (getD s (f / 64) 0) (f % 64) (y % 64)
         ∙ ap₂ max (ap (λ (a : ℕ). digit (getD s a 0) (y % 64)) (sym q)) (sym (row-here f (f / 64) (f % 64) y (omega arith) (omega arith) q))
     pick (no q) =
         ap (λ (t : ℕ). digit t (y % 64)) (getD-set-other s (f / 64) (y / 64) x 0 q)
@@ -240,25 +205,33 @@ mark-is s f x hf put y = pick (ℕ-discrete (y / 64) (f / 64))
 abbrev wordTest : ℕ → ℕ → ℕ → ℕ → Bool
 wordTest s f whole c = eqb (digit s c + digit f c) (digit whole c)
 
-module _ (s f whole : ℕ) (hs : s < 18446744073709551616) (hf : f < 18446744073709551616) (hw : whole < 18446744073709551616) where
-  word-at : every 64 (wordTest s f whole) ≡ true → (c : ℕ) → c < 64 → digit s c + digit f c ≡ digit whole c
-  word-at t c hc = eqb-true (digit s c + digit f c) (digit whole c) (every-at 64 (wordTest s f whole) t c hc)
+word-test : (s f whole c : ℕ) → wordTest s f whole c ≡ eqb (bit (has s c) + bit (has f c)) (bit (has whole c))
+word-test s f whole c = ap₂ eqb (ap₂ _+_ (digit-is s c) (digit-is f c)) (digit-is whole c)
 
-  pub word-or : (bitOr s f ≡ whole → ⊥) → false ≡ every 64 (λ c. eqb (digit s c + digit f c) (digit whole c))
-  word-or h = not-true-false (every 64 (wordTest s f whole)) (λ t. h (same-digits 64 (bitOr s f) whole (or-lt 64 s f hs hf) hw (λ c hc.
-      omega (arith, or-digit s f c, digit-lt s c, digit-lt f c, digit-lt whole c, word-at t c hc))))
-
-  pub word-and : bitOr s f ≡ whole → eqb (bitAnd s f) 0 ≡ every 64 (λ c. eqb (digit s c + digit f c) (digit whole c))
-  word-and e = pick (ℕ-discrete (bitAnd s f) 0)
+module _ (s f whole : ℕ) where
+  pub word-or : s < 2 ^ 64 → f < 2 ^ 64 → whole < 2 ^ 64 → (union s f ≡ whole → ⊥) → false ≡ every 64 (λ c. eqb (digit s c + digit f c) (digit whole c))
+  word-or hs hf hw h = not-true-false (every 64 (wordTest s f whole)) (λ t. h (same-members 64 (union s f) whole (union-lt 64 s f hs hf) hw (λ c hc.
+      has-union s f c ∙ either (has s c) (has f c) (has whole c) (sym (word-test s f whole c) ∙ every-at 64 (wordTest s f whole) t c hc))))
     where
-      sum : bitAnd s f ≡ 0 → (c : ℕ) → digit s c + digit f c ≡ digit whole c
-      sum q c = omega (arith, or-digit s f c, and-digit s f c, ap (λ (x : ℕ). digit x c) e, ap (λ (x : ℕ). digit x c) q, digit-none c, digit-lt s c, digit-lt f c)
+      either : (a b w : Bool) → eqb (bit a + bit b) (bit w) ≡ true → (a || b) ≡ w
+      either true true true e = refl
+      either true true false e = sym e
+      either true false true e = refl
+      either true false false e = sym e
+      either false true true e = refl
+      either false true false e = sym e
+      either false false true e = e
+      either false false false e = refl
 
-      pick : Dec (bitAnd s f ≡ 0) → eqb (bitAnd s f) 0 ≡ every 64 (wordTest s f whole)
-      pick (yes q) = eq-eqb (bitAnd s f) 0 q ∙ sym (every-all 64 (wordTest s f whole) (λ c hc. eq-eqb (digit s c + digit f c) (digit whole c) (sum q c)))
-      pick (no q) = ne-eqb (bitAnd s f) 0 q ∙ not-true-false (every 64 (wordTest s f whole)) (λ t.
-          q (same-digits 64 (bitAnd s f) 0 (and-lt 64 s f hs hf) (omega arith) (λ c hc.
-          omega (arith, and-digit s f c, digit-none c, digit-lt s c, digit-lt f c, digit-lt whole c, word-at t c hc))))
+  pub word-and : union s f ≡ whole → disjoint 64 s f ≡ every 64 (λ c. eqb (digit s c + digit f c) (digit whole c))
+  unfolding disjoint
+  word-and e = ap (every 64) (fun-ext (λ c. not-both (has s c) (has f c) (has whole c) (sym (has-union s f c) ∙ ap (λ (x : ℕ). has x c) e) ∙ sym (word-test s f whole c)))
+    where
+      not-both : (a b w : Bool) → (a || b) ≡ w → not (a && b) ≡ eqb (bit a + bit b) (bit w)
+      not-both true true w e = rw (← e)
+      not-both true false w e = rw (← e)
+      not-both false true w e = rw (← e)
+      not-both false false w e = rw (← e)
 
 -- ---- words that stay
 module _ (l l′ : List ℕ) (same : (a : ℕ) → a < 50 → getD l′ a 0 ≡ getD l a 0) where
@@ -268,6 +241,6 @@ module _ (l l′ : List ℕ) (same : (a : ℕ) → a < 50 → getD l′ a 0 ≡ 
 
   pub summary-same : summaryOk l ≡ true → summaryOk l′ ≡ true
   summary-same e = let s = summary-of l e in of-summary l′ (record {
-    bits = λ w h. ap (λ (y : ℕ). digit y w) (same 49 (omega arith)) ∙ s .bits w h ∙ ap (λ (y : ℕ). bit (ltb 0 y)) (sym (same w (omega arith)));
+    bits = λ w h. ap (λ (y : ℕ). has y w) (same 49 (omega arith)) ∙ s .bits w h ∙ ap (ltb 0) (sym (same w (omega arith)));
     small = subst (λ (y : ℕ). y < 2 ^ 49) (sym (same 49 (omega arith))) (s .small);
   })

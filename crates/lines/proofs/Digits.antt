@@ -1,18 +1,13 @@
--- Laws of a number's bits.
-use mathlib.Core.Path.{_≡_, refl, sym, ap, ap₂, _∙_, subst}
-use Prim.Native.Nat.{ℕ, zero, suc, _-_, _/_, _%_, _^_, _≤_, _<_, min, max}
-use native.Mathlib.Nat.{pow-suc, div-one, zero-div}
-use native.Mathlib.Decide.{decLe}
-use native.Mathlib.Omega.{arith}
-use lib.Dec.{eqb, ltb, eqb·suc-suc, eqb·zero-suc}
-use lib.Arith.{lt-one}
-use lib.Pow.{pow-pos}
-use lib.Bits.{bitAnd, bitOr, bitXor, and-shr, or-shr, xor-shr, and-step, or-step, xor-step, differ}
-use lib.Count.{trailingZeros, under}
+-- Laws of a number's bits as 0 and 1, from those of sets.
+use mathlib.Core.Path.{_≡_, refl, sym, ap, _∙_}
+use mathlib.Core.Bool.{Bool, true, false, not, _&&_, _||_}
+use Prim.Native.Nat.{ℕ, _-_, _≤_, _<_, max}
+use lib.Dec.{eqb, ltb}
 use borrow.Author.Tests.{eq-eqb, ne-eqb, lt-ltb, le-ltb}
-use Rattle.protocol.specs.CartSets.{digit}
+use Rattle.protocol.specs.CartSets.{digit, has, with, without}
 use Rattle.protocol.specs.Form.{bit}
-use Rattle.protocol.proofs.SetLaws.{digit-lt, op-digit, by-digits, min-small, max-small, differ-small, half-digit, power-digit}
+use Rattle.protocol.proofs.SetLaws.{has-zero, has-with, has-without}
+use Rattle.sets.proofs.MaskLaws.{digit-is}
 
 -- ---- yes and no
 pub same-yes : (x y : ℕ) → x ≡ y → bit (eqb x y) ≡ 1
@@ -28,91 +23,37 @@ pub below-no : (x n : ℕ) → n ≤ x → bit (ltb x n) ≡ 0
 below-no x n h = ap bit (le-ltb x n h)
 
 -- ---- bits of a number
-digit-zero : (s : ℕ) → digit s 0 ≡ s % 2
-digit-zero s = ap (λ (x : ℕ). x % 2) (div-one s)
-
 pub digit-none : (c : ℕ) → digit 0 c ≡ 0
-digit-none c = ap (λ (x : ℕ). x % 2) (zero-div (2 ^ c))
+digit-none c = digit-is 0 c ∙ ap bit (has-zero c)
 
-pub or-digit : (a b c : ℕ) → digit (bitOr a b) c ≡ max (digit a c) (digit b c)
-or-digit = op-digit bitOr max or-step or-shr max-small
-
-pub and-digit : (a b c : ℕ) → digit (bitAnd a b) c ≡ min (digit a c) (digit b c)
-and-digit = op-digit bitAnd min and-step and-shr min-small
-
--- a with the bits of b out
-pub out-digit : (a b c : ℕ) → digit (bitXor a (bitAnd a b)) c ≡ digit a c - digit b c
-out-digit a b c =
-    op-digit bitXor differ xor-step xor-shr differ-small a (bitAnd a b) c
-    ∙ ap (differ (digit a c)) (and-digit a b c)
-    ∙ by-digits (λ x y. differ x (min x y) ≡ x - y) refl refl refl refl (digit a c) (digit b c) (digit-lt a c) (digit-lt b c)
-
--- ---- one bit
-pub one-digit : (b c : ℕ) → digit (2 ^ b) c ≡ bit (eqb b c)
-one-digit b c = one-or-none (digit (2 ^ b) c) (digit-lt (2 ^ b) c) ∙ ap bit (power-digit b c)
+-- the test of a bit asks for a member
+pub digit-has : (x c : ℕ) (b : Bool) → eqb (digit x c) (bit b) ≡ true → has x c ≡ b
+digit-has x c b e = same (has x c) b (sym (ap (λ (d : ℕ). eqb d (bit b)) (digit-is x c)) ∙ e)
   where
-    one-or-none : (d : ℕ) → d < 2 → d ≡ bit (eqb d 1)
-    one-or-none d h = by-digits (λ x y. x ≡ bit (eqb x 1)) refl refl refl refl d d h h
+    same : (a b : Bool) → eqb (bit a) (bit b) ≡ true → a ≡ b
+    same true true e = refl
+    same true false e = sym e
+    same false true e = e
+    same false false e = refl
 
--- the number of n bits that are all set
-pub ones-digit : (n c : ℕ) → digit (2 ^ n - 1) c ≡ bit (ltb c n)
-ones-digit zero c = digit-none c ∙ sym (below-no c 0 (omega arith))
-ones-digit (suc n) zero =
-    digit-zero (2 ^ suc n - 1) ∙ odd ∙ sym (below-yes 0 (suc n) (omega arith))
-  where
-    odd : (2 ^ suc n - 1) % 2 ≡ 1
-    odd = omega (arith, pow-suc 2 n, pow-pos n)
-ones-digit (suc n) (suc c) =
-    sym (half-digit (2 ^ suc n - 1) c) ∙ ap (λ (x : ℕ). digit x c) half ∙ ones-digit n c ∙ cases (decLe (suc c) n)
-  where
-    half : (2 ^ suc n - 1) / 2 ≡ 2 ^ n - 1
-    half = omega (arith, pow-suc 2 n, pow-pos n)
+pub has-digit : (x c : ℕ) (b : Bool) → has x c ≡ b → eqb (digit x c) (bit b) ≡ true
+has-digit x c b e = eq-eqb (digit x c) (bit b) (digit-is x c ∙ ap bit e)
 
-    cases : Dec (suc c ≤ n) → bit (ltb c n) ≡ bit (ltb (suc c) (suc n))
-    cases (yes h) = below-yes c n h ∙ sym (below-yes (suc c) (suc n) (omega arith))
-    cases (no h) = below-no c n (omega arith) ∙ sym (below-no (suc c) (suc n) (omega arith))
+or-bit : (a b : Bool) → bit (a || b) ≡ max (bit a) (bit b)
+or-bit true true = refl
+or-bit true false = refl
+or-bit false true = refl
+or-bit false false = refl
 
--- the lowest bit of a number that is not 0
-pub lowest-bit : (k n : ℕ) → 0 < n → n < 2 ^ k → (trailingZeros k n < k) × (digit n (trailingZeros k n) ≡ 1)
-unfolding trailingZeros
-lowest-bit zero n p h = absurd (omega (arith, lt-one h))
-lowest-bit (suc k) n p h = pick (n % 2) refl (λ q. lowest-bit k (n / 2) q half)
-  where
-    half : n / 2 < 2 ^ k
-    half = omega (arith, subst (λ (x : ℕ). n < x) (pow-suc 2 k) h)
+but-bit : (a b : Bool) → bit (a && not b) ≡ bit a - bit b
+but-bit true true = refl
+but-bit true false = refl
+but-bit false true = refl
+but-bit false false = refl
 
-    pick : (d : ℕ) → n % 2 ≡ d → (0 < n / 2 → (trailingZeros k (n / 2) < k) × (digit (n / 2) (trailingZeros k (n / 2)) ≡ 1))
-        → (under d (trailingZeros k (n / 2)) < suc k) × (digit n (under d (trailingZeros k (n / 2))) ≡ 1)
-    pick zero e rec = let w = rec (omega arith) in (omega (arith, w .0), sym (half-digit n (trailingZeros k (n / 2))) ∙ w .1)
-    pick (suc d) e rec = (omega arith, digit-zero n ∙ one)
-      where
-        one : n % 2 ≡ 1
-        one = omega arith
+-- with one more, or without one
+pub with-digit : (x b c : ℕ) → digit (with x b) c ≡ max (digit x c) (bit (eqb b c))
+with-digit x b c = digit-is (with x b) c ∙ ap bit (has-with x b c) ∙ or-bit (has x c) (eqb b c) ∙ ap (λ (d : ℕ). max d (bit (eqb b c))) (sym (digit-is x c))
 
--- one less than it has all its bits but that one, and others only below that one
-pub lowest-out : (k n : ℕ) → 0 < n → n < 2 ^ k → (c : ℕ) → min (digit n c) (digit (n - 1) c) ≡ digit n c - bit (eqb (trailingZeros k n) c)
-unfolding trailingZeros
-lowest-out zero n p h c = absurd (omega (arith, lt-one h))
-lowest-out (suc k) n p h c = pick (n % 2) refl c (λ q. lowest-out k (n / 2) q half)
-  where
-    half : n / 2 < 2 ^ k
-    half = omega (arith, subst (λ (x : ℕ). n < x) (pow-suc 2 k) h)
-
-    pick : (d : ℕ) → n % 2 ≡ d → (c : ℕ)
-        → (0 < n / 2 → (c : ℕ) → min (digit (n / 2) c) (digit (n / 2 - 1) c) ≡ digit (n / 2) c - bit (eqb (trailingZeros k (n / 2)) c))
-        → min (digit n c) (digit (n - 1) c) ≡ digit n c - bit (eqb (under d (trailingZeros k (n / 2))) c)
-    pick zero e zero rec = omega (arith, digit-zero n)
-    pick zero e (suc c) rec =
-        let q : (n - 1) / 2 ≡ n / 2 - 1 = omega arith in
-        let t = ap bit (eqb·suc-suc (trailingZeros k (n / 2)) c) in
-        omega (arith, half-digit n c, half-digit (n - 1) c, ap (λ (x : ℕ). digit x c) q, rec (omega arith) c)
-    pick (suc d) e zero rec = ap₂ min one none ∙ sym (ap (λ (x : ℕ). x - bit (eqb 0 0)) one)
-      where
-        one : digit n 0 ≡ 1
-        one = omega (arith, digit-zero n)
-
-        none : digit (n - 1) 0 ≡ 0
-        none = omega (arith, digit-zero (n - 1))
-    pick (suc d) e (suc c) rec =
-        let q : (n - 1) / 2 ≡ n / 2 = omega arith in
-        omega (arith, half-digit n c, half-digit (n - 1) c, ap (λ (x : ℕ). digit x c) q, ap bit (eqb·zero-suc c))
+pub without-digit : (x b c : ℕ) → digit (without x b) c ≡ digit x c - bit (eqb b c)
+without-digit x b c = digit-is (without x b) c ∙ ap bit (has-without x b c) ∙ but-bit (has x c) (eqb b c) ∙ ap (λ (d : ℕ). d - bit (eqb b c)) (sym (digit-is x c))

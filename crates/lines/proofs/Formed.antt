@@ -8,18 +8,19 @@ use native.Mathlib.Decide.{decLe}
 use native.Mathlib.Omega.{arith}
 use lib.Dec.{eqb, ltb, leb}
 use lib.ListN.{length, getD, length-map}
-use lib.Count.{trailingZeros}
 use borrow.Author.Tests.{eqb-true, eq-eqb, ltb-true, lt-ltb, leb-true, le-leb}
 use Rattle.protocol.specs.Folds.{every, sum}
-use Rattle.protocol.specs.CartSets.{digit}
+use Rattle.protocol.specs.CartSets.{digit, has}
 use Rattle.protocol.specs.Form.{bit}
-use Rattle.protocol.proofs.Tests.{every-at, every-all}
+use Rattle.protocol.proofs.Tests.{clash, every-at, every-all}
+use Rattle.protocol.proofs.SetLaws.{has-zero, some-member}
 use Rattle.protocol.proofs.Counting.{bit-le, sum-ext, sum-nil, sum-term, sum-add, sum-swap}
+use Rattle.sets.proofs.MaskLaws.{digit-is}
 use Rattle.lines.specs.Bits.{bitAt}
 use Rattle.lines.specs.Words.{capacity, lineAt, rowAt, summaryOf, headOf, tailOf, lengthOf, nextOf}
 use Rattle.lines.specs.Lines.{chain, rowsOf, recordOf, lineOf, used}
 use Rattle.lines.specs.Form.{count, allBelow, lastOf, rowsOnLines, sized, lineOk, rowsOk, summaryOk, form}
-use Rattle.lines.proofs.Digits.{below-yes, digit-none, lowest-bit}
+use Rattle.lines.proofs.Digits.{digit-none}
 use Rattle.lines.proofs.Sums.{and-true, sum-terms, sum-below, count-append, below-head, sum-count}
 use Rattle.lines.proofs.Bitmap.{Summary, summary-of, summary-some, row-bit}
 use Rattle.lines.proofs.Chains.{nth, length-chain, chain-head, chain-split, last-chain}
@@ -206,7 +207,7 @@ module _ (l : List ℕ) (w : Formed l) where
       zero-word v h = pick (decLe 1 (getD l v 0))
         where
           pick : Dec (1 ≤ getD l v 0) → getD l v 0 ≡ 0
-          pick (yes q) = absurd (omega (arith, s-of .bits v h, ap (λ (y : ℕ). digit y v) e, digit-none v, below-yes 0 (getD l v 0) q))
+          pick (yes q) = clash (ltb 0 (getD l v 0)) (lt-ltb 0 (getD l v 0) q) (sym (s-of .bits v h) ∙ ap (λ (y : ℕ). has y v) e ∙ has-zero v)
           pick (no q) = omega arith
 
   -- so a push finds a row where there is room
@@ -220,10 +221,9 @@ module _ (l : List ℕ) (w : Formed l) where
   -- a bit in the summary, where the words have 64 bits: a free row
   some-free : ((v : ℕ) → getD l v 0 < 2 ^ 64) → 0 < summaryOf l → 1 ≤ sum 3136 (bitAt l)
   some-free fit h =
-      let s = lowest-bit 49 (summaryOf l) h (s-of .small) in
-      let v = trailingZeros 49 (summaryOf l) in
-      let b = lowest-bit 64 (getD l v 0) (summary-some l s-of v (s .1)) (fit v) in
-      free-at v (trailingZeros 64 (getD l v 0)) (s .0) (b .0) (b .1)
+      let v = some-member 49 (summaryOf l) (s-of .small) h in
+      let b = some-member 64 (getD l (v .0) 0) (fit (v .0)) (summary-some l s-of (v .0) (v .2)) in
+      free-at (v .0) (b .0) (v .1) (b .1) (digit-is (getD l (v .0) 0) (b .0) ∙ ap bit (b .2))
     where
       free-at : (v b : ℕ) → v < 49 → b < 64 → digit (getD l v 0) b ≡ 1 → 1 ≤ sum 3136 (bitAt l)
       free-at v b hv hb e = omega (arith, sum-term 3136 (bitAt l) (v * 64 + b) (omega arith), row-bit l v b hb, e)

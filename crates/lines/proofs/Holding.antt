@@ -1,22 +1,22 @@
 -- A word of the free rows that a caller holds: the laws of the rows and the lines speak of the pool with that word released.
 use mathlib.Core.Path.{_≡_, sym, ap, _∙_, subst}
 use mathlib.Core.Bool.{true}
+use mathlib.Core.Option.{Option}
 use mathlib.Core.List.{List}
 use Prim.Native.Nat.{ℕ, _+_, _*_, _≤_, _<_}
 use native.Mathlib.Omega.{arith}
 use lib.ListN.{length, getD, set, length-set}
 use lib.Seq.{getD-set-same, getD-set-other, set-getD, set-set, set-comm}
-use Rattle.protocol.specs.CartSets.{digit}
+use Rattle.protocol.specs.CartSets.{without}
+use Rattle.sets.specs.Masks.{least}
 use Rattle.lines.specs.declared.Record.{Record}
 use Rattle.lines.specs.declared.Held.{Held}
-use Rattle.lines.specs.Bits.{lowestOf}
 use Rattle.lines.specs.Words.{capacity, summaryOf, lineAt, rowAt, tailOf, lengthOf}
 use Rattle.lines.specs.Lines.{used}
 use Rattle.lines.specs.Form.{form, summaryOk}
 use Rattle.lines.specs.Post.{Pushed}
-use Rattle.lines.specs.Parts.{Without, Summed, Freed, Taken, Link, Fits, joined}
+use Rattle.lines.specs.Parts.{Summed, Freed, Taken, Link, Fits, joined}
 use Rattle.lines.specs.Holding.{released, Holds}
-use Rattle.lines.proofs.Digits.{below-yes}
 use Rattle.lines.proofs.Bitmap.{summary-of, of-summary, freed-still, freed-summary, take-is}
 use Rattle.lines.proofs.Formed.{linkable, takable}
 use Rattle.lines.proofs.Push.{joined-other, link-high, join-fits, push-is}
@@ -102,12 +102,10 @@ module _ (l : List ℕ) (h : Held) (x : ℕ) (held : Holds l h) (some : 0 < h .f
   changed-summary l′ f = of-summary l′ (freed-summary (released l h) l′ (h .at) x f (held .low) (summary-of (released l h) ok))
 
   -- it is without its lowest row
-  pub held-taken : (l′ : List ℕ) (b : ℕ) → (b < 64) × (digit (h .free) b ≡ 1) × (b ≡ lowestOf (h .free))
-      → Without (h .free) (lowestOf (h .free)) x → Freed (released l h) l′ (h .at) x → Taken (released l h) l′ (h .at * 64 + b)
+  pub held-taken : (l′ : List ℕ) (b : ℕ) → least 64 (h .free) ≡ Option.some b → x ≡ without (h .free) b
+      → Freed (released l h) l′ (h .at) x → Taken (released l h) l′ (h .at * 64 + b)
   held-taken l′ b lowest out f =
-      take-is (released l h) l′ (h .at) b x ok
-      (summary-of (released l h) ok .bits (h .at) (held .low) ∙ below-yes 0 (getD (released l h) (h .at) 0) (omega (arith, here)))
-      (lowest .0) (rw here (lowest .1)) (rw here (lowest .2)) (rw here out) f
+      take-is (released l h) l′ (h .at) b x ok (held .low) (rw here lowest) (rw here out) f
 
 -- ---- a push
 module _ (l : List ℕ) (h : Held) (e : form (released l h) ≡ true) (held : Holds l h) where

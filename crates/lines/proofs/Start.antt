@@ -8,7 +8,7 @@ use native.Mathlib.Omega.{arith}
 use lib.Dec.{ltb}
 use lib.ListN.{length, getD, set}
 use lib.Seq.{getD-set-same, getD-set-other}
-use Rattle.protocol.specs.CartSets.{digit}
+use Rattle.protocol.specs.CartSets.{has}
 use Rattle.protocol.specs.Form.{bit}
 use Rattle.protocol.proofs.Counting.{sum-nil}
 use Rattle.lines.specs.Bits.{bitAt}
@@ -37,7 +37,7 @@ module _ (l l₀ : List ℕ) (k : ℕ) where
 -- ---- the words of the free rows, one after the other
 -- word v has all its rows free, and the summary says it
 abbrev pub FreeAt : List ℕ → ℕ → ℕ → Type 0
-FreeAt l rows v = Full rows v (getD l v 0) × (digit (summaryOf l) v ≡ bit (ltb 0 (getD l v 0)))
+FreeAt l rows v = Full rows v (getD l v 0) × (has (summaryOf l) v ≡ ltb 0 (getD l v 0))
 
 pub free-start : (l : List ℕ) → 50 ≤ length l → summaryOf (set l 49 0) < 2 ^ 49
 free-start l h = subst (λ (x : ℕ). x < 2 ^ 49) (sym (getD-set-same l 49 0 0 h)) (omega arith)
@@ -47,11 +47,11 @@ free-more l l′ rows w x h hw full all v hv = pick (ℕ-discrete v w)
   where
     pick : Dec (v ≡ w) → FreeAt l′ rows v
     pick (yes q) = subst (λ (i : ℕ). FreeAt l′ rows i) (sym q)
-        (subst (λ (y : ℕ). Full rows w y) (sym (h .word)) full, h .summary .here ∙ ap (λ (y : ℕ). bit (ltb 0 y)) (sym (h .word)))
+        (subst (λ (y : ℕ). Full rows w y) (sym (h .word)) full, h .summary .here ∙ ap (ltb 0) (sym (h .word)))
     pick (no q) =
         let e : getD l′ v 0 ≡ getD l v 0 = h .others v q (omega arith) in
         let before = all v (omega arith) in
-        (subst (λ (y : ℕ). Full rows v y) (sym e) (before .0), h .summary .there v q ∙ before .1 ∙ ap (λ (y : ℕ). bit (ltb 0 y)) (sym e))
+        (subst (λ (y : ℕ). Full rows v y) (sym e) (before .0), h .summary .there v q ∙ before .1 ∙ ap (ltb 0) (sym e))
 
 pub free-end : (l₀ l : List ℕ) (rows w : ℕ) → rows ≡ capacity l₀ → 49 ≤ w → summaryOf l < 2 ^ 49 → ((v : ℕ) → v < w → FreeAt l rows v) → AllFree l₀ l
 unfolding bitAt

@@ -1,6 +1,6 @@
 -- The form test, part by part.
 use mathlib.Core.Path.{_≡_, refl, sym, ap, ap₂, _∙_, subst}
-use mathlib.Core.Bool.{Bool, true, false, _&&_}
+use mathlib.Core.Bool.{Bool, true, false, not, _&&_, Bool·beq}
 use mathlib.Core.List.{List, [], _∷_}
 use Prim.Native.Nat.{ℕ, zero, suc, _+_, _-_, _*_, _/_, _%_, _≤_, _<_}
 use native.Mathlib.Numerals.{add-one}
@@ -10,7 +10,7 @@ use lib.Dec.{eqb, ltb}
 use lib.ListN.{length, getD, replicate}
 use borrow.Author.Tests.{eqb-true, eqb-false, eq-eqb, lt-ltb}
 use Rattle.protocol.specs.Folds.{every}
-use Rattle.protocol.specs.CartSets.{digit}
+use Rattle.protocol.specs.CartSets.{digit, has}
 use Rattle.protocol.specs.Form.{bit}
 use Rattle.protocol.proofs.SetLaws.{digit-lt}
 use Rattle.protocol.proofs.Tests.{every-at, every-all}
@@ -19,7 +19,7 @@ use Rattle.lines.specs.Words.{capacity, summaryOf, headOf, tailOf, lengt
 use Rattle.lines.specs.Lines.{chain, rowsOf}
 use Rattle.lines.specs.Form.{count, allBelow, lastOf, rowsOnLines, sized, lineOk, rowsOk, summaryOk, form}
 use Rattle.lines.specs.Parts.{Full, Marked, Walked, Surveyed}
-use Rattle.lines.proofs.Digits.{same-yes, same-no, digit-none}
+use Rattle.lines.proofs.Digits.{same-yes, same-no, digit-none, has-digit}
 use Rattle.lines.proofs.Sums.{false-true, not-true-false, every-more, sum-suc, sum-longer, count-cons, below-head}
 use Rattle.lines.proofs.Bitmap.{summary-of, row-bit}
 use Rattle.lines.proofs.Chains.{chain-none, chain-head}
@@ -29,12 +29,23 @@ use Rattle.lines.proofs.Formed.{Formed, form-formed, standsTo, count-li
 abbrev pub summaryTest : List ℕ → ℕ → Bool
 summaryTest l w = eqb (digit (summaryOf l) w) (bit (ltb 0 (getD l w 0)))
 
-module _ (l : List ℕ) (w d b : ℕ) (ed : d ≡ digit (summaryOf l) w) (eb : b ≡ bit (ltb 0 (getD l w 0))) where
-  pub summary-fails : w < 49 → (d ≡ b → ⊥) → false ≡ summaryOk l
-  summary-fails hw h = not-true-false (summaryOk l) (λ t. h (ed ∙ summary-of l t .bits w hw ∙ sym eb))
+-- two answers that differ, or do not
+unlike : (a b : Bool) → not (Bool·beq a b) ≡ true → a ≡ b → ⊥
+unlike true b e q = false-true (ap (λ (c : Bool). not (Bool·beq true c)) q ∙ e)
+unlike false b e q = false-true (ap (λ (c : Bool). not (Bool·beq false c)) q ∙ e)
 
-  pub summary-more : every w (summaryTest l) ≡ true → d ≡ b → every (w + 1) (summaryTest l) ≡ true
-  summary-more e q = every-more (summaryTest l) w e (eq-eqb (digit (summaryOf l) w) (bit (ltb 0 (getD l w 0))) (sym ed ∙ q ∙ eb))
+alike : (a b : Bool) → not (Bool·beq a b) ≡ false → a ≡ b
+alike true true e = refl
+alike true false e = e
+alike false true e = sym e
+alike false false e = refl
+
+module _ (l : List ℕ) (w : ℕ) (d : Bool) (ed : d ≡ has (summaryOf l) w) where
+  pub summary-fails : w < 49 → not (Bool·beq d (ltb 0 (getD l w 0))) ≡ true → false ≡ summaryOk l
+  summary-fails hw h = not-true-false (summaryOk l) (λ t. unlike d (ltb 0 (getD l w 0)) h (ed ∙ summary-of l t .bits w hw))
+
+  pub summary-more : every w (summaryTest l) ≡ true → not (Bool·beq d (ltb 0 (getD l w 0))) ≡ false → every (w + 1) (summaryTest l) ≡ true
+  summary-more e q = every-more (summaryTest l) w e (has-digit (summaryOf l) w (ltb 0 (getD l w 0)) (sym ed ∙ alike d (ltb 0 (getD l w 0)) q))
 
 pub summary-end : (l : List ℕ) (w : ℕ) → w ≤ 49 → 49 ≤ w → every w (summaryTest l) ≡ true → ltb (summaryOf l) 562949953421312 ≡ summaryOk l
 unfolding summaryOk

@@ -6,7 +6,7 @@ use Prim.Native.Nat.{ℕ, _+_, _-_, _*_, _^_, _≤_, _<_, max}
 use lib.Dec.{eqb, ltb}
 use lib.ListN.{length, getD, set}
 use Rattle.protocol.specs.Folds.{every}
-use Rattle.protocol.specs.CartSets.{digit}
+use Rattle.protocol.specs.CartSets.{digit, has}
 use Rattle.protocol.specs.Form.{bit}
 use Rattle.lines.specs.declared.Record.{Record}
 use Rattle.lines.specs.Bits.{bitAt}
@@ -14,19 +14,10 @@ use Rattle.lines.specs.Words.{freeWords, mostRows, lineCount, linesAt, c
 use Rattle.lines.specs.Lines.{rowsOf}
 use Rattle.lines.specs.Form.{form, lineOk, count, rowsOnLines, summaryOk}
 
--- ---- bits of a word: r is x with bit b, or without it
-pub record With (x b r : ℕ) : Type 0 where
-  pub bits : (c : ℕ) → digit r c ≡ max (digit x c) (bit (eqb b c))
-  pub small : (n : ℕ) → b < n → x < 2 ^ n → r < 2 ^ n
-
-pub record Without (x b r : ℕ) : Type 0 where
-  pub bits : (c : ℕ) → digit r c ≡ digit x c - bit (eqb b c)
-  pub small : (n : ℕ) → x < 2 ^ n → r < 2 ^ n
-
 -- r is the summary s with the bit of word w, whose value is x
 pub record Summed (s w x r : ℕ) : Type 0 where
-  pub here : digit r w ≡ bit (ltb 0 x)
-  pub there : (c : ℕ) → (c ≡ w → ⊥) → digit r c ≡ digit s c
+  pub here : has r w ≡ ltb 0 x
+  pub there : (c : ℕ) → (c ≡ w → ⊥) → has r c ≡ has s c
   pub small : s < 2 ^ freeWords → r < 2 ^ freeWords
 
 -- r is word w of the free rows where all rows are free

@@ -12,17 +12,16 @@ ghost use mathlib.Core.Bool.{true};
 ghost use mathlib.Core.List.{_∷_};
 ghost use Prim.Native.Nat.{_+_, _-_, _*_, _<_, _≤_};
 ghost use lib.ListN.{length, drop};
-ghost use lib.Dec.{eqb, ltb};
+ghost use lib.Dec.{eqb};
 ghost use Rattle.protocol.specs.Folds.{every, listOf};
 ghost use Rattle.protocol.specs.CartSets.{digit};
-ghost use Rattle.protocol.specs.Form.{bit};
-ghost use Rattle.lines.specs.Bits.{bitAt, lowestOf};
+ghost use Rattle.lines.specs.Bits.{bitAt};
 ghost use Rattle.lines.specs.Words.{freeWords, mostRows, mostCarts, linesAt, rowsAt, lineAt, rowAt, headOf, tailOf, lengthOf, nextOf, capacity, summaryOf};
 ghost use Rattle.lines.specs.Lines.{recordOf, lineOf, used, registersIn};
 ghost use Rattle.lines.specs.Form.{form, sized, rowsOk, summaryOk};
 ghost use Rattle.lines.specs.Post.{Pushed, Popped, Cleared, Carried};
 ghost use Rattle.lines.specs.Holding.{released, Holds};
-ghost use Rattle.lines.specs.Parts.{With, Without, Summed, Full, Freed, Taken, Given, AllFree, Emptied, Link, Fits, joined, left, Marked, Surveyed};
+ghost use Rattle.lines.specs.Parts.{Summed, Full, Freed, Taken, Given, AllFree, Emptied, Link, Fits, joined, left, Marked, Surveyed};
 
 const SUMMARY: usize = 49;
 
@@ -39,9 +38,6 @@ const REGISTER_WORDS: usize = 16;
 const ROWS: usize = 1842;
 
 const ROW_WORDS: usize = 3;
-
-// A word with every bit.
-const ALL_BITS: u64 = 18446744073709551615;
 
 // The least number with a bit past those of the summary.
 const PAST_SUMMARY: u64 = 562949953421312;
@@ -96,52 +92,6 @@ pub fn row_count(pool: &[u64]) -> usize
     (pool.len() - ROWS) / ROW_WORDS
 }
 
-// ---- The bits of a word.
-
-fn digit_of(s: u64, c: usize) -> u64
-    requires { ⌜ c < 64 ⌝ }
-    ensures { λ r. ⌜ r ≡ digit s c ⌝ }
-{
-    (s >> c) & 1
-}
-
-fn with_bit(x: u64, b: usize) -> u64
-    requires { ⌜ b < 64 ⌝ }
-    ensures { λ r. ⌜ With x b r ⌝ }
-{
-    x | (1 << b)
-}
-
-fn without_bit(x: u64, b: usize) -> u64
-    requires { ⌜ b < 64 ⌝ }
-    ensures { λ r. ⌜ Without x b r ⌝ }
-{
-    x ^ (x & (1 << b))
-}
-
-// The place of the lowest bit of x.
-fn lowest(x: u64) -> usize
-    requires { ⌜ 0 < x ⌝ }
-    ensures { λ r. ⌜ (r < 64) × (digit x r ≡ 1) × (r ≡ lowestOf x) ⌝ }
-{
-    u64::trailing_zeros(x) as usize
-}
-
-// x without its lowest bit, wherever that is: nothing has to wait for its place.
-fn without_lowest(x: u64) -> u64
-    requires { ⌜ 0 < x ⌝ }
-    ensures { λ r. ⌜ Without x (lowestOf x) r ⌝ }
-{
-    x & (x - 1)
-}
-
-// 1 where x is not 0.
-fn nonzero(x: u64) -> u64
-    ensures { λ r. ⌜ r ≡ bit (ltb 0 x) ⌝ }
-{
-    if 0 < x { 1 } else { 0 }
-}
-
 // ---- The free rows.
 
 // The summary s with the bit of word w, which is x now.
@@ -150,9 +100,9 @@ fn summed(s: u64, w: usize, x: u64) -> u64
     ensures { λ r. ⌜ Summed s w x r ⌝ }
 {
     if 0 < x {
-        with_bit(s, w)
+        sets::with_member(s, w as u64)
     } else {
-        without_bit(s, w)
+        sets::without_member(s, w as u64)
     }
 }
 
@@ -184,10 +134,10 @@ fn take_row(pool: &mut [u64]) -> usize
     requires { ⌜ (linesAt ≤ length (now pool)) × (summaryOk (now pool) ≡ true) × (0 < summaryOf (now pool)) ⌝ }
     ensures { λ r. ⌜ Taken (now (pool .entry)) (now (pool .exit)) r ⌝ }
 {
-    let w = lowest(pool[SUMMARY]);
+    let w = sets::first(pool[SUMMARY]) as usize;
     let word = pool[w];
-    let b = lowest(word);
-    change_free(pool, w, without_lowest(word));
+    let b = sets::first(word) as usize;
+    change_free(pool, w, sets::without_first(word));
     w * 64 + b
 }
 
@@ -196,7 +146,7 @@ fn give_row(pool: &mut [u64], row: usize)
     ensures { λ _. ⌜ Given (now (pool .entry)) (now (pool .exit)) row ⌝ }
 {
     let w = row / 64;
-    let word = with_bit(pool[w], row % 64);
+    let word = sets::with_member(pool[w], (row % 64) as u64);
     change_free(pool, w, word);
 }
 
@@ -209,11 +159,8 @@ fn full_word(rows: usize, w: usize) -> u64
     if rows <= first {
         return 0;
     }
-    let n = rows - first;
-    if n < 64 {
-        return (1 << n) - 1;
-    }
-    ALL_BITS
+    let n = if rows - first < 64 { rows - first } else { 64 };
+    sets::all_below(n as u64)
 }
 
 // ---- The lines.
@@ -299,7 +246,7 @@ pub fn hold(pool: &[u64]) -> Held
             free: pool[0],
         };
     }
-    let w = lowest(s);
+    let w = sets::first(s) as usize;
     Held {
         at: w,
         free: pool[w],
@@ -330,8 +277,8 @@ pub fn push_held(pool: &mut [u64], i: usize, j: usize, r: Record, held: Held) ->
     let k = i * 16 + j;
     let at = link_at(pool, k);
     let n = length_of(pool, k);
-    let b = lowest(held.free);
-    let rest = change_held(pool, held, without_lowest(held.free));
+    let b = sets::first(held.free) as usize;
+    let rest = change_held(pool, held, sets::without_first(held.free));
     join(pool, at, k, held.at * 64 + b, n, r);
     rest
 }
@@ -429,7 +376,7 @@ pub fn is_marked(seen: &[u64], row: usize) -> bool
     requires { ⌜ row < length (now seen) * 64 ⌝ }
     ensures { λ r. ⌜ r ≡ eqb (bitAt (now (seen .entry)) row) 1 ⌝ }
 {
-    digit_of(seen[row / 64], row % 64) == 1
+    sets::has(seen[row / 64], (row % 64) as u64)
 }
 
 pub fn mark(seen: &mut [u64], row: usize)
@@ -437,17 +384,17 @@ pub fn mark(seen: &mut [u64], row: usize)
     ensures { λ _. ⌜ Marked (now (seen .entry)) (now (seen .exit)) row ⌝ }
 {
     let w = row / 64;
-    seen[w] = with_bit(seen[w], row % 64);
+    seen[w] = sets::with_member(seen[w], (row % 64) as u64);
 }
 
 // The rows seen and the free rows are the whole word, and none is both.
 fn word_ok(seen: u64, free: u64, whole: u64) -> bool
     ensures { λ r. ⌜ r ≡ every 64 (λ c. eqb (digit seen c + digit free c) (digit whole c)) ⌝ }
 {
-    if seen | free != whole {
+    if sets::union(seen, free) != whole {
         return false;
     }
-    seen & free == 0
+    sets::is_disjoint(seen, free)
 }
 
 fn rows_ok(pool: &[u64], seen: &[u64]) -> bool
@@ -472,7 +419,7 @@ fn summary_ok(pool: &[u64]) -> bool
     let s = pool[SUMMARY];
     let mut w: usize = 0;
     while w < SUMMARY {
-        if digit_of(s, w) != nonzero(pool[w]) {
+        if sets::has(s, w as u64) != (0 < pool[w]) {
             return false;
         }
         w += 1;

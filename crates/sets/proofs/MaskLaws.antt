@@ -7,14 +7,14 @@ use native.Mathlib.Nat.{pow-suc, div-one, lt-of-lt-of-le, one-mul, mod-eq-of-lt}
 use native.Mathlib.Omega.{arith}
 use lib.Dec.{eqb}
 use lib.Arith.{lt-one}
-use lib.Pow.{shr-shr, pow-pos, pow-mono, pow-lt}
+use lib.Pow.{pow-pos, pow-mono, pow-lt}
 use lib.Bits.{bitAnd, and-step, and-shr, or-add-and, and-le-l, and-le-r}
 use lib.Count.{ones, ones-step, trailingZeros}
 use borrow.Author.Tests.{eq-eqb, eqb-true, ne-eqb}
 use Rattle.protocol.specs.Folds.{every, count}
-use Rattle.protocol.specs.CartSets.{digit, has, union, minus, without, setOf}
-use Rattle.protocol.proofs.Tests.{by-test, by-lt, clash, and-false, same-test, eqb-self, every-at, every-all, first-is}
-use Rattle.protocol.proofs.SetLaws.{digit-lt, op-digit, by-digits, min-small, has-zero, has-union, has-minus, has-power, has-without, union-lt, minus-lt, without-lt, member-below, same-members, zero-below}
+use Rattle.protocol.specs.CartSets.{digit, has, union, minus, with, without, setOf}
+use Rattle.protocol.proofs.Tests.{by-test, by-lt, clash, and-second-false, or-right, same-test, eqb-self, every-at, every-all, first-some, first-is}
+use Rattle.protocol.proofs.SetLaws.{digit-lt, op-digit, by-digits, min-small, half-digit, has-zero, has-union, has-minus, has-power, has-with, has-without, union-lt, minus-lt, without-lt, member-below, same-members, zero-below}
 use Rattle.sets.specs.Masks.{within, disjoint, least, size}
 
 -- WITHIN, AND DISJOINT
@@ -99,17 +99,27 @@ disjoint-has n x y e c l h = other (has x c) (has y c) (every-at n (λ d. not (h
     other true false p q = refl
     other false b p q = clash false q refl
 
--- A DIGIT AT A TIME
+-- ONE MORE, AND ONE LESS: it is there, or gone, and nothing else changed
 
-digit-of : (d : ℕ) → d < 2 → d ≡ cond (eqb d 1) 1 0
-digit-of zero h = refl
-digit-of (suc zero) h = refl
-digit-of (suc (suc d)) h = absurd (omega arith)
+pub with-here : (x c : ℕ) → has (with x c) c ≡ true
+with-here x c = has-with x c c ∙ or-right (has x c) (eqb c c) (eqb-self c)
+
+pub without-here : (x c : ℕ) → has (without x c) c ≡ false
+without-here x c = has-without x c c ∙ and-second-false (has x c) (not (eqb c c)) (ap not (eqb-self c))
+
+module _ (x c d : ℕ) (other : c ≡ d → ⊥) where
+  pub with-other : has (with x c) d ≡ has x d
+  with-other = has-with x c d ∙ rw (ne-eqb c d other) (by-test (has x d) (λ e. rw e) (λ e. rw e))
+
+  pub without-other : has (without x c) d ≡ has x d
+  without-other = has-without x c d ∙ rw (ne-eqb c d other) (by-test (has x d) (λ e. rw e) (λ e. rw e))
+
+-- A DIGIT AT A TIME
 
 -- a digit says whether its cart is in the set
 pub digit-is : (x c : ℕ) → digit x c ≡ cond (has x c) 1 0
 unfolding has
-digit-is x c = digit-of (digit x c) (digit-lt x c)
+digit-is x c = by-digits (λ a b. a ≡ cond (eqb a 1) 1 0) refl refl refl refl (digit x c) (digit x c) (digit-lt x c) (digit-lt x c)
 
 -- the lowest digit says whether 0 is
 low-digit : (x : ℕ) → x % 2 ≡ cond (has x 0) 1 0
@@ -118,10 +128,7 @@ low-digit x = ap (λ (y : ℕ). y % 2) (sym (div-one x)) ∙ digit-is x 0
 -- the digits above it are the set of those one less
 has-half : (x c : ℕ) → has (x / 2) c ≡ has x (suc c)
 unfolding has
-has-half x c = ap (λ (y : ℕ). eqb (y % 2) 1) (shr-shr x 1 c ∙ ap (λ (k : ℕ). x / 2 ^ k) one-more)
-  where
-    one-more : 1 + c ≡ suc c
-    one-more = omega arith
+has-half x c = ap (λ (d : ℕ). eqb d 1) (half-digit x c)
 
 -- so a set is made from its last member down: twice those one less, and the lowest digit
 pub setOf-low : (n : ℕ) (f : ℕ → Bool) → setOf (suc n) f ≡ setOf n (λ c. f (suc c)) * 2 + cond (f 0) 1 0
@@ -180,6 +187,11 @@ unfolding least
 trailing-least n x h pos =
     let r = lowest n x h pos in first-is n (has x) (trailingZeros n x) (r .inside) (r .member) (r .before)
 
+-- the least of a set is a member
+pub least-member : (n x t : ℕ) → least n x ≡ some t → (t < n) × (has x t ≡ true)
+unfolding least
+least-member n x t e = first-some n (has x) t e
+
 -- the least of a set that is not empty is a member, and none below it is
 pub least-lowest : (n x t : ℕ) → x < 2 ^ n → 0 < x → least n x ≡ some t → Lowest n x t
 least-lowest n x t h pos e = let z : trailingZeros n x ≡ t = cc (trailing-least n x h pos) in rw z at (lowest n x h pos)
@@ -194,7 +206,7 @@ without-less n x c h e =
     let most = and-le-r y (2 ^ c) in
     by-lt y x (λ l. l)
     (λ l. let same : y ≡ x = omega arith in
-    clash (has x c) e (ap (λ (z : ℕ). has z c) (sym same) ∙ has-without x c c ∙ ap (λ (b : Bool). has x c && not b) (eqb-self c) ∙ and-false (has x c)))
+    clash (has x c) e (ap (λ (z : ℕ). has z c) (sym same) ∙ without-here x c))
   where
     rejoined : (a b : Bool) → (b ≡ true → a ≡ true) → (a && not b) || b ≡ a
     rejoined true true f = refl

@@ -1,17 +1,15 @@
 -- A WALK OVER A SET, from its least member on: whoever goes over all the numbers below n, and has nothing to do at one that is not in the set,
 -- may as well walk.
 use mathlib.Core.Path.{_≡_, refl, sym, ap, _∙_}
-use mathlib.Core.Bool.{Bool, true, false, not, _&&_}
+use mathlib.Core.Bool.{true, false}
 use mathlib.Core.Option.{some}
 use Prim.Native.Nat.{ℕ, zero, suc, _+_, _^_, _≤_, _<_}
 use native.Mathlib.Omega.{arith}
-use lib.Dec.{eqb}
-use borrow.Author.Tests.{ne-eqb}
 use Rattle.protocol.specs.CartSets.{has, without}
-use Rattle.protocol.proofs.Tests.{by-test, by-lt, by-eq, clash, and-false, eqb-self}
-use Rattle.protocol.proofs.SetLaws.{has-zero, has-without, without-lt}
+use Rattle.protocol.proofs.Tests.{by-lt, by-eq, clash}
+use Rattle.protocol.proofs.SetLaws.{has-zero, without-lt}
 use Rattle.sets.specs.Masks.{least}
-use Rattle.sets.proofs.MaskLaws.{Lowest, least-lowest, without-less}
+use Rattle.sets.proofs.MaskLaws.{Lowest, least-lowest, without-less, without-here, without-other}
 
 -- nothing happens from a up to b, so b finds what a left
 pub nothing-between : {A : Type 0} (g : ℕ → A) (a b : ℕ) → a ≤ b → ((c : ℕ) → a ≤ c → c < b → g (suc c) ≡ g c) → g b ≡ g a
@@ -68,16 +66,12 @@ module _ (n set : ℕ) where
     -- behind it
     gone : (c : ℕ) → c < m + 1 → has (without left m) c ≡ false
     gone c h =
-        has-without left m c
-        ∙ by-eq c m
-        (λ q. ap (λ (b : Bool). has left c && not b) (ap (eqb m) q ∙ eqb-self m) ∙ and-false (has left c))
-        (λ q. ap (λ (b : Bool). b && not (eqb m c)) (lowest .before c (omega arith)))
+        by-eq c m
+        (λ q. rw q (without-here left m))
+        (λ q. without-other left m c (λ e. q (sym e)) ∙ lowest .before c (omega arith))
 
     kept : (c : ℕ) → m + 1 ≤ c → has (without left m) c ≡ has left c
-    kept c h =
-        has-without left m c
-        ∙ ap (λ (b : Bool). has left c && not b) (ne-eqb m c (λ q. omega arith))
-        ∙ by-test (has left c) (λ y. rw y) (λ y. rw y)
+    kept c h = without-other left m c (omega arith)
 
     pub ahead-step : (left′ : ℕ) → left′ ≡ without left m → Ahead n set left′ (m + 1)
     ahead-step left′ q = let z = ahead-next in let y = ahead-inside in rw q (record {

@@ -10,7 +10,8 @@ use borrow.Author.Tests.{eq-eqb, eqb-true, ne-eqb, not-true, not-false}
 use Rattle.protocol.specs.Folds.{update2}
 use Rattle.protocol.specs.CartSets.{has, minus, setOf}
 use Rattle.protocol.proofs.Tests.{same-test, by-test, by-lt, clash}
-use Rattle.protocol.proofs.SetLaws.{has-zero, has-minus, has-with, has-without, has-setOf, setOf-lt, minus-lt, member-below, same-members}
+use Rattle.protocol.proofs.SetLaws.{has-zero, has-minus, has-setOf, setOf-lt, minus-lt, member-below, no-member, same-members}
+use Rattle.sets.proofs.MaskLaws.{with-here, with-other, without-other}
 use Rattle.rows.specs.Rows.{cell, column}
 use Rattle.rows.proofs.RowLaws.{cell-zero, cell-past, update2-column}
 use Rattle.rows.proofs.ColumnLaws.{word-put, column-read, column-put, column-put-turned, column-stays, column-beyond, column-zero}
@@ -67,7 +68,7 @@ counted-none m v = ap (λ (b : Bool). cond b v 0) (has-zero m)
 
 -- a set has no room beyond
 not-beyond : (n : ℕ) (f : ℕ → Bool) (c : ℕ) → n ≤ c → has (setOf n f) c ≡ false
-not-beyond n f c l = by-test (has (setOf n f) c) (λ e. let z = member-below n (setOf n f) c (setOf-lt n f) e in absurd (omega arith)) (λ e. e)
+not-beyond n f c l = no-member n (setOf n f) c (setOf-lt n f) l
 
 counted-zero : (among m : ℕ) → counted among m 0 ≡ 0
 counted-zero among m = by-test (has among m) (λ h. rw h) (λ h. rw h)
@@ -89,14 +90,12 @@ counted-same : (among m v : ℕ) → counted (countedWith among m v) m v ≡ v
 counted-same among m v =
     by-test (eqb v 0)
     (λ z. let e = eqb-true v 0 z in by-test (has (countedWith among m v) m) (λ h. rw h) (λ h. rw h (sym e)))
-    (λ z. rw (z, has-with among m m, eq-eqb m m refl) (by-test (has among m) (λ h. rw h) (λ h. rw h)))
+    (λ z. rw (z, with-here among m))
 
 counted-other : (among m n v : ℕ) → eqb n m ≡ false → has (countedWith among m v) n ≡ has among n
 counted-other among m n v d =
-    let d′ = ne-eqb m n (λ e. clash (eqb n m) (eq-eqb n m (sym e)) d) in
-    by-test (eqb v 0)
-    (λ z. rw (z, has-without among m n, d′) (by-test (has among n) (λ h. rw h) (λ h. rw h)))
-    (λ z. rw (z, has-with among m n, d′) (by-test (has among n) (λ h. rw h) (λ h. rw h)))
+    let other : m ≡ n → ⊥ = λ e. clash (eqb n m) (eq-eqb n m (sym e)) d in
+    by-test (eqb v 0) (λ z. rw z (without-other among m n other)) (λ z. rw z (with-other among m n other))
 
 -- what is read of room m: whether it counts, then its word
 module _ (pos : ℕ → ℕ) (k : ℕ) (W : ℕ → ℕ → ℕ) (t m x : ℕ) (b : Bool) where

@@ -4,14 +4,14 @@ use borrow.Author.Needs.{needs}
 use Rattle.lines.proofs.give_row.Statement.{statement}
 use Rattle.lines.proofs.give_row.Tie as tie
 
-mul-with-bit : tie.Need-mul-with-bit
-mul-with-bit c = search needs
+mul-with-member : tie.Need-mul-with-member
+mul-with-member c = search needs
 
-slice-read-with-bit : tie.Need-slice-read-with-bit
-slice-read-with-bit c = search needs
+slice-read-with-member : tie.Need-slice-read-with-member
+slice-read-with-member c = search needs
 
-with-bit-requires : tie.Need-with-bit-requires
-with-bit-requires c κs = search needs
+with-member-requires : tie.Need-with-member-requires
+with-member-requires c κs = search needs
 
 change-free-requires : tie.Need-change-free-requires
 change-free-requires c κs = search needs
@@ -22,7 +22,7 @@ same-length c = search needs
 returns : tie.Need-returns
 returns c =
     let s = c .before .before .before .before .before .before .before in
-    let x = c .before .before .before .before .with-bit in
+    let x = c .before .before .before .before .with-member in
     let p = c .before .before .change-free in
     give-is (s .args .pool .now) (p .last .0) (s .args .row) (x .result) (s .pre .1) (s .pre .2) (x .ensures) (p .ensures)
 
@@ -30,9 +30,9 @@ pub give-row-spec : {M : Type 1} → statement M
 give-row-spec =
     tie.close
     (tie.spec
-    mul-with-bit
-    slice-read-with-bit
-    with-bit-requires
+    mul-with-member
+    slice-read-with-member
+    with-member-requires
     change-free-requires
     same-length
     returns)

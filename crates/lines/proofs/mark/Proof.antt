@@ -4,14 +4,14 @@ use borrow.Author.Needs.{needs}
 use Rattle.lines.proofs.mark.Statement.{statement}
 use Rattle.lines.proofs.mark.Tie as tie
 
-mul-with-bit : tie.Need-mul-with-bit
-mul-with-bit c = search needs
+mul-with-member : tie.Need-mul-with-member
+mul-with-member c = search needs
 
-slice-read-with-bit : tie.Need-slice-read-with-bit
-slice-read-with-bit c = search needs
+slice-read-with-member : tie.Need-slice-read-with-member
+slice-read-with-member c = search needs
 
-with-bit-requires : tie.Need-with-bit-requires
-with-bit-requires c κs = search needs
+with-member-requires : tie.Need-with-member-requires
+with-member-requires c κs = search needs
 
 mul-seen : tie.Need-mul-seen
 mul-seen c = search needs
@@ -23,15 +23,15 @@ same-length : tie.Need-same-length
 same-length c = search needs
 
 returns : tie.Need-returns
-returns c = mark-is (c .before .before .before .args .seen .now) (c .before .before .before .args .row) (c .with-bit .result) (c .before .before .before .pre) (c .with-bit .ensures)
+returns c = mark-is (c .before .before .before .args .seen .now) (c .before .before .before .args .row) (c .with-member .result) (c .before .before .before .pre) (c .with-member .ensures)
 
 pub mark-spec : {M : Type 1} → statement M
 mark-spec =
     tie.close
     (tie.spec
-    mul-with-bit
-    slice-read-with-bit
-    with-bit-requires
+    mul-with-member
+    slice-read-with-member
+    with-member-requires
     mul-seen
     slice-write-seen
     same-length

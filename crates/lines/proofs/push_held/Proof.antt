@@ -1,6 +1,7 @@
 -- `lines::push_held` meets its contract. It is a push to the pool with the held word released.
 use native.Mathlib.Omega.{arith}
 use Prim.Native.Nat.{_+_, _*_}
+use Rattle.sets.proofs.MaskLaws.{least-member}
 use Rattle.lines.specs.Holding.{released}
 use Rattle.lines.proofs.Holding.{held-taken, held-linkable, held-takable, held-fits, held-push}
 use borrow.Author.Needs.{needs}
@@ -23,13 +24,13 @@ length-of-requires c κs =
     let s = c .before .before .before .before in
     held-linkable (s .args .pool .now) (s .args .held) (s .pre .1 .0) (s .pre .0 .2) (s .args .i * 16 + s .args .j) (omega arith) .0
 
-lowest-requires : tie.Need-lowest-requires
-lowest-requires c κs =
+first-requires : tie.Need-first-requires
+first-requires c κs =
     let s = c .before .before .before .before .before in
     held-takable (s .args .pool .now) (s .args .held) (s .pre .1 .0) (s .pre .0 .2) (s .pre .1 .1) .2
 
-without-lowest-requires : tie.Need-without-lowest-requires
-without-lowest-requires c κs =
+without-first-requires : tie.Need-without-first-requires
+without-first-requires c κs =
     let s = c .before .before .before .before .before .before .before in
     held-takable (s .args .pool .now) (s .args .held) (s .pre .1 .0) (s .pre .0 .2) (s .pre .1 .1) .2
 
@@ -43,19 +44,21 @@ mul-join : tie.Need-mul-join
 mul-join c = search needs
 
 add-join : tie.Need-add-join
-add-join c = search needs
+add-join c =
+    let b = c .before .before .before .before .before .before .before .first in
+    omega (arith, least-member 64 _ (b .result) (b .ensures) .0)
 
 join-requires : tie.Need-join-requires
 join-requires c κs =
     let s = c .before .before .before .before .before .before .before .before .before .before .before .before .before in
     let at = c .before .before .before .before .before .before .before .before .before .before .link-at in
     let n = c .before .before .before .before .before .before .before .before .length-of in
-    let b = c .before .before .before .before .before .before .before .lowest in
-    let x = c .before .before .before .before .before .without-lowest in
+    let b = c .before .before .before .before .before .before .before .first in
+    let x = c .before .before .before .before .before .without-first in
     let h = c .before .before .before .before .change-held in
     let z = held-takable (s .args .pool .now) (s .args .held) (s .pre .1 .0) (s .pre .0 .2) (s .pre .1 .1) in
     let t = held-taken (s .args .pool .now) (s .args .held) (x .result) (s .pre .0 .2) (z .2) (z .0) (z .1)
-    (released (h .last .0) (h .result)) (b .result) (b .ensures) (x .ensures) (h .ensures .0) in
+    (released (h .last .0) (h .result)) (b .result) (b .ensures) (x .ensures (b .result) (b .ensures)) (h .ensures .0) in
     held-fits (s .args .pool .now) (s .args .held) (s .pre .1 .0) (s .pre .0 .2) (h .last .0) (h .result) (at .result)
     (s .args .i * 16 + s .args .j) (s .args .held .at * 64 + b .result) (n .result) (s .args .r) (omega arith)
     t (h .ensures .1) (h .kept .0) (n .ensures) (at .ensures)
@@ -68,12 +71,12 @@ returns c =
     let s = c .before .before .before .before .before .before .before .before .before .before .before .before .before .before .before .before in
     let at = c .before .before .before .before .before .before .before .before .before .before .before .before .before .link-at in
     let n = c .before .before .before .before .before .before .before .before .before .before .before .length-of in
-    let b = c .before .before .before .before .before .before .before .before .before .before .lowest in
-    let x = c .before .before .before .before .before .before .before .before .without-lowest in
+    let b = c .before .before .before .before .before .before .before .before .before .before .first in
+    let x = c .before .before .before .before .before .before .before .before .without-first in
     let h = c .before .before .before .before .before .before .before .change-held in
     let z = held-takable (s .args .pool .now) (s .args .held) (s .pre .1 .0) (s .pre .0 .2) (s .pre .1 .1) in
     let t = held-taken (s .args .pool .now) (s .args .held) (x .result) (s .pre .0 .2) (z .2) (z .0) (z .1)
-    (released (h .last .0) (h .result)) (b .result) (b .ensures) (x .ensures) (h .ensures .0) in
+    (released (h .last .0) (h .result)) (b .result) (b .ensures) (x .ensures (b .result) (b .ensures)) (h .ensures .0) in
     let l = c .before .before .join in
     held-push (s .args .pool .now) (s .args .held) (s .pre .1 .0) (s .pre .0 .2) (h .last .0) (h .result) (at .result)
     (s .args .i * 16 + s .args .j) (s .args .held .at * 64 + b .result) (n .result) (s .args .r) (omega arith)
@@ -87,8 +90,8 @@ push-held-spec =
     add-k
     link-at-requires
     length-of-requires
-    lowest-requires
-    without-lowest-requires
+    first-requires
+    without-first-requires
     change-held-requires
     mul-join
     add-join

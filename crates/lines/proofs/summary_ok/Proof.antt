@@ -23,25 +23,21 @@ loop-holds c =
     let s = c .before .before in
     (omega arith, every-none (summaryTest (s .args .pool .now)))
 
-digit-of-requires : tie.Need-digit-of-requires Inv-loop μ-loop
-digit-of-requires c κs = omega arith
+has-requires : tie.Need-has-requires Inv-loop μ-loop
+has-requires c κs = omega arith
 
-mul-nonzero : tie.Need-mul-nonzero Inv-loop μ-loop
-mul-nonzero c = omega arith
+mul-if1 : tie.Need-mul-if1 Inv-loop μ-loop
+mul-if1 c = omega arith
 
-shared-slice-read-nonzero : tie.Need-shared-slice-read-nonzero Inv-loop μ-loop
-shared-slice-read-nonzero c = omega arith
-
-nonzero-requires : tie.Need-nonzero-requires Inv-loop μ-loop
-nonzero-requires c κs = tt
+shared-slice-read-if1 : tie.Need-shared-slice-read-if1 Inv-loop μ-loop
+shared-slice-read-if1 c = omega arith
 
 returns : tie.Need-returns Inv-loop μ-loop
 returns c =
-    let s = c .before .before .before .before .before .before .before .before in
-    let a = c .before .before .before .before .before .loop in
-    let d = c .before .before .before .digit-of in
-    let b = c .before .nonzero in
-    summary-fails (s .args .pool .now) (a .w) (d .result) (b .result) (d .ensures) (b .ensures) (omega arith) (c .if1 .taken)
+    let s = c .before .before .before .before .before .before .before in
+    let a = c .before .before .before .before .loop in
+    let d = c .before .before .has in
+    summary-fails (s .args .pool .now) (a .w) (d .result) (d .ensures) (omega arith) (c .if1 .taken)
 
 add-w : tie.Need-add-w Inv-loop μ-loop
 add-w c = omega arith
@@ -51,11 +47,10 @@ loop-less c = omega arith
 
 loop-again : tie.Need-loop-again Inv-loop μ-loop
 loop-again c =
-    let s = c .before .before .before .before .before .before .before .before in
-    let a = c .before .before .before .before .before .loop in
-    let d = c .before .before .before .digit-of in
-    let b = c .before .nonzero in
-    (omega arith, summary-more (s .args .pool .now) (a .w) (d .result) (b .result) (d .ensures) (b .ensures) (a .inv .1) (c .if1 .left))
+    let s = c .before .before .before .before .before .before .before in
+    let a = c .before .before .before .before .loop in
+    let d = c .before .before .has in
+    (omega arith, summary-more (s .args .pool .now) (a .w) (d .result) (d .ensures) (a .inv .1) (c .if1 .left))
 
 returns-2 : tie.Need-returns-2 Inv-loop μ-loop
 returns-2 c =
@@ -71,10 +66,9 @@ summary-ok-spec =
     μ-loop
     shared-slice-read-s
     loop-holds
-    digit-of-requires
-    mul-nonzero
-    shared-slice-read-nonzero
-    nonzero-requires
+    has-requires
+    mul-if1
+    shared-slice-read-if1
     returns
     add-w
     loop-less

@@ -5,17 +5,17 @@ use borrow.Author.Needs.{needs}
 use Rattle.lines.proofs.summed.Statement.{statement}
 use Rattle.lines.proofs.summed.Tie as tie
 
-with-bit-requires : tie.Need-with-bit-requires
-with-bit-requires c κs = search needs
+with-member-requires : tie.Need-with-member-requires
+with-member-requires c κs = search needs
 
-without-bit-requires : tie.Need-without-bit-requires
-without-bit-requires c κs = search needs
+without-member-requires : tie.Need-without-member-requires
+without-member-requires c κs = search needs
 
 returns : tie.Need-returns
-returns c = summed-with (c .before .before .args .s) (c .before .before .args .w) (c .before .before .args .x) (c .with-bit .result) (c .with-bit .ensures) (omega arith) (omega arith)
+returns c = summed-with (c .before .before .args .s) (c .before .before .args .w) (c .before .before .args .x) (c .with-member .result) (c .with-member .ensures) (omega arith) (omega arith)
 
 returns-2 : tie.Need-returns-2
-returns-2 c = summed-without (c .before .before .args .s) (c .before .before .args .w) (c .before .before .args .x) (c .without-bit .result) (c .without-bit .ensures) (omega arith)
+returns-2 c = summed-without (c .before .before .args .s) (c .before .before .args .w) (c .before .before .args .x) (c .without-member .result) (c .without-member .ensures) (omega arith)
 
 pub summed-spec : {M : Type 1} → statement M
-summed-spec = tie.close (tie.spec with-bit-requires without-bit-requires returns returns-2)
+summed-spec = tie.close (tie.spec with-member-requires without-member-requires returns returns-2)
