@@ -1,8 +1,8 @@
 //! Which event is tried next: often one that the floor can take, else any numbers, absurd ones among them.
 
 use crate::event::Event;
-use crate::numbers::Numbers;
 use plain::{CartNo, Floor, Place, StationNo};
+use shared::numbers::Numbers;
 
 /// Mostly below n, now and then beside it, or far off.
 fn near(numbers: &mut Numbers, n: u64) -> u64 {

@@ -1,10 +1,11 @@
 //! Damage to a lent floor: one word or octet of any part, or a length; and floors that no run reaches soon, but that pass the form rule.
 
-use crate::numbers::Numbers;
-use crate::rule;
 use plain::words::{
     Words, COPIES, ENTRIES, LINES, RECORDS, REGISTERS, ROOM_WORDS, ROWS, STATION_ROW,
 };
+use shared::numbers::Numbers;
+use shared::places::{travelling_cart, used_row};
+use shared::rule;
 
 /// Another value: any, a small one, one beside it, the neighbour's, or one bit of it changed.
 fn other(numbers: &mut Numbers, words: &[u64], at: usize) -> u64 {
@@ -18,18 +19,6 @@ fn other(numbers: &mut Numbers, words: &[u64], at: usize) -> u64 {
         5 => words[(at + 1) % words.len()],
         _ => old ^ 1 << numbers.below(64),
     }
-}
-
-/// A row that some record lies in.
-fn used_row(numbers: &mut Numbers, lines: &[u64]) -> Option<usize> {
-    let used: Vec<usize> = (0..ROWS).filter(|r| lines[r / 64] >> (r % 64) & 1 == 0).collect();
-    (!used.is_empty()).then(|| used[numbers.below(used.len() as u64) as usize])
-}
-
-/// A travelling cart, if any is.
-fn travelling_cart(numbers: &mut Numbers, carts: &[u64]) -> Option<usize> {
-    let travelling: Vec<usize> = (0..carts.len() / 19).filter(|c| carts[19 * c] == 3).collect();
-    (!travelling.is_empty()).then(|| travelling[numbers.below(travelling.len() as u64) as usize])
 }
 
 /// A word of the lines, more often than not one that means something.

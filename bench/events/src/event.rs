@@ -1,9 +1,10 @@
 //! Events with any numbers, and what the plain floor answers to them.
 
 use crate::proved::Said;
-use crate::rule;
 use plain::words::Words;
 use plain::{CartNo, Floor, Refusal, StationNo, Step};
+use shared::places::LENGTHS;
+use shared::rule;
 
 #[derive(Clone, Debug)]
 pub enum Event {
@@ -17,9 +18,6 @@ pub enum Event {
 
 /// The kinds in the order of their numbers.
 pub const KINDS: [&str; 6] = ["start", "enter", "send", "wire", "radio", "move"];
-
-/// How many words and octets each part has.
-const LENGTHS: [usize; 5] = [1_972, 1_216, 192, 11_250, 1_024];
 
 impl Event {
     pub fn kind(&self) -> usize {

@@ -8,14 +8,8 @@ mod behind;
 mod choose;
 mod damage;
 mod event;
-#[path = "../../form/src/floors.rs"]
-mod floors;
-#[path = "../../form/src/numbers.rs"]
-mod numbers;
 mod proved;
 mod reach;
-#[path = "../../form/src/rule.rs"]
-mod rule;
 mod timing;
 mod trials;
 

@@ -6,50 +6,35 @@ use plain::words::Words;
 /// Words for an answer: the refusal or 0, kind, a, b, p, w, and how many octets of text.
 pub type Said = [u64; 7];
 
+/// Events by their C names. Each is lent the floor's parts, then has its own arguments, then is lent the words for the answer.
 macro_rules! linked {
-    ($($event:ident, $step:ident ( $($part:ident: $ptr:ty),* ; $($arg:ident: $of:ty),* );)*) => {
+    (@one $name:ident ($($arg:ident: $of:ty),*)) => {
+        pub fn $name(
+            stations: *mut u64, station_words: usize,
+            carts: *mut u64, cart_words: usize,
+            messages: *mut u64, message_words: usize,
+            lines: *mut u64, line_words: usize,
+            texts: *mut u8, text_octets: usize,
+            $($arg: $of,)*
+            out: *mut u64, out_words: usize,
+        );
+    };
+    ($($($name:ident),+ => $own:tt;)*) => {
         mod linked {
             extern "C" {
-                $(pub fn $event(
-                    stations: *mut u64, station_words: usize,
-                    carts: *mut u64, cart_words: usize,
-                    messages: *mut u64, message_words: usize,
-                    lines: *mut u64, line_words: usize,
-                    texts: *mut u8, text_octets: usize,
-                    $($arg: $of,)*
-                    $($part: $ptr, size: usize,)*
-                    out: *mut u64, out_words: usize,
-                );
-                pub fn $step(
-                    stations: *mut u64, station_words: usize,
-                    carts: *mut u64, cart_words: usize,
-                    messages: *mut u64, message_words: usize,
-                    lines: *mut u64, line_words: usize,
-                    texts: *mut u8, text_octets: usize,
-                    $($arg: $of,)*
-                    $($part: $ptr, size: usize,)*
-                    out: *mut u64, out_words: usize,
-                );)*
-                pub fn mekhturia_start(
-                    stations: *mut u64, station_words: usize,
-                    carts: *mut u64, cart_words: usize,
-                    messages: *mut u64, message_words: usize,
-                    lines: *mut u64, line_words: usize,
-                    texts: *mut u8, text_octets: usize,
-                    n: u64, k: u64,
-                    out: *mut u64, out_words: usize,
-                );
+                $($(linked! { @one $name $own })+)*
             }
         }
     };
 }
 
 linked! {
-    mekhturia_enter, mekhturia_step_enter(; station: u64, cart: u64);
-    mekhturia_send, mekhturia_step_send(text: *const u8; station: u64, set: u64);
-    mekhturia_wire, mekhturia_step_wire(; from: u64, to: u64);
-    mekhturia_radio, mekhturia_step_radio(buffer: *mut u8; station: u64, cart: u64);
-    mekhturia_move, mekhturia_step_move(; cart: u64, to: u64);
+    mekhturia_start => (n: u64, k: u64);
+    mekhturia_enter, mekhturia_step_enter => (station: u64, cart: u64);
+    mekhturia_send, mekhturia_step_send => (station: u64, set: u64, text: *const u8, size: usize);
+    mekhturia_wire, mekhturia_step_wire => (from: u64, to: u64);
+    mekhturia_radio, mekhturia_step_radio => (station: u64, cart: u64, buffer: *mut u8, size: usize);
+    mekhturia_move, mekhturia_step_move => (cart: u64, to: u64);
 }
 
 /// Lends the floor's parts, then what the event has, then the words for the answer.
@@ -67,22 +52,33 @@ macro_rules! call {
     };
 }
 
+/// Calls the function of the event's kind. There are at least seven words for the answer.
+macro_rules! call_one {
+    ($w:expr, $event:expr, $buffer:expr, $out:expr, $start:ident, $enter:ident, $send:ident, $wire:ident, $radio:ident, $move:ident) => {{
+        assert!($out.len() >= 7);
+        match *$event {
+            Event::Start(n, k) => call!($start, $w, $out, n, k),
+            Event::Enter(t, c) => call!($enter, $w, $out, t, c),
+            Event::Send(s, set, ref text) => {
+                call!($send, $w, $out, s, set, text.as_ptr(), text.len())
+            }
+            Event::Wire(i, j) => call!($wire, $w, $out, i, j),
+            Event::Radio(t, c) => {
+                call!($radio, $w, $out, t, c, $buffer.as_mut_ptr(), $buffer.len())
+            }
+            Event::Move(c, to) => call!($move, $w, $out, c, to),
+        }
+    }};
+}
+
 /// A whole event, form test and all, on any words. `out` has at least seven.
 #[inline(always)]
 pub fn call(w: &mut Words, event: &Event, buffer: &mut [u8], out: &mut [u64]) {
-    assert!(out.len() >= 7);
     unsafe {
-        match *event {
-            Event::Start(n, k) => call!(mekhturia_start, w, out, n, k),
-            Event::Enter(t, c) => call!(mekhturia_enter, w, out, t, c),
-            Event::Send(s, set, ref text) => {
-                call!(mekhturia_send, w, out, s, set, text.as_ptr(), text.len())
-            }
-            Event::Wire(i, j) => call!(mekhturia_wire, w, out, i, j),
-            Event::Radio(t, c) => {
-                call!(mekhturia_radio, w, out, t, c, buffer.as_mut_ptr(), buffer.len())
-            }
-            Event::Move(c, to) => call!(mekhturia_move, w, out, c, to),
+        call_one! {
+            w, event, buffer, out,
+            mekhturia_start, mekhturia_enter, mekhturia_send,
+            mekhturia_wire, mekhturia_radio, mekhturia_move
         }
     }
 }
@@ -93,17 +89,9 @@ pub fn call(w: &mut Words, event: &Event, buffer: &mut [u8], out: &mut [u64]) {
 /// The floor passes the form rule, and a text has at most 32 octets.
 #[inline(always)]
 pub unsafe fn step(w: &mut Words, event: &Event, buffer: &mut [u8], out: &mut [u64]) {
-    assert!(out.len() >= 7);
-    match *event {
-        Event::Start(n, k) => call!(mekhturia_start, w, out, n, k),
-        Event::Enter(t, c) => call!(mekhturia_step_enter, w, out, t, c),
-        Event::Send(s, set, ref text) => {
-            call!(mekhturia_step_send, w, out, s, set, text.as_ptr(), text.len())
-        }
-        Event::Wire(i, j) => call!(mekhturia_step_wire, w, out, i, j),
-        Event::Radio(t, c) => {
-            call!(mekhturia_step_radio, w, out, t, c, buffer.as_mut_ptr(), buffer.len())
-        }
-        Event::Move(c, to) => call!(mekhturia_step_move, w, out, c, to),
+    call_one! {
+        w, event, buffer, out,
+        mekhturia_start, mekhturia_step_enter, mekhturia_step_send,
+        mekhturia_step_wire, mekhturia_step_radio, mekhturia_step_move
     }
 }

@@ -1,8 +1,8 @@
 //! Floors that events reach: small and full-size ones, after short and long runs.
 
-use crate::floors;
-use crate::numbers::Numbers;
 use plain::{CartNo, Floor, StationNo};
+use shared::floors::{self, some_text};
+use shared::numbers::Numbers;
 
 /// A size: often small, now and then the largest.
 fn size(numbers: &mut Numbers) -> (u64, u64) {
@@ -11,10 +11,6 @@ fn size(numbers: &mut Numbers) -> (u64, u64) {
         1..=3 => (1 + numbers.below(4), 1 + numbers.below(8)),
         _ => (1 + numbers.below(16), 1 + numbers.below(64)),
     }
-}
-
-fn text(numbers: &mut Numbers) -> Vec<u8> {
-    (0..numbers.below(33)).map(|_| numbers.next() as u8).collect()
 }
 
 /// Which kinds come how often: a run may have few sends or many, and its lines may fill or stay short.
@@ -36,7 +32,7 @@ fn step(numbers: &mut Numbers, floor: &mut Floor, weights: &[u64; 5], n: u64, k:
         Some(0) => floor.enter(s, cart),
         Some(1) => {
             let set = floor.entered() & numbers.next() & numbers.next();
-            floor.send(s, set, &text(numbers))
+            floor.send(s, set, &some_text(numbers))
         }
         Some(2) => floor.move_cart(cart, t),
         Some(3) => {

@@ -3,10 +3,10 @@
 
 use crate::behind::Behind;
 use crate::event::{self, Event};
-use crate::numbers::Numbers;
 use crate::proved::{self, Said};
 use plain::words::Words;
 use plain::{Floor, StationNo};
+use shared::numbers::Numbers;
 use std::hint::black_box;
 use std::time::Instant;
 

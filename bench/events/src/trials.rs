@@ -3,11 +3,13 @@
 use crate::choose;
 use crate::damage;
 use crate::event::{self, Event, KINDS};
-use crate::numbers::Numbers;
 use crate::proved;
 use crate::reach;
-use plain::words::{Words, ROWS};
+use plain::words::Words;
 use plain::Floor;
+use shared::numbers::Numbers;
+use shared::places::{in_order, scattered};
+use shared::rule::Fault;
 use std::collections::BTreeMap;
 use std::time::{Duration, Instant};
 
@@ -24,13 +26,17 @@ struct Counts {
     answers: BTreeMap<(usize, u64), u64>,
     /// How many floors broke the form rule, passed it and said the same, and passed it and said another floor.
     passed: BTreeMap<&'static str, [u64; 3]>,
-    faults: BTreeMap<crate::rule::Fault, u64>,
+    faults: BTreeMap<Fault, u64>,
     events: u64,
 }
 
 /// Rows of the pool as a young floor has them, or far apart.
-fn row(apart: bool) -> impl Fn(usize) -> usize {
-    move |k| if apart { k * 1_237 % ROWS } else { k }
+fn row(apart: bool) -> fn(usize) -> usize {
+    if apart {
+        scattered
+    } else {
+        in_order
+    }
 }
 
 /// The step without the form test, on a floor that passes: it leaves what the whole event left.

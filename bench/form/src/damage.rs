@@ -1,7 +1,8 @@
 //! Damage to the words of a floor: a word or two replaced, which rooms count, a record doubled, a length changed.
 
-use crate::numbers::Numbers;
 use plain::words::{Words, COPIES, LINES, RECORDS, REGISTERS, ROOM_WORDS, ROWS, STATION_ROW};
+use shared::numbers::Numbers;
+use shared::places::{travelling_cart, used_row};
 
 /// Another value for a word: any, a small one, one beside it, one bit of it, or another word's.
 fn other_value(numbers: &mut Numbers, words: &[u64], at: usize) -> u64 {
@@ -18,12 +19,6 @@ fn other_value(numbers: &mut Numbers, words: &[u64], at: usize) -> u64 {
 
 fn replace(numbers: &mut Numbers, words: &mut [u64], at: usize) {
     words[at] = other_value(numbers, words, at);
-}
-
-/// A row that some record lies in.
-fn used_row(numbers: &mut Numbers, lines: &[u64]) -> Option<usize> {
-    let used: Vec<usize> = (0..ROWS).filter(|r| lines[r / 64] >> (r % 64) & 1 == 0).collect();
-    (!used.is_empty()).then(|| used[numbers.below(used.len() as u64) as usize])
 }
 
 /// The record after another on its line becomes the same.
@@ -46,13 +41,9 @@ fn recount(numbers: &mut Numbers, stations: &mut [u64]) {
 
 /// A word of the row that the register of some travelling cart carries; a word of the free rows where no cart travels.
 fn register_word(numbers: &mut Numbers, carts: &[u64]) -> usize {
-    let travelling: Vec<usize> = (0..carts.len() / 19).filter(|c| carts[19 * c] == 3).collect();
-    match travelling.len() {
-        0 => 0,
-        some => {
-            let cart = travelling[numbers.below(some as u64) as usize];
-            REGISTERS + 16 * cart + numbers.below(16) as usize
-        }
+    match travelling_cart(numbers, carts) {
+        None => 0,
+        Some(cart) => REGISTERS + 16 * cart + numbers.below(16) as usize,
     }
 }
 

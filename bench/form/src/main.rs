@@ -2,13 +2,12 @@
 //! ends the program with 1; then their times on full-size floors, in turns in one run.
 
 mod damage;
-mod floors;
-mod numbers;
 mod proved;
-mod rule;
 
-use numbers::Numbers;
-use plain::words::{Words, ROWS};
+use plain::words::Words;
+use shared::numbers::Numbers;
+use shared::places::{in_order, scattered};
+use shared::{floors, rule};
 use std::collections::BTreeMap;
 use std::hint::black_box;
 use std::process::ExitCode;
@@ -21,15 +20,6 @@ type Test = fn(&[u64], &[u64], &[u64], &[u64], &[u8]) -> bool;
 
 fn ask(test: Test, w: &Words) -> bool {
     test(&w.stations, &w.carts, &w.messages, &w.lines, &w.texts)
-}
-
-/// Rows as a young pool has them, and rows far apart.
-fn in_order(k: usize) -> usize {
-    k
-}
-
-fn scattered(k: usize) -> usize {
-    k * 1_237 % ROWS
 }
 
 /// Both answers on a floor; the clause that it breaks, if any.

@@ -4,27 +4,12 @@
 mod plain;
 mod proved;
 
+use shared::numbers::Numbers;
 use std::hint::black_box;
 use std::time::Instant;
 
 const ROUNDS: usize = 40;
 const CALLS: usize = 20_000;
-
-/// Numbers that look random, and are the same in every run.
-struct Numbers(u64);
-
-impl Numbers {
-    fn next(&mut self) -> u64 {
-        self.0 ^= self.0 << 13;
-        self.0 ^= self.0 >> 7;
-        self.0 ^= self.0 << 17;
-        self.0
-    }
-
-    fn below(&mut self, n: u64) -> u64 {
-        (self.next() >> 11) % n
-    }
-}
 
 /// One floor, in the lent words and in plain structs: as many held messages as asked, each buffered at most stations.
 fn floors(held: usize) -> (proved::Tables, plain::Tables) {

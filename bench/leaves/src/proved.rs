@@ -1,4 +1,6 @@
-//! The proved functions. What each asks of its slices is in `crates/leaves/src/lib.rt`; `Floor` keeps it.
+//! The proved functions. What each asks of its slices is in `crates/exported_leaves/src/lib.rt`; `Lines` and `Tables` keep it.
+
+use shared::places::LENGTHS;
 
 mod linked {
     extern "C" {
@@ -40,7 +42,7 @@ pub struct Lines {
 
 impl Lines {
     pub fn new() -> Self {
-        let mut pool = vec![0; 11_250];
+        let mut pool = vec![0; LENGTHS[3]];
         unsafe { linked::mekhturia_clear(pool.as_mut_ptr(), pool.len()) };
         Lines { pool }
     }
@@ -76,7 +78,8 @@ pub struct Tables {
 
 impl Tables {
     pub fn new() -> Self {
-        Tables { stations: vec![0; 1_972], carts: vec![0; 1_216], messages: vec![0; 192] }
+        let [stations, carts, messages, ..] = LENGTHS.map(|words| vec![0; words]);
+        Tables { stations, carts, messages }
     }
 
     #[inline(always)]

@@ -1,23 +1,11 @@
 //! Words read back: the floor is the same.
 
+#[path = "../../shared/src/numbers.rs"]
+mod numbers;
+
+use numbers::Numbers;
 use plain::words::{Words, ROWS};
 use plain::{CartNo, Floor, StationNo};
-
-/// Numbers that look random, and are the same in every run.
-struct Numbers(u64);
-
-impl Numbers {
-    fn next(&mut self) -> u64 {
-        self.0 ^= self.0 << 13;
-        self.0 ^= self.0 >> 7;
-        self.0 ^= self.0 << 17;
-        self.0
-    }
-
-    fn below(&mut self, n: u64) -> u64 {
-        (self.next() >> 11) % n
-    }
-}
 
 fn words(floor: &Floor) -> Words {
     floor.words(|k| k * 1_237 % ROWS)

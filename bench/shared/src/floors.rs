@@ -34,7 +34,8 @@ fn settle(floor: &mut Floor) {
     }
 }
 
-fn some_text(numbers: &mut Numbers) -> Vec<u8> {
+/// A text of any length that one may have.
+pub fn some_text(numbers: &mut Numbers) -> Vec<u8> {
     (0..numbers.below(33)).map(|_| numbers.next() as u8).collect()
 }
 

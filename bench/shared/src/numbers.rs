@@ -3,6 +3,7 @@
 pub struct Numbers(pub u64);
 
 impl Numbers {
+    #[allow(clippy::should_implement_trait)]
     pub fn next(&mut self) -> u64 {
         self.0 ^= self.0 << 13;
         self.0 ^= self.0 >> 7;
