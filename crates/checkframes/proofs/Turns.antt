@@ -1,16 +1,16 @@
--- ONE TURN OF A CHECK: octets moved to the front, and what a piece comes to.
+-- ONE TURN OF A CHECK: what a piece comes to.
 use mathlib.Core.Path.{_≡_, refl, sym, ap, ap₂, _∙_, subst}
 use mathlib.Core.Bool.{Bool, true, false}
 use mathlib.Core.List.{List, [], _∷_, _++_}
 use Prim.Native.Nat.{ℕ, zero, suc, _+_, _-_, _≤_, _<_}
-use native.Mathlib.Numerals.{add-one}
 use native.Mathlib.Omega.{arith}
-use lib.ListN.{length, take, drop, getD, set, length-drop}
-use lib.Seq.{paste, paste-suc, take-paste, drop-paste, getD-drop, take-add, take-at, drop-at, length-take-le}
+use lib.ListN.{length, take, drop, length-drop}
+use lib.Seq.{paste, take-add, take-at, drop-at, length-take-le}
 use borrow.Author.Tests.{lt-ltb, le-ltb, eq-eqb, ne-eqb}
 use Rattle.frame_reader.specs.Checks.{Found, after, checked, checkIn, Fed}
 use Rattle.frame_reader.specs.declared.Checked.{Checked}
 use Rattle.protocol.proofs.Tests.{by-lt, by-eq}
+use Rattle.frames.proofs.Kept.{kept-front}
 use Rattle.frame_reader.proofs.Pieces.{check-inside, short-left, stands, fed-more}
 use Rattle.checkframes.specs.declared.Progress.{Progress}
 use Rattle.checkframes.specs.Progress.{stateAfter, Inside, Goes, Ended}
@@ -40,43 +40,11 @@ wants-only : (failed : Bool) (count refusal : ℕ) → stateAfter failed count r
 wants-only true count refusal e = absurd (omega arith)
 wants-only false count refusal e = by-lt 1 refusal (λ h. absurd (let y : 2 ≡ 0 = state-refused false count refusal refl h ∙ e in omega arith)) (λ h. h)
 
--- OCTETS MOVED TO THE FRONT
-
-module _ (l : List ℕ) (at i : ℕ) (there : at + i < length l) where
-  -- what is to be moved next has not been written over
-  still-there : getD (paste l 0 (drop at l) i) (at + i) 0 ≡ getD (drop at l) i 0
-  still-there =
-      let turned : at + i ≡ i + at = omega arith in
-      let size = length-drop at l in
-      let moved = paste l 0 (drop at l) i in
-      let begins : i ≡ 0 + i = omega arith in
-      let behind : drop i moved ≡ drop i l =
-      ap (λ (k : ℕ). drop k moved) begins ∙ drop-paste l 0 (drop at l) i (omega arith) (omega arith) ∙ ap (λ (k : ℕ). drop k l) (sym begins) in
-      ap (λ (k : ℕ). getD moved k 0) turned
-      ∙ sym (getD-drop i moved at 0)
-      ∙ ap (λ (k : List ℕ). getD k at 0) behind
-      ∙ getD-drop i l at 0
-      ∙ ap (λ (k : ℕ). getD l k 0) (sym turned)
-      ∙ sym (getD-drop at l i 0)
-
-  pub next-octet : (x : List ℕ) → x ≡ paste l 0 (drop at l) i → set x i (getD x (at + i) 0) ≡ paste l 0 (drop at l) (i + 1)
-  next-octet x e =
-      let size = length-drop at l in
-      let begins : i ≡ 0 + i = omega arith in
-      ap (λ (y : List ℕ). set y i (getD y (at + i) 0)) e
-      ∙ ap (set (paste l 0 (drop at l) i) i) still-there
-      ∙ ap (λ (k : ℕ). set (paste l 0 (drop at l) i) k (getD (drop at l) i 0)) begins
-      ∙ paste-suc l 0 (drop at l) i 0 (omega arith) (omega arith)
-      ∙ ap (paste l 0 (drop at l)) (sym (add-one i))
-
--- what stands at the front then
-pub front-is : (l x : List ℕ) (at have : ℕ) → at ≤ have → have ≤ length l → x ≡ paste l 0 (drop at l) (have - at) → take (have - at) x ≡ drop at (take have l)
+-- what stands at the front once the octets behind a piece's frames are kept
+front-is : (l x : List ℕ) (at have : ℕ) → at ≤ have → have ≤ length l → x ≡ paste l 0 (drop at l) (have - at) → take (have - at) x ≡ drop at (take have l)
 front-is l x at have h k e =
-    let size = length-drop at l in
     let sum : at + (have - at) ≡ have = omega arith in
-    let begins : have - at ≡ 0 + (have - at) = omega arith in
-    ap₂ take begins e
-    ∙ take-paste l 0 (drop at l) (have - at) (omega arith) (omega arith)
+    kept-front l x at (have - at) (omega arith) e
     ∙ sym (drop-at (take at l) (take (have - at) (drop at l)) at (length-take-le at l (omega arith)))
     ∙ ap (drop at) (sym (take-add at (have - at) l) ∙ ap (λ (n : ℕ). take n l) sum)
 

@@ -5,9 +5,8 @@ use libc::STDIN_FILENO;
 use libc::STDOUT_FILENO;
 ghost use mathlib.Core.Path.{_≡_};
 ghost use mathlib.Core.Bool.{true};
-ghost use Prim.Native.Nat.{_+_, _-_, _≤_, _<_};
-ghost use lib.ListN.{length, take, drop};
-ghost use lib.Seq.{paste};
+ghost use Prim.Native.Nat.{_+_, _≤_, _<_};
+ghost use lib.ListN.{length, take};
 ghost use Rattle.frame_reader.specs.Checks.{checkIn, after};
 ghost use Rattle.checkframes.specs.Progress.{stateAfter, Inside, Goes, Ended};
 
@@ -54,21 +53,6 @@ fn read_behind(fd: i32, input: &mut [u8], kept: usize) -> Got
     }
 }
 
-// The octets from `at` up to `have`, to the front of the input. A frame that is not whole yet has at most 47.
-fn keep(input: &mut [u8], at: usize, have: usize) -> usize
-    requires { ⌜ (at ≤ have) × (have ≤ length (now input)) ⌝ }
-    ensures { λ r. ⌜ (r ≡ have - at) × (now (input .exit) ≡ paste (now (input .entry)) 0 (drop at (now (input .entry))) (have - at)) ⌝ }
-    ensures { λ r. ⌜ length (now (input .exit)) ≡ length (now (input .entry)) ⌝ }
-{
-    let n = have - at;
-    let mut i: usize = 0;
-    while i < n {
-        input[i] = input[at + i];
-        i += 1;
-    }
-    n
-}
-
 // What is to be done after a read that brought this number of octets, with what they come to.
 fn state_after(failed: bool, count: usize, refusal: u64) -> u64
     ensures { λ r. ⌜ r ≡ stateAfter failed count refusal ⌝ }
@@ -108,7 +92,7 @@ fn turn(fd: i32, input: &mut [u8], p: Progress) -> Progress
     let got = read_behind(fd, input, kept);
     let have = kept + got.count;
     let piece = frame_reader::check(&input[..have]);
-    let left = keep(input, piece.at, have);
+    let left = frames::keep(input, piece.at, have);
     let state = state_after(got.failed, got.count, piece.refusal);
     Progress {
         found: joined(found, piece),

@@ -6,7 +6,7 @@ use Prim.Native.Nat.{ℕ, _+_, _-_, _<_, _≤_}
 use native.Mathlib.Omega.{arith}
 use lib.Dec.{eqb}
 use lib.ListN.{length, take, drop, length-drop}
-use lib.Seq.{length-take-le, take-add, take-at, drop-drop, drop-at}
+use lib.Seq.{paste, length-take-le, take-add, take-at, drop-drop, drop-at}
 use lib.IntN.{ℤ, pos, negsuc}
 use lib.Signed.{ltZ}
 use borrow.Author.Tests.{eq-eqb, ne-eqb, le-ltb, not-true, not-false}
@@ -15,7 +15,7 @@ use Rattle.protocol.specs.Folds.{isEmpty}
 use Rattle.protocol.specs.Floor.{limits}
 use Rattle.protocol.specs.Frames.{readAt}
 use Rattle.protocol.proofs.Tests.{by-test}
-use Rattle.frame_lines.specs.Lines.{written}
+use Rattle.frames.proofs.Kept.{kept-front}
 use Rattle.view.specs.View.{Lent, floorIn}
 use Rattle.frame_run.specs.declared.Progress.{Progress}
 use Rattle.frame_run.specs.Went.{NoneWhole, EndsRun, Went}
@@ -26,8 +26,14 @@ use Rattle.frame_stream.specs.declared.Got.{Got}
 use Rattle.frame_stream.specs.declared.Handed.{Handed}
 use Rattle.frame_stream.specs.Stream.{Stream, brought, failed, ran, piece, stateAfter, after, handed, Stops, May}
 use Rattle.frame_stream.specs.Feed.{Inside, streamOf, Made, isFailure, gotOf, afterRead, afterRun}
-use Rattle.frame_stream.proofs.Moves.{part-length}
 use Rattle.frame_stream.proofs.Stream.{wants-why}
+
+-- the octets that were read and not run yet
+pub part-length : (l : List ℕ) (f : Feed) → Inside (length l) f → length (take (f .have - f .at) (drop (f .at) l)) ≡ f .have - f .at
+part-length l f h =
+    let a = h .run in
+    let b = h .read in
+    length-take-le (f .have - f .at) (drop (f .at) l) (let z = length-drop (f .at) l in omega arith)
 
 -- WHAT IS TO BE DONE after a run, in the order that the code asks
 module _ (why : ℕ) (last accepted : Bool) where
@@ -82,7 +88,7 @@ is-empty [] n e = eq-eqb n 0 (sym e)
 is-empty (x ∷ l) n e = ne-eqb n 0 (λ z. omega arith)
 
 module _ (input input₁ input₂ : List ℕ) (f r : Feed) (got : Got) (kept : ℕ) (inside : Inside (length input) f) (wants : f .state ≡ 1) (size : kept ≡ f .have - f .at)
-    (moved : input₁ ≡ written input 0 (take (f .have - f .at) (drop (f .at) input))) (same : length input₁ ≡ length input)
+    (moved : input₁ ≡ paste input 0 (drop (f .at) input) (f .have - f .at)) (same : length input₁ ≡ length input)
     (asked : (kept + got .room ≡ length input₁) × (kept < length input₁) × (got .count ≤ got .room)) (rest : List ℕ) (there : input₂ ≡ take kept input₁ ++ rest)
     (long : length input₂ ≡ length input) (is : r ≡ afterRead kept got f) where
   -- what was not run yet, and stands at the front now
@@ -93,7 +99,8 @@ module _ (input input₁ input₂ : List ℕ) (f r : Feed) (got : Got) (kept : �
   kept-there =
       ap (take kept) there
       ∙ take-at (take kept input₁) rest kept (length-take-le kept input₁ (let a = asked .1 in omega arith))
-      ∙ front-of input input₁ left kept (size ∙ sym (part-length input f inside)) moved
+      ∙ ap (λ (n : ℕ). take n input₁) size
+      ∙ kept-front input input₁ (f .at) (f .have - f .at) (let a = inside .run in let b = inside .read in omega arith) moved
 
   room : kept + got .count ≤ length input
   room = let a = asked .0 in let b = asked .2 in omega arith

@@ -1,5 +1,4 @@
 pub mod Fresh
-pub mod Moves
 pub mod Stream
 pub mod Rules
 pub mod Feeds

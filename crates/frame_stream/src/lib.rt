@@ -5,11 +5,11 @@ use frame_run::Progress;
 ghost use mathlib.Core.Path.{_≡_};
 ghost use mathlib.Core.Bool.{false, not, _&&_};
 ghost use mathlib.Core.List.{[]};
-ghost use Prim.Native.Nat.{_+_, _-_, _≤_, _<_};
+ghost use Prim.Native.Nat.{_+_, _≤_, _<_};
 ghost use lib.Dec.{eqb, ltb};
-ghost use lib.ListN.{length, take, drop};
+ghost use lib.ListN.{length, take};
 ghost use Rattle.stations.specs.View.{headIn};
-ghost use Rattle.frame_lines.specs.Lines.{written, Tabled};
+ghost use Rattle.frame_lines.specs.Lines.{Tabled};
 ghost use Rattle.protocol.specs.Floor.{wholeFloor};
 ghost use Rattle.frame_run.specs.CanRun.{CanRun};
 ghost use Rattle.view.specs.View.{Lent, lent, floorIn};
@@ -82,21 +82,6 @@ fn all_numbers() -> [u64; 10000]
     numbers
 }
 
-// The octets from `at` up to `have`, to the front of the piece. A frame that is not whole yet has at most 47.
-fn keep(input: &mut [u8], at: usize, have: usize) -> usize
-    requires { ⌜ (at ≤ have) × (have ≤ length (now input)) ⌝ }
-    ensures { λ r. ⌜ (r ≡ have - at) × (now (input .exit) ≡ written (now (input .entry)) 0 (take (have - at) (drop at (now (input .entry))))) ⌝ }
-    ensures { λ r. ⌜ length (now (input .exit)) ≡ length (now (input .entry)) ⌝ }
-{
-    let n = have - at;
-    let mut i: usize = 0;
-    while i < n {
-        input[i] = input[at + i];
-        i += 1;
-    }
-    n
-}
-
 // What a read brought: this many octets, of as many as it was handed to fill; or it failed.
 struct Got {
     count: usize,
@@ -156,7 +141,7 @@ fn more(from: i32, input: &mut [u8], f: Feed) -> Feed
     ensures { λ r. ⌜ Inside (length (now (input .exit))) r × ((L : Lent) → Made (streamOf (now (input .entry)) L f) (streamOf (now (input .exit)) L r) []) × (r .handed ≡ 0) ⌝ }
     ensures { λ r. ⌜ length (now (input .exit)) ≡ length (now (input .entry)) ⌝ }
 {
-    let kept = keep(input, f.at, f.have);
+    let kept = frames::keep(input, f.at, f.have);
     let end = input.len();
     let got = read(from, &mut input[kept..end]);
     after_read(end, kept, got, f)

@@ -1,3 +1,4 @@
+pub mod Kept
 pub mod Laws
 pub mod Stands
 pub mod Values

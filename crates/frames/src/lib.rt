@@ -3,8 +3,9 @@ use ids::CartNumber;
 use ids::Station;
 ghost use mathlib.Core.Path.{_≡_};
 ghost use mathlib.Core.List.{List};
-ghost use Prim.Native.Nat.{ℕ, _+_, _<_, _≤_};
+ghost use Prim.Native.Nat.{ℕ, _+_, _-_, _<_, _≤_};
 ghost use lib.ListN.{length, take, drop};
+ghost use lib.Seq.{paste};
 ghost use Rattle.protocol.specs.Floor.{limits};
 ghost use Rattle.protocol.specs.Frames.{bigEndian, fieldsOf, readAt};
 ghost use Rattle.frames.specs.Decoded.{octetsOf, fieldsIn, ifListed, frameIn, sizeOf, readingIn, refusalOf};
@@ -215,4 +216,20 @@ pub fn refusal(reading: Reading) -> u64
         Reading::Refused(number) => number,
         Reading::Taken(_) => 0,
     }
+}
+
+// The octets of a piece of input from `at` up to `have`, to its front, where a read goes on behind them. Returns how many these are: a frame that is
+// not whole yet has at most 47.
+pub fn keep(input: &mut [u8], at: usize, have: usize) -> usize
+    requires { ⌜ (at ≤ have) × (have ≤ length (now input)) ⌝ }
+    ensures { λ r. ⌜ (r ≡ have - at) × (now (input .exit) ≡ paste (now (input .entry)) 0 (drop at (now (input .entry))) (have - at)) ⌝ }
+    ensures { λ r. ⌜ length (now (input .exit)) ≡ length (now (input .entry)) ⌝ }
+{
+    let n = have - at;
+    let mut i: usize = 0;
+    while i < n {
+        input[i] = input[at + i];
+        i += 1;
+    }
+    n
 }

@@ -5,8 +5,7 @@ use lib.Seq.{length-take-le}
 use denote.Ref.{now}
 use Rattle.protocol.specs.Floor.{wholeFloor}
 use Rattle.view.specs.View.{lent}
-use Rattle.frame_stream.proofs.Moves.{part-length}
-use Rattle.frame_stream.proofs.Feeds.{run-made, run-inside}
+use Rattle.frame_stream.proofs.Feeds.{part-length, run-made, run-inside}
 use borrow.Author.Needs.{needs}
 use Rattle.frame_stream.proofs.run_piece.Statement.{statement}
 use Rattle.frame_stream.proofs.run_piece.Tie as tie

@@ -1,4 +1,4 @@
--- `checkframes::keep` meets its contract.
+-- `frames::keep` meets its contract.
 use mathlib.Core.Path.{_≡_, refl, subst, _∙_}
 use Prim.Native.Nat.{ℕ, _+_, _-_, _≤_, _<_}
 use native.Mathlib.Omega.{arith}
@@ -6,9 +6,9 @@ use lib.ListN.{length, drop, length-set}
 use lib.Seq.{paste, paste-zero}
 use borrow.Author.Needs.{needs}
 use denote.Ref.{now}
-use Rattle.checkframes.proofs.Turns.{next-octet}
-use Rattle.checkframes.proofs.keep.Statement.{statement}
-use Rattle.checkframes.proofs.keep.Tie as tie
+use Rattle.frames.proofs.Kept.{next-octet}
+use Rattle.frames.proofs.keep.Statement.{statement}
+use Rattle.frames.proofs.keep.Tie as tie
 
 abbrev Inv-loop : tie.InvT-loop
 Inv-loop input₀ at have n i₀ input i = (i ≤ n) × (n ≡ have - at) × (input ≡ paste input₀ 0 (drop at input₀) i) × (length input ≡ length input₀)
