@@ -7,14 +7,14 @@ use denote.Enum.Declared.{tagOf}
 use types.Run.{OneOf, miss}
 use Rattle.event_answers.specs.declared.Outcome.{Outcome}
 use Rattle.event_answers.specs.declared.Outcome.the-variants.{Started, Entered, Sent, Buffered, Acknowledged, Deleted, Deregistered, Registered, Received, Moved}
-use Rattle.event_answers.specs.Answers.{octetsOf}
+use Rattle.event_answers.specs.Answers.{textSize}
 use Rattle.event_answers.proofs.Outcome.{the-type as outcome-type}
 
 -- every case but that of a radio step
 abbrev pub textless : List ℕ
 textless = 0 ∷ 1 ∷ 2 ∷ 3 ∷ 4 ∷ 5 ∷ 6 ∷ 7 ∷ 9 ∷ []
 
-pub no-octets : (o : Outcome) → OneOf textless (tagOf outcome-type o) → 0 ≡ octetsOf o
+pub no-octets : (o : Outcome) → OneOf textless (tagOf outcome-type o) → 0 ≡ textSize o
 no-octets (Started n k) h = refl
 no-octets (Entered t c) h = refl
 no-octets (Sent s n) h = refl

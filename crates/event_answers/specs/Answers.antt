@@ -33,22 +33,22 @@ reportOf (Received s n size) f = values 4 (s .0) (n .0) f
 reportOf (Moved c to) f = values 5 (c .0) (to .0) f
 
 -- "Radio adds the text": how many octets; the others add none
-abbrev pub octetsOf : Outcome → ℕ
-octetsOf (Started n k) = 0
-octetsOf (Entered t c) = 0
-octetsOf (Sent s n) = 0
-octetsOf (Buffered n) = 0
-octetsOf (Acknowledged n) = 0
-octetsOf (Deleted n) = 0
-octetsOf (Deregistered c) = 0
-octetsOf (Registered c) = 0
-octetsOf (Received s n size) = size
-octetsOf (Moved c to) = 0
+abbrev pub textSize : Outcome → ℕ
+textSize (Started n k) = 0
+textSize (Entered t c) = 0
+textSize (Sent s n) = 0
+textSize (Buffered n) = 0
+textSize (Acknowledged n) = 0
+textSize (Deleted n) = 0
+textSize (Deregistered c) = 0
+textSize (Registered c) = 0
+textSize (Received s n size) = size
+textSize (Moved c to) = 0
 
 -- the same in numbers; what a refusal would report is not looked at
 abbrev pub toldOf : Answer → Told
 toldOf (Refused r) = record { «is_refused» = true; refusal = r; report = values 0 0 0 nothing; size = 0 }
-toldOf (Accepted o f) = record { «is_refused» = false; refusal = 0; report = reportOf o f; size = octetsOf o }
+toldOf (Accepted o f) = record { «is_refused» = false; refusal = 0; report = reportOf o f; size = textSize o }
 
 -- THE WRITTEN ANSWER that these numbers say, with that text
 abbrev pub toldIn : Told → List ℕ → events.Answer

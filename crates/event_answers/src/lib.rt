@@ -5,7 +5,7 @@ use ids::Station;
 use reports::Effect;
 use reports::Report;
 ghost use mathlib.Core.Path.{_≡_};
-ghost use Rattle.event_answers.specs.Answers.{values, reportOf, octetsOf, toldOf};
+ghost use Rattle.event_answers.specs.Answers.{values, reportOf, textSize, toldOf};
 
 // What an accepted event did; specs/Answers sets out 01's kind and values for each case.
 pub enum Outcome {
@@ -65,8 +65,8 @@ fn report_of(outcome: Outcome, effect: Effect) -> Report
 }
 
 // How many octets of text it adds.
-fn octets_of(outcome: Outcome) -> usize
-    ensures { λ r. ⌜ r ≡ octetsOf outcome ⌝ }
+fn text_size(outcome: Outcome) -> usize
+    ensures { λ r. ⌜ r ≡ textSize outcome ⌝ }
 {
     match outcome {
         Outcome::Received(_, _, size) => size,
@@ -98,7 +98,7 @@ pub fn told_of(answer: Answer) -> Told
             is_refused: false,
             refusal: 0,
             report: report_of(outcome, effect),
-            size: octets_of(outcome),
+            size: text_size(outcome),
         },
     }
 }

@@ -15,7 +15,7 @@ use Rattle.protocol.proofs.Accepted.{MayWire, may-wire}
 use Rattle.stations.specs.View.{HasHead, headIn}
 use Rattle.lines.specs.declared.Record as word
 use Rattle.lines.specs.Form.{form}
-use Rattle.lines.specs.Lines.{lineOf, registersIn}
+use Rattle.lines.specs.Lines.{recordsOn, registersIn}
 use Rattle.lines.specs.Post.{Popped}
 use Rattle.view.specs.Records.{recordIn}
 use Rattle.view.specs.View.{Lent, lent, floorIn}
@@ -44,15 +44,15 @@ module _ (P : Product) (S C M W T : List ℕ) (i j : ℕ) (p : passesForm (limit
     may = may-wire (limitsOf P) (floorIn L) false i j (sym free)
 
     -- what the head and the pop ask
-    pub head-asks : (i < 16) × (j < 16) × (form W ≡ true) × (0 < length (lineOf W (i * 16 + j)))
+    pub head-asks : (i < 16) × (j < 16) × (form W ≡ true) × (0 < length (recordsOn W (i * 16 + j)))
     head-asks =
         let z = may .2 in
         let few = few-stations L X in
         let li : i < 16 = (let a = z .from in omega arith) in
         let lj : j < 16 = (let a = z .to in omega arith) in
-        (li, lj, X .laid .chains, some-words (registersIn W) (lineOf W (i * 16 + j)) (may .0) (may .1) (sym (line-in W i j li lj) ∙ z .line))
+        (li, lj, X .laid .chains, some-words (registersIn W) (recordsOn W (i * 16 + j)) (may .0) (may .1) (sym (line-in W i j li lj) ∙ z .line))
 
-    module _ (W₁ : List ℕ) (said : word.Record) (top : lineOf W (i * 16 + j) ≡ said ∷ drop 1 (lineOf W (i * 16 + j))) (popped : Popped W W₁ (i * 16 + j)) where
+    module _ (W₁ : List ℕ) (said : word.Record) (top : recordsOn W (i * 16 + j) ≡ said ∷ drop 1 (recordsOn W (i * 16 + j))) (popped : Popped W W₁ (i * 16 + j)) where
       pub taken-off : TakenOff P S C M W W₁ T i j said
       taken-off = record { passes = p; from = may .2 .from; to = may .2 .to; top = top; popped = popped }
 

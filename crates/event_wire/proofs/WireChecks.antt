@@ -12,7 +12,7 @@ use Rattle.protocol.specs.Floor.{Product, limitsOf, Floor, Record}
 use Rattle.protocol.specs.Events.{wire}
 use Rattle.protocol.specs.Refusals.{refusalIf}
 use Rattle.lines.specs.declared.Record as word
-use Rattle.lines.specs.Lines.{lineOf, registersIn}
+use Rattle.lines.specs.Lines.{recordsOn, registersIn}
 use Rattle.stations.specs.View.{headIn}
 use Rattle.view.specs.Records.{recordIn}
 use Rattle.view.specs.View.{lent, floorIn}
@@ -37,17 +37,17 @@ module _ (S W : List ℕ) (i j : ℕ) (P : Product) (C M T : List ℕ) where
     wire-no-to l = rw (lt-leb (headIn S .stations) i from, le-leb (headIn S .stations) j l) refl
 
     module _ (to : j < headIn S .stations) (few : headIn S .stations ≤ 16) where
-      line : isEmpty (F .lines i j) ≡ eqb (length (lineOf W (i * 16 + j))) 0
+      line : isEmpty (F .lines i j) ≡ eqb (length (recordsOn W (i * 16 + j))) 0
       line =
           let li : i < 16 = omega arith in
           let lj : j < 16 = omega arith in
-          ap isEmpty (line-in W i j li lj) ∙ empty-in (registersIn W) (lineOf W (i * 16 + j))
+          ap isEmpty (line-in W i j li lj) ∙ empty-in (registersIn W) (recordsOn W (i * 16 + j))
 
       -- where the code saw that the line is empty, and where it is not
-      pub wire-empty : true ≡ eqb (length (lineOf W (i * 16 + j))) 0 → 15 ≡ refusalIf (limitsOf P) F false (wire i j)
+      pub wire-empty : true ≡ eqb (length (recordsOn W (i * 16 + j))) 0 → 15 ≡ refusalIf (limitsOf P) F false (wire i j)
       unfolding refusalIf
       wire-empty e = rw (lt-leb (headIn S .stations) i from, lt-leb (headIn S .stations) j to, line ∙ sym e) refl
 
-      pub wire-passes : false ≡ eqb (length (lineOf W (i * 16 + j))) 0 → 0 ≡ refusalIf (limitsOf P) F false (wire i j)
+      pub wire-passes : false ≡ eqb (length (recordsOn W (i * 16 + j))) 0 → 0 ≡ refusalIf (limitsOf P) F false (wire i j)
       unfolding refusalIf
       wire-passes e = rw (lt-leb (headIn S .stations) i from, lt-leb (headIn S .stations) j to, line ∙ sym e) refl

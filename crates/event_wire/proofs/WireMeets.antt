@@ -21,7 +21,7 @@ use Rattle.carts.specs.View.{cartsIn}
 use Rattle.messages.specs.View.{HasRoom, roomsIn}
 use Rattle.lines.specs.declared.Record as word
 use Rattle.lines.specs.Form.{form}
-use Rattle.lines.specs.Lines.{lineOf, used, registersIn}
+use Rattle.lines.specs.Lines.{recordsOn, used, registersIn}
 use Rattle.lines.specs.Words.{capacity}
 use Rattle.view.specs.Records.{kindOf, indexOf, numberOf, recordIn}
 use Rattle.view.specs.View.{Lent, lent, floorIn}
@@ -59,7 +59,7 @@ module _ (P : Product) (S C M W W₁ T : List ℕ) (i j : ℕ) (said : word.Reco
 
   -- what is left on the line
   abbrev rest : List word.Record
-  rest = drop 1 (lineOf W (i * 16 + j))
+  rest = drop 1 (recordsOn W (i * 16 + j))
 
   X : Standing L
   X = standing L (off .passes)

@@ -8,7 +8,7 @@ use Rattle.protocol.specs.Floor.{Product, limitsOf}
 use Rattle.protocol.specs.Form.{passesForm}
 use Rattle.stations.specs.View.{headIn}
 use Rattle.lines.specs.declared.Record.{Record}
-use Rattle.lines.specs.Lines.{lineOf}
+use Rattle.lines.specs.Lines.{recordsOn}
 use Rattle.lines.specs.Post.{Popped}
 use Rattle.view.specs.View.{lent, floorIn}
 
@@ -17,7 +17,7 @@ pub record TakenOff (P : Product) (S C M W W₁ T : List ℕ) (i j : ℕ) (said 
   pub passes : passesForm (limitsOf P) (floorIn (lent P S C M W T)) ≡ true
   pub from : i < headIn S .stations
   pub to : j < headIn S .stations
-  pub top : lineOf W (i * 16 + j) ≡ said ∷ drop 1 (lineOf W (i * 16 + j))
+  pub top : recordsOn W (i * 16 + j) ≡ said ∷ drop 1 (recordsOn W (i * 16 + j))
   pub popped : Popped W W₁ (i * 16 + j)
 
 -- so it is for some product, lines and texts

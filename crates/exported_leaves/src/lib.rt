@@ -21,7 +21,7 @@ ghost use Rattle.exported_leaves.specs.Passed.{passedBy};
 ghost use Rattle.queue.specs.Rooms.{tablesFloor, roomCount, HasRooms, QueueRooms, roomCode};
 ghost use Rattle.queue.specs.Keys.{Keyed};
 ghost use Rattle.lines.specs.Form.{form, sized};
-ghost use Rattle.lines.specs.Lines.{lineOf, used};
+ghost use Rattle.lines.specs.Lines.{recordsOn, used};
 ghost use Rattle.lines.specs.Words.{capacity};
 ghost use Rattle.lines.specs.Post.{Pushed, Popped, Cleared};
 
@@ -46,7 +46,7 @@ pub extern "C" fn mekhturia_push(pool: &mut [u64], i: usize, j: usize, word: u64
 // The head of the line from i to j leaves it.
 #[no_mangle]
 pub extern "C" fn mekhturia_pop(pool: &mut [u64], i: usize, j: usize)
-    requires { ⌜ (i < 16) × (j < 16) × (form (now pool) ≡ true) × (0 < length (lineOf (now pool) (i * 16 + j))) ⌝ }
+    requires { ⌜ (i < 16) × (j < 16) × (form (now pool) ≡ true) × (0 < length (recordsOn (now pool) (i * 16 + j))) ⌝ }
     ensures { λ _. ⌜ Popped (now (pool .entry)) (now (pool .exit)) (i * 16 + j) ⌝ }
 {
     lines::pop_front(pool, i, j);

@@ -12,7 +12,7 @@ use Rattle.lines.specs.Parts.{Walked, Surveyed}
 use Rattle.lines.proofs.Sums.{false-true, every-none, sum-none}
 use Rattle.lines.proofs.Formed.{count-lines}
 use Rattle.lines.proofs.Test.{survey-fails, survey-more, survey-end}
-use Rattle.form_lines.specs.Pass.{Met}
+use Rattle.form_lines.specs.Pass.{Noted}
 use Rattle.form_lines.specs.Ways.{Whole, Checked}
 
 -- up to the first line, where no row is marked
@@ -41,7 +41,7 @@ pub whole-end : (l s : List ℕ) → Whole l 256 s → Surveyed l s true
 whole-end l s w = survey-end l s 256 (omega arith) (omega arith) (w .right) (λ x. w .marks x ∙ count-lines l x 256)
 
 -- WHAT THE WALK ANSWERS
-module _ (l : List ℕ) (k : ℕ) (s : List ℕ) (met due : Met) where
+module _ (l : List ℕ) (k : ℕ) (s : List ℕ) (met due : Noted) where
   pub checked : Whole l k s → met ≡ due → Checked l k s true met due
   checked w e = record { good = λ _. (w, e); bad = λ q. absurd (false-true (sym q)) }
 

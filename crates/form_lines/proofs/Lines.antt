@@ -12,7 +12,7 @@ use Rattle.stations.specs.View.{Stations}
 use Rattle.messages.specs.View.{Rooms}
 use Rattle.lines.specs.Lines.{registersIn}
 use Rattle.form_lines.specs.Said.{saidOn}
-use Rattle.form_lines.specs.Pass.{Met, metSo, along, onLine, fromStation, fromEach}
+use Rattle.form_lines.specs.Pass.{Noted, notedSo, along, onLine, fromStation, fromEach}
 use Rattle.form_lines.proofs.Walks.{Each, goAll, GoodAll}
 use Rattle.form_lines.proofs.Split.{walkNext, walkGone, walkFound, walkSeen, GoodNext, GoodGone, GoodFound, GoodSeen, Right, Along, along-is, along-ok}
 
@@ -76,28 +76,28 @@ module _ (n k : ℕ) (C : Carts) (R : Rooms) (S : Stations) (words : List ℕ) w
     pub upto : ltb j n ≡ true → walkNext (S .expected j i) (saidOn words i j) ≡ S .sent i
     pub gone : GoodGone 0 (saidOn words i j)
 
-  module _ (s : Met) (i j : ℕ) where
+  module _ (s : Noted) (i j : ℕ) where
     abbrev A : Type 0
     A = Along n k C R carried i j (S .expected j i) 0 (s .found) (s .seen) (saidOn words i j)
 
-    abbrev e : Met
-    e = along n k C R carried (metSo (s .ok) (S .expected j i) 0 (s .found) (s .seen)) i j (saidOn words i j)
+    abbrev e : Noted
+    e = along n k C R carried (notedSo (s .ok) (S .expected j i) 0 (s .found) (s .seen)) i j (saidOn words i j)
 
-    abbrev after : Met
-    after = metSo true (walkNext (S .expected j i) (saidOn words i j)) (walkGone 0 (saidOn words i j)) (walkFound (s .found) (saidOn words i j)) (walkSeen (s .seen) (saidOn words i j))
+    abbrev after : Noted
+    after = notedSo true (walkNext (S .expected j i) (saidOn words i j)) (walkGone 0 (saidOn words i j)) (walkFound (s .found) (saidOn words i j)) (walkSeen (s .seen) (saidOn words i j))
 
     e-is : s .ok ≡ true → A → e ≡ after
     e-is o a =
-        ap (λ (b : Bool). along n k C R carried (metSo b (S .expected j i) 0 (s .found) (s .seen)) i j (saidOn words i j)) o
+        ap (λ (b : Bool). along n k C R carried (notedSo b (S .expected j i) 0 (s .found) (s .seen)) i j (saidOn words i j)) o
         ∙ along-is n k C R carried i j (S .expected j i) 0 (s .found) (s .seen) (saidOn words i j) a
 
     pub line-ok : onLine n k C R S words s i j .ok ≡ true → (s .ok ≡ true) × (Alone i j × (goodFound words i j (s .found) × goodSeen words i j (s .seen)))
     unfolding onLine
     line-ok h =
         let b = not (ltb j n) || eqb (e .next) (S .sent i) in
-        let z = along-ok n k C R carried i j (metSo (s .ok) (S .expected j i) 0 (s .found) (s .seen)) (saidOn words i j) (and-left (e .ok) b h) in
+        let z = along-ok n k C R carried i j (notedSo (s .ok) (S .expected j i) 0 (s .found) (s .seen)) (saidOn words i j) (and-left (e .ok) b h) in
         let a = z .1 in
-        let same : e .next ≡ walkNext (S .expected j i) (saidOn words i j) = ap (λ (t : Met). t .next) (e-is (z .0) a) in (
+        let same : e .next ≡ walkNext (S .expected j i) (saidOn words i j) = ap (λ (t : Noted). t .next) (e-is (z .0) a) in (
           z .0,
           (
             record {
@@ -115,14 +115,14 @@ module _ (n k : ℕ) (C : Carts) (R : Rooms) (S : Stations) (words : List ℕ) w
     unfolding onLine
     line-is o a f g =
         let z = e-is o (record { rights = a .rights; next = a .next; gone = a .gone; found = f; seen = g }) in
-        let same : e .next ≡ walkNext (S .expected j i) (saidOn words i j) = ap (λ (t : Met). t .next) z in
+        let same : e .next ≡ walkNext (S .expected j i) (saidOn words i j) = ap (λ (t : Noted). t .next) z in
         let b = not (ltb j n) || eqb (e .next) (S .sent i) in (
-          and-intro (e .ok) b (ap (λ (t : Met). t .ok) z) (if-of (ltb j n) (eqb (e .next) (S .sent i)) (λ l. eq-eqb (e .next) (S .sent i) (same ∙ a .upto l))),
-          (ap (λ (t : Met). t .found) z, ap (λ (t : Met). t .seen) z),
+          and-intro (e .ok) b (ap (λ (t : Noted). t .ok) z) (if-of (ltb j n) (eqb (e .next) (S .sent i)) (λ l. eq-eqb (e .next) (S .sent i) (same ∙ a .upto l))),
+          (ap (λ (t : Noted). t .found) z, ap (λ (t : Noted). t .seen) z),
         )
 
   -- THE LINES FROM ONE STATION
-  module _ (s : Met) (i : ℕ) where
+  module _ (s : Noted) (i : ℕ) where
     pub record Row (h : ℕ) : Type 0 where
       pub lines : (j : ℕ) → j < h → Alone i j
       pub found : RowFound words i (s .found) h
@@ -155,7 +155,7 @@ module _ (n k : ℕ) (C : Carts) (R : Rooms) (S : Stations) (words : List ℕ) w
         )
 
   -- ALL LINES
-  module _ (s : Met) where
+  module _ (s : Noted) where
     pub record Every (h : ℕ) : Type 0 where
       pub lines : (i j : ℕ) → i < h → j < 16 → Alone i j
       pub found : AllFound words (s .found) h

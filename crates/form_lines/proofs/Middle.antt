@@ -11,7 +11,7 @@ use Rattle.protocol.proofs.Tests.{and-left, and-right, and-intro, every-at, eve
 use Rattle.sets.specs.Masks.{within}
 use Rattle.stations.specs.View.{Stations}
 use Rattle.messages.specs.View.{Rooms}
-use Rattle.form_lines.specs.Pass.{Met, seenIn, fromEach, gathered, apart, isTaken, begun, passed, ended, movers, passes}
+use Rattle.form_lines.specs.Pass.{Noted, seenIn, fromEach, gathered, apart, isTaken, begun, passed, ended, movers, passes}
 use Rattle.form_lines.proofs.Lines.{if-at, if-of, allFound, AllFound, allSeen, AllSeen, Alone, every-is, every-ok}
 
 module _ (n k : ℕ) (S : Stations) (C : Carts) (R : Rooms) (words : List ℕ) where
@@ -32,7 +32,7 @@ module _ (n k : ℕ) (S : Stations) (C : Carts) (R : Rooms) (words : List ℕ) w
     pub named : (m : ℕ) → m < 32 → isTaken R m ≡ true → within 64 (seenLast m) (R .named m) ≡ true
     pub above : (m : ℕ) → m < 32 → isTaken R m ≡ true → passed k C R m (seenLast m) ≡ true
 
-  abbrev e : Met
+  abbrev e : Noted
   e = fromEach n k C R S words (begun n S R) 16
 
   pub middle-of : passes n k S C R words ≡ true → Middle

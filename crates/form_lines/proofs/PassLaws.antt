@@ -19,7 +19,7 @@ use Rattle.lines.specs.Lines.{registersIn}
 use Rattle.view.specs.View.{Lent}
 use Rattle.form_lines.specs.declared.Way.{Way}
 use Rattle.form_lines.specs.Said.{saidOn}
-use Rattle.form_lines.specs.Pass.{Met, metSo, provided, along, onLine, fromStation, fromEach, gathered, apart, isTaken, begun, passed, ended, movers, passes, linesPass}
+use Rattle.form_lines.specs.Pass.{Noted, notedSo, provided, along, onLine, fromStation, fromEach, gathered, apart, isTaken, begun, passed, ended, movers, passes, linesPass}
 use Rattle.form_lines.specs.Ways.{metOf}
 
 not-not : (b : Bool) → not (not b) ≡ b
@@ -52,44 +52,44 @@ gathered-next S R m t x y r p q h = rw (add-one t) (h ∙ ap₂ (λ (u v : ℕ).
 
 -- THE LINES
 module _ (n k : ℕ) (C : Carts) (R : Rooms) (S : Stations) (words : List ℕ) where
-  pub lined : (s : Met) (i j x sent : ℕ) (met : Way) (masks : List ℕ) (d b : Bool) → x ≡ S .expected j i → sent ≡ S .sent i
-      → metOf met masks ≡ along n k C R (registersIn words) (metSo (s .ok) x 0 (s .found) (s .seen)) i j (saidOn words i j)
+  pub lined : (s : Noted) (i j x sent : ℕ) (met : Way) (masks : List ℕ) (d b : Bool) → x ≡ S .expected j i → sent ≡ S .sent i
+      → metOf met masks ≡ along n k C R (registersIn words) (notedSo (s .ok) x 0 (s .found) (s .seen)) i j (saidOn words i j)
       → d ≡ (leb n j || eqb (met .next) sent) → b ≡ (met .ok && d)
-      → metSo b (met .next) (met .gone) (met .found) masks ≡ onLine n k C R S words s i j
+      → notedSo b (met .next) (met .gone) (met .found) masks ≡ onLine n k C R S words s i j
   unfolding onLine
   lined s i j x sent met masks d b p q h ed eb =
-      let z = h ∙ ap (λ (y : ℕ). along n k C R (registersIn words) (metSo (s .ok) y 0 (s .found) (s .seen)) i j (saidOn words i j)) p in
+      let z = h ∙ ap (λ (y : ℕ). along n k C R (registersIn words) (notedSo (s .ok) y 0 (s .found) (s .seen)) i j (saidOn words i j)) p in
       let w : b ≡ (met .ok && (not (ltb j n) || eqb (met .next) (S .sent i))) =
       eb ∙ ap (λ (y : Bool). met .ok && y) (ed ∙ ap₂ (λ (u : Bool) (v : ℕ). u || eqb (met .next) v) (far n j) q) in
-      ap (λ (y : Bool). metSo y (met .next) (met .gone) (met .found) masks) w
-      ∙ ap (λ (t : Met). provided (not (ltb j n) || eqb (t .next) (S .sent i)) t) z
+      ap (λ (y : Bool). notedSo y (met .next) (met .gone) (met .found) masks) w
+      ∙ ap (λ (t : Noted). provided (not (ltb j n) || eqb (t .next) (S .sent i)) t) z
 
-  pub row-next : (o s t : Met) (i j : ℕ) → s ≡ fromStation n k C R S words o i j → t ≡ onLine n k C R S words s i j → t ≡ fromStation n k C R S words o i (j + 1)
+  pub row-next : (o s t : Noted) (i j : ℕ) → s ≡ fromStation n k C R S words o i j → t ≡ onLine n k C R S words s i j → t ≡ fromStation n k C R S words o i (j + 1)
   unfolding fromStation
-  row-next o s t i j p h = rw (add-one j) (h ∙ ap (λ (x : Met). onLine n k C R S words x i j) p)
+  row-next o s t i j p h = rw (add-one j) (h ∙ ap (λ (x : Noted). onLine n k C R S words x i j) p)
 
-  pub row-none : (o : Met) (i : ℕ) → o ≡ fromStation n k C R S words o i 0
+  pub row-none : (o : Noted) (i : ℕ) → o ≡ fromStation n k C R S words o i 0
   unfolding fromStation
   row-none o i = refl
 
-  pub each-next : (o s t : Met) (i : ℕ) → s ≡ fromEach n k C R S words o i → t ≡ fromStation n k C R S words s i 16 → t ≡ fromEach n k C R S words o (i + 1)
+  pub each-next : (o s t : Noted) (i : ℕ) → s ≡ fromEach n k C R S words o i → t ≡ fromStation n k C R S words s i 16 → t ≡ fromEach n k C R S words o (i + 1)
   unfolding fromEach
-  each-next o s t i p h = rw (add-one i) (h ∙ ap (λ (x : Met). fromStation n k C R S words x i 16) p)
+  each-next o s t i p h = rw (add-one i) (h ∙ ap (λ (x : Noted). fromStation n k C R S words x i 16) p)
 
-  pub each-none : (o : Met) → o ≡ fromEach n k C R S words o 0
+  pub each-none : (o : Noted) → o ≡ fromEach n k C R S words o 0
   unfolding fromEach
   each-none o = refl
 
   -- THE PASS
   pub passing : (ok ends a b : Bool) (set : ℕ) (met : Way) (before after : List ℕ)
       → ok ≡ every 32 (λ m. not (isTaken R m) || apart S R m n) → before ≡ listOf 32 (λ m. gathered S R m n)
-      → metOf met after ≡ fromEach n k C R S words (metSo ok 0 0 0 before) 16
+      → metOf met after ≡ fromEach n k C R S words (notedSo ok 0 0 0 before) 16
       → ends ≡ every 32 (ended k C R after) → set ≡ movers k C → a ≡ (eqb (met .found) set && ends) → b ≡ (met .ok && a) → b ≡ passes n k S C R words
   unfolding passes begun
   passing ok ends a b set met before after eo em h ee es ea eb =
-      let z = h ∙ ap₂ (λ (x : Bool) (y : List ℕ). fromEach n k C R S words (metSo x 0 0 0 y) 16) eo em in
+      let z = h ∙ ap₂ (λ (x : Bool) (y : List ℕ). fromEach n k C R S words (notedSo x 0 0 0 y) 16) eo em in
       eb ∙ ap (λ (x : Bool). met .ok && x) (ea ∙ ap₂ (λ (x : ℕ) (y : Bool). eqb (met .found) x && y) es ee)
-      ∙ ap (λ (t : Met). t .ok && (eqb (t .found) (movers k C) && every 32 (ended k C R (t .seen)))) z
+      ∙ ap (λ (t : Noted). t .ok && (eqb (t .found) (movers k C) && every 32 (ended k C R (t .seen)))) z
 
 -- OF THE LENT PARTS
 module _ (L : Lent) (n : ℕ) (en : n ≡ headIn (L .stations) .stations) where

@@ -8,7 +8,7 @@ use Rattle.protocol.specs.Folds.{listOf}
 use Rattle.protocol.specs.Floor.{Record, multicast, ackList, delete, deregister, register}
 use Rattle.protocol.proofs.Tests.{by-test, and-left, and-right, and-intro}
 use Rattle.lines.specs.declared.Record as word
-use Rattle.lines.specs.Lines.{lineOf, registersIn}
+use Rattle.lines.specs.Lines.{recordsOn, registersIn}
 use Rattle.messages.specs.View.{Rooms, roomsIn}
 use Rattle.view.specs.Records.{kindOf, recordIn, isIn, roomRight}
 use Rattle.view.specs.View.{Lent, everyWord, lineRight, floorIn}
@@ -50,7 +50,7 @@ map-read carried (r ∷ l) = ap₂ (λ (x : Record) (y : List Record). x ∷ y) 
 -- the lines of the floor
 pub lines-read : (L : Lent) (i j : ℕ) → i < 16 → j < 16 → floorIn L .lines i j ≡ map (read (registersIn (L .lines))) (saidOn (L .lines) i j)
 unfolding saidOn
-lines-read L i j hi hj = line-in (L .lines) i j hi hj ∙ map-read (registersIn (L .lines)) (lineOf (L .lines) (i * 16 + j))
+lines-read L i j hi hj = line-in (L .lines) i j hi hj ∙ map-read (registersIn (L .lines)) (recordsOn (L .lines) (i * 16 + j))
 
 -- the room is right
 abbrev pub roomSaid : Rooms → ℕ → ℕ → Said → Bool
@@ -79,8 +79,8 @@ of-rooms R i j (r ∷ l) e = and-intro (roomRight R i j r) (everyWord (roomRight
 
 pub right-rooms : (L : Lent) (i j : ℕ) → lineRight L i j ≡ true → Each (λ r. roomSaid (roomsIn (L .messages)) i j r ≡ true) (saidOn (L .lines) i j)
 unfolding lineRight saidOn
-right-rooms L i j e = rooms-of (roomsIn (L .messages)) i j (lineOf (L .lines) (i * 16 + j)) e
+right-rooms L i j e = rooms-of (roomsIn (L .messages)) i j (recordsOn (L .lines) (i * 16 + j)) e
 
 pub rooms-right : (L : Lent) (i j : ℕ) → Each (λ r. roomSaid (roomsIn (L .messages)) i j r ≡ true) (saidOn (L .lines) i j) → lineRight L i j ≡ true
 unfolding lineRight saidOn
-rooms-right L i j e = of-rooms (roomsIn (L .messages)) i j (lineOf (L .lines) (i * 16 + j)) e
+rooms-right L i j e = of-rooms (roomsIn (L .messages)) i j (recordsOn (L .lines) (i * 16 + j)) e

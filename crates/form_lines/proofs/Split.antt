@@ -11,7 +11,7 @@ use Rattle.protocol.proofs.Tests.{by-test, clash, and-left, and-right, and-intr
 use Rattle.sets.specs.Masks.{disjoint}
 use Rattle.messages.specs.View.{Rooms}
 use Rattle.form_lines.specs.Said.{Said, aMulticast, anAckList, aDelete, aDeregister, aRegister, unknown}
-use Rattle.form_lines.specs.Pass.{Met, metSo, seenIn, fresh, note, right, fits, meet, along}
+use Rattle.form_lines.specs.Pass.{Noted, notedSo, seenIn, fresh, note, right, fits, meet, along}
 use Rattle.form_lines.proofs.Walks.{Each, walk, Good}
 
 -- the number of the next multicast
@@ -110,13 +110,13 @@ GoodSeen = Good (List ℕ) freshSeen noteSeen
 -- ONE RECORD
 
 -- the four tests of a record
-pub record Fresh (s : Met) (r : Said) : Type 0 where
+pub record Fresh (s : Noted) (r : Said) : Type 0 where
   pub next : freshNext (s .next) r ≡ true
   pub gone : freshGone (s .gone) r ≡ true
   pub found : freshFound (s .found) r ≡ true
   pub seen : freshSeen (s .seen) r ≡ true
 
-fresh-parts : (s : Met) (r : Said) → fresh s r ≡ true → Fresh s r
+fresh-parts : (s : Noted) (r : Said) → fresh s r ≡ true → Fresh s r
 unfolding fresh
 fresh-parts s (aMulticast m n) h = record { next = h; gone = refl; found = refl; seen = refl }
 fresh-parts s (anAckList m n x) h = record { next = refl; gone = refl; found = refl; seen = h }
@@ -126,7 +126,7 @@ fresh-parts s (aDeregister c) h = record { next = refl; gone = refl; found = h; 
 fresh-parts s (aRegister c) h = record { next = refl; gone = refl; found = h; seen = refl }
 fresh-parts s (unknown x) h = clash false h refl
 
-note-parts : (s : Met) (r : Said) → note s r ≡ metSo (s .ok) (noteNext (s .next) r) (noteGone (s .gone) r) (noteFound (s .found) r) (noteSeen (s .seen) r)
+note-parts : (s : Noted) (r : Said) → note s r ≡ notedSo (s .ok) (noteNext (s .next) r) (noteGone (s .gone) r) (noteFound (s .found) r) (noteSeen (s .seen) r)
 unfolding note
 note-parts s (aMulticast m n) = refl
 note-parts s (anAckList m n x) = refl
@@ -140,7 +140,7 @@ module _ (n k : ℕ) (C : Carts) (R : Rooms) (carried : ℕ → ℕ → ℕ) whe
   abbrev pub Right : ℕ → ℕ → Said → Type 0
   Right i j r = (ltb i n && ltb j n ≡ true) × (right n k C R carried i j r ≡ true)
 
-  parts-fresh : (s : Met) (i j : ℕ) (r : Said) → right n k C R carried i j r ≡ true → Fresh s r → fresh s r ≡ true
+  parts-fresh : (s : Noted) (i j : ℕ) (r : Said) → right n k C R carried i j r ≡ true → Fresh s r → fresh s r ≡ true
   unfolding fresh right
   parts-fresh s i j (aMulticast m x) e h = h .next
   parts-fresh s i j (anAckList m x y) e h = h .seen
@@ -158,15 +158,15 @@ module _ (n k : ℕ) (C : Carts) (R : Rooms) (carried : ℕ → ℕ → ℕ) whe
     pub seen : GoodSeen a l
 
   -- a record that fits
-  met-right : (i j e g f : ℕ) (a : List ℕ) (r : Said) → Right i j r → Fresh (metSo true e g f a) r
-      → meet n k C R carried (metSo true e g f a) i j r ≡ metSo true (noteNext e r) (noteGone g r) (noteFound f r) (noteSeen a r)
+  met-right : (i j e g f : ℕ) (a : List ℕ) (r : Said) → Right i j r → Fresh (notedSo true e g f a) r
+      → meet n k C R carried (notedSo true e g f a) i j r ≡ notedSo true (noteNext e r) (noteGone g r) (noteFound f r) (noteSeen a r)
   unfolding meet fits
   met-right i j e g f a r p q =
-      let s = metSo true e g f a in
+      let s = notedSo true e g f a in
       rw (p .0, p .1, parts-fresh s i j r (p .1) q) (note-parts s r)
 
   -- one that does not
-  met-parts : (i j : ℕ) (s : Met) (r : Said) → meet n k C R carried s i j r .ok ≡ true → (s .ok ≡ true) × (Right i j r × Fresh s r)
+  met-parts : (i j : ℕ) (s : Noted) (r : Said) → meet n k C R carried s i j r .ok ≡ true → (s .ok ≡ true) × (Right i j r × Fresh s r)
   unfolding meet fits
   met-parts i j s r h =
       let a = ltb i n && ltb j n in
@@ -184,27 +184,27 @@ module _ (n k : ℕ) (C : Carts) (R : Rooms) (carried : ℕ → ℕ → ℕ) whe
 
   -- where all fits, each part goes its way
   pub along-is : (i j e g f : ℕ) (a : List ℕ) (l : List Said) → Along i j e g f a l
-      → along n k C R carried (metSo true e g f a) i j l ≡ metSo true (walkNext e l) (walkGone g l) (walkFound f l) (walkSeen a l)
+      → along n k C R carried (notedSo true e g f a) i j l ≡ notedSo true (walkNext e l) (walkGone g l) (walkFound f l) (walkSeen a l)
   unfolding along
   along-is i j e g f a [] h = refl
   along-is i j e g f a (r ∷ l) h =
-      ap (λ (s : Met). along n k C R carried s i j l) (met-right i j e g f a r (h .rights .0) (record { next = h .next .0; gone = h .gone .0; found = h .found .0; seen = h .seen .0 }))
+      ap (λ (s : Noted). along n k C R carried s i j l) (met-right i j e g f a r (h .rights .0) (record { next = h .next .0; gone = h .gone .0; found = h .found .0; seen = h .seen .0 }))
       ∙ along-is i j (noteNext e r) (noteGone g r) (noteFound f r) (noteSeen a r) l
       (record { rights = h .rights .1; next = h .next .1; gone = h .gone .1; found = h .found .1; seen = h .seen .1 })
 
   -- and where the line passed, all fits
-  pub along-ok : (i j : ℕ) (s : Met) (l : List Said) → along n k C R carried s i j l .ok ≡ true → (s .ok ≡ true) × Along i j (s .next) (s .gone) (s .found) (s .seen) l
+  pub along-ok : (i j : ℕ) (s : Noted) (l : List Said) → along n k C R carried s i j l .ok ≡ true → (s .ok ≡ true) × Along i j (s .next) (s .gone) (s .found) (s .seen) l
   unfolding along
   along-ok i j s [] h = (h, record { rights = tt; next = tt; gone = tt; found = tt; seen = tt })
   along-ok i j s (r ∷ l) h =
       let z = along-ok i j (meet n k C R carried s i j r) l h in
       let y = met-parts i j s r (z .0) in
       let q = y .1 .1 in
-      let w : meet n k C R carried s i j r ≡ metSo true (noteNext (s .next) r) (noteGone (s .gone) r) (noteFound (s .found) r) (noteSeen (s .seen) r) =
-      ap (λ (b : Bool). meet n k C R carried (metSo b (s .next) (s .gone) (s .found) (s .seen)) i j r) (y .0)
+      let w : meet n k C R carried s i j r ≡ notedSo true (noteNext (s .next) r) (noteGone (s .gone) r) (noteFound (s .found) r) (noteSeen (s .seen) r) =
+      ap (λ (b : Bool). meet n k C R carried (notedSo b (s .next) (s .gone) (s .found) (s .seen)) i j r) (y .0)
       ∙ met-right i j (s .next) (s .gone) (s .found) (s .seen) r (y .1 .0) (record { next = q .next; gone = q .gone; found = q .found; seen = q .seen }) in
-      let A : Met → Type 0 = λ t. Along i j (t .next) (t .gone) (t .found) (t .seen) l in
-      let v : A (metSo true (noteNext (s .next) r) (noteGone (s .gone) r) (noteFound (s .found) r) (noteSeen (s .seen) r)) = subst A w (z .1) in (
+      let A : Noted → Type 0 = λ t. Along i j (t .next) (t .gone) (t .found) (t .seen) l in
+      let v : A (notedSo true (noteNext (s .next) r) (noteGone (s .gone) r) (noteFound (s .found) r) (noteSeen (s .seen) r)) = subst A w (z .1) in (
         y .0,
         record { rights = (y .1 .0, v .rights); next = (q .next, v .next); gone = (q .gone, v .gone); found = (q .found, v .found); seen = (q .seen, v .seen) },
       )

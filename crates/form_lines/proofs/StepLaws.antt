@@ -17,33 +17,33 @@ use Rattle.messages.specs.View.{Rooms}
 use Rattle.view.specs.Records.{kindOf, indexOf, numberOf, isIn}
 use Rattle.form_lines.specs.declared.Way.{Way}
 use Rattle.form_lines.specs.Said.{Said, aMulticast, anAckList, aDelete, aDeregister, aRegister, unknown, said, saidOn}
-use Rattle.form_lines.specs.Pass.{Met, metSo, fresh, note, provided, isLeaving, isTravelling, sameNumbers, right, fits, meet, along}
+use Rattle.form_lines.specs.Pass.{Noted, notedSo, fresh, note, provided, isLeaving, isTravelling, sameNumbers, right, fits, meet, along}
 use Rattle.form_lines.specs.Ways.{metOf, outcome, Inside}
 
 -- ONE TEST AFTER THE OTHER
-pub off-first : (a f : Bool) (s : Met) (r : Said) (t : Met) → not a ≡ true → t ≡ provided false s → t ≡ outcome (a && f) s r
+pub off-first : (a f : Bool) (s : Noted) (r : Said) (t : Noted) → not a ≡ true → t ≡ provided false s → t ≡ outcome (a && f) s r
 off-first a f s r t h e = rw (not-true a h) e
 
-pub off-second : (a f : Bool) (s : Met) (r : Said) (t : Met) → f ≡ false → t ≡ provided false s → t ≡ outcome (a && f) s r
+pub off-second : (a f : Bool) (s : Noted) (r : Said) (t : Noted) → f ≡ false → t ≡ provided false s → t ≡ outcome (a && f) s r
 off-second a f s r t h e = rw (h, and-false a) e
 
-pub on-both : (a f : Bool) (s : Met) (r : Said) (t : Met) → not a ≡ false → f ≡ true → t ≡ note s r → t ≡ outcome (a && f) s r
+pub on-both : (a f : Bool) (s : Noted) (r : Said) (t : Noted) → not a ≡ false → f ≡ true → t ≡ note s r → t ≡ outcome (a && f) s r
 on-both a f s r t h g e = rw (not-false a h, g) e
 
-pub off-both : (b c : Bool) (s : Met) (r : Said) (t : Met) → b ≡ c → not b ≡ true → t ≡ provided false s → t ≡ outcome c s r
+pub off-both : (b c : Bool) (s : Noted) (r : Said) (t : Noted) → b ≡ c → not b ≡ true → t ≡ provided false s → t ≡ outcome c s r
 off-both b c s r t h g e = rw (sym h ∙ not-true b g) e
 
-pub fails : (w : Way) (seen : List ℕ) → metSo false (w .next) (w .gone) (w .found) seen ≡ provided false (metOf w seen)
-fails w seen = ap (λ (b : Bool). metSo b (w .next) (w .gone) (w .found) seen) (sym (and-false (w .ok)))
+pub fails : (w : Way) (seen : List ℕ) → notedSo false (w .next) (w .gone) (w .found) seen ≡ provided false (metOf w seen)
+fails w seen = ap (λ (b : Bool). notedSo b (w .next) (w .gone) (w .found) seen) (sym (and-false (w .ok)))
 
 -- a multicast with the right number
 pub counts-on : (w : Way) (a b : Bool) (m n : ℕ) (seen : List ℕ) → b ≡ (a && eqb n (w .next)) → not b ≡ false
-    → metSo (w .ok) (n + 1) (w .gone) (w .found) seen ≡ outcome (a && fresh (metOf w seen) (aMulticast m n)) (metOf w seen) (aMulticast m n)
+    → notedSo (w .ok) (n + 1) (w .gone) (w .found) seen ≡ outcome (a && fresh (metOf w seen) (aMulticast m n)) (metOf w seen) (aMulticast m n)
 unfolding fresh note
 counts-on w a b m n seen e h =
     let q = sym e ∙ not-false b h in
     let z : n + 1 ≡ suc (w .next) = (let y = eqb-true n (w .next) (and-right a (eqb n (w .next)) q) in omega arith) in
-    rw q (ap (λ (x : ℕ). metSo (w .ok) x (w .gone) (w .found) seen) z)
+    rw q (ap (λ (x : ℕ). notedSo (w .ok) x (w .gone) (w .found) seen) z)
 
 -- WHICH RECORD
 module _ (r : word.Record) (kind index number : ℕ) (k : kind ≡ kindOf (r .0)) (x : index ≡ indexOf (r .0)) (n : number ≡ numberOf (r .0)) where
@@ -74,10 +74,10 @@ module _ (r : word.Record) (kind index number : ℕ) (k : kind ≡ kindOf (r .0)
       rw (off 1 a, off 2 b, off 3 c, off 4 d, off 5 e) (ap unknown (sym x))
 
 -- the record that was told
-pub told : (b : Bool) (s t : Met) (q q′ : Said) → q′ ≡ q → t ≡ outcome (b && fresh s q) s q → t ≡ outcome (b && fresh s q′) s q′
+pub told : (b : Bool) (s t : Noted) (q q′ : Said) → q′ ≡ q → t ≡ outcome (b && fresh s q) s q → t ≡ outcome (b && fresh s q′) s q′
 told b s t q q′ e h = h ∙ sym (ap (λ (x : Said). outcome (b && fresh s x) s x) e)
 
-pub told-nothing : (b : Bool) (s t : Met) (q : Said) (x : ℕ) → q ≡ unknown x → t ≡ provided false s → t ≡ outcome (b && fresh s q) s q
+pub told-nothing : (b : Bool) (s t : Noted) (q : Said) (x : ℕ) → q ≡ unknown x → t ≡ provided false s → t ≡ outcome (b && fresh s q) s q
 unfolding fresh
 told-nothing b s t q x e h = rw (e, and-false b) h
 
@@ -103,7 +103,7 @@ module _ (n k : ℕ) (C : Carts) (R : Rooms) (carried : ℕ → ℕ → ℕ) (i 
   right-inside (unknown x) l e = tt
 
   -- ONE RECORD
-  pub meets : (s t : Met) (q : Said) (f o r b : Bool) → f ≡ (ltb i n && ltb j n) → o ≡ (s .ok && f) → r ≡ right n k C R carried i j q → b ≡ (o && r)
+  pub meets : (s t : Noted) (q : Said) (f o r b : Bool) → f ≡ (ltb i n && ltb j n) → o ≡ (s .ok && f) → r ≡ right n k C R carried i j q → b ≡ (o && r)
       → t ≡ outcome (b && fresh s q) s q → t ≡ meet n k C R carried s i j q
   unfolding meet fits
   meets s t q f o r b ef eo er eb et =
@@ -112,20 +112,20 @@ module _ (n k : ℕ) (C : Carts) (R : Rooms) (carried : ℕ → ℕ → ℕ) (i 
       et ∙ ap (λ (x : Bool). outcome x s q) (ap (λ (x : Bool). x && fresh s q) w ∙ four (s .ok) l (right n k C R carried i j q) (fresh s q))
 
   -- ONE LINE
-  pub walk-start : (words : List ℕ) (left row : ℕ) (s : Met) → left ≡ lengthOf words (i * 16 + j) → row ≡ headOf words (i * 16 + j)
+  pub walk-start : (words : List ℕ) (left row : ℕ) (s : Noted) → left ≡ lengthOf words (i * 16 + j) → row ≡ headOf words (i * 16 + j)
       → along n k C R carried s i j (map said (recordsFrom words row left)) ≡ along n k C R carried s i j (saidOn words i j)
   unfolding saidOn
   walk-start words left row s a b =
       ap (λ (l : List word.Record). along n k C R carried s i j (map said l)) (ap₂ (λ (x y : ℕ). recordsFrom words x y) b a ∙ sym (line-from words (i * 16 + j)))
 
-  pub walk-step : (words : List ℕ) (row left : ℕ) (s t : Met) (r : word.Record) (next : ℕ) → 0 < left → r ≡ recordOf words row → next ≡ nextOf words row → t ≡ meet n k C R carried s i j (said r)
+  pub walk-step : (words : List ℕ) (row left : ℕ) (s t : Noted) (r : word.Record) (next : ℕ) → 0 < left → r ≡ recordOf words row → next ≡ nextOf words row → t ≡ meet n k C R carried s i j (said r)
       → along n k C R carried t i j (map said (recordsFrom words next (left - 1))) ≡ along n k C R carried s i j (map said (recordsFrom words row left))
   unfolding along
   walk-step words row left s t r next l a b h =
-      ap₂ (λ (x : Met) (y : ℕ). along n k C R carried x i j (map said (recordsFrom words y (left - 1)))) (h ∙ ap (λ (x : word.Record). meet n k C R carried s i j (said x)) a) b
+      ap₂ (λ (x : Noted) (y : ℕ). along n k C R carried x i j (map said (recordsFrom words y (left - 1)))) (h ∙ ap (λ (x : word.Record). meet n k C R carried s i j (said x)) a) b
       ∙ sym (ap (λ (l : List word.Record). along n k C R carried s i j (map said l)) (from-some words row left l))
 
-  pub walk-end : (words : List ℕ) (row left : ℕ) (s t : Met) → left ≡ 0 → along n k C R carried s i j (map said (recordsFrom words row left)) ≡ t → s ≡ t
+  pub walk-end : (words : List ℕ) (row left : ℕ) (s t : Noted) → left ≡ 0 → along n k C R carried s i j (map said (recordsFrom words row left)) ≡ t → s ≡ t
   unfolding along
   walk-end words row left s t z e =
       sym (ap (λ (x : ℕ). along n k C R carried s i j (map said (recordsFrom words row x))) z ∙ ap (λ (l : List word.Record). along n k C R carried s i j (map said l)) (from-none words row)) ∙ e

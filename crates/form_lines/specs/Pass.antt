@@ -17,7 +17,7 @@ use Rattle.view.specs.View.{Lent}
 use Rattle.form_lines.specs.Said.{Said, aMulticast, anAckList, aDelete, aDeregister, aRegister, unknown, saidOn}
 
 -- WHAT HAS BEEN MET ON THE WAY
-pub record Met : Type 0 where
+pub record Noted : Type 0 where
   -- nothing was wrong
   pub ok : Bool
   -- on this line: the number of its next multicast
@@ -29,8 +29,8 @@ pub record Met : Type 0 where
   -- of each room, the carts whose acknowledgement was met
   pub seen : List ℕ
 
-abbrev pub metSo : Bool → ℕ → ℕ → ℕ → List ℕ → Met
-metSo ok next gone found seen = record { ok = ok; next = next; gone = gone; found = found; seen = seen }
+abbrev pub notedSo : Bool → ℕ → ℕ → ℕ → List ℕ → Noted
+notedSo ok next gone found seen = record { ok = ok; next = next; gone = gone; found = found; seen = seen }
 
 -- the carts whose acknowledgement for room m was met
 abbrev pub seenIn : List ℕ → ℕ → ℕ
@@ -38,7 +38,7 @@ seenIn seen m = getD seen m 0
 
 -- a record against what was met before it: multicasts count up, a delete is of a number passed before it and met once, an acknowledgement
 -- stands in one place, a cart has one hand-off
-unfoldable pub fresh : Met → Said → Bool
+unfoldable pub fresh : Noted → Said → Bool
 fresh s (aMulticast m n) = eqb n (s .next)
 fresh s (anAckList m n x) = disjoint 64 x (seenIn (s .seen) m)
 fresh s (aDelete m n) = ltb n (s .next) && not (has (s .gone) m)
@@ -47,17 +47,17 @@ fresh s (aRegister c) = not (has (s .found) c)
 fresh s (unknown x) = false
 
 -- what was met once the record is
-unfoldable pub note : Met → Said → Met
-note s (aMulticast m n) = metSo (s .ok) (suc (s .next)) (s .gone) (s .found) (s .seen)
-note s (anAckList m n x) = metSo (s .ok) (s .next) (s .gone) (s .found) (set (s .seen) m (union (seenIn (s .seen) m) x))
-note s (aDelete m n) = metSo (s .ok) (s .next) (with (s .gone) m) (s .found) (s .seen)
-note s (aDeregister c) = metSo (s .ok) (s .next) (s .gone) (with (s .found) c) (s .seen)
-note s (aRegister c) = metSo (s .ok) (s .next) (s .gone) (with (s .found) c) (s .seen)
+unfoldable pub note : Noted → Said → Noted
+note s (aMulticast m n) = notedSo (s .ok) (suc (s .next)) (s .gone) (s .found) (s .seen)
+note s (anAckList m n x) = notedSo (s .ok) (s .next) (s .gone) (s .found) (set (s .seen) m (union (seenIn (s .seen) m) x))
+note s (aDelete m n) = notedSo (s .ok) (s .next) (with (s .gone) m) (s .found) (s .seen)
+note s (aDeregister c) = notedSo (s .ok) (s .next) (s .gone) (with (s .found) c) (s .seen)
+note s (aRegister c) = notedSo (s .ok) (s .next) (s .gone) (with (s .found) c) (s .seen)
 note s (unknown x) = s
 
 -- it holds, or something was wrong
-abbrev pub provided : Bool → Met → Met
-provided b s = metSo (s .ok && b) (s .next) (s .gone) (s .found) (s .seen)
+abbrev pub provided : Bool → Noted → Noted
+provided b s = notedSo (s .ok && b) (s .next) (s .gone) (s .found) (s .seen)
 
 -- PLACES: leaving s for u; travelling from s to u
 abbrev pub isLeaving : Place → ℕ → ℕ → Bool
@@ -94,33 +94,33 @@ module _ (n k : ℕ) (C : Carts) (R : Rooms) (carried : ℕ → ℕ → ℕ) whe
   right i j (unknown x) = false
 
   -- only lines between stations of the floor have records
-  unfoldable pub fits : Met → ℕ → ℕ → Said → Bool
+  unfoldable pub fits : Noted → ℕ → ℕ → Said → Bool
   fits s i j r = (ltb i n && ltb j n) && (right i j r && fresh s r)
 
   -- the next record of the line from i to j
-  unfoldable pub meet : Met → ℕ → ℕ → Said → Met
+  unfoldable pub meet : Noted → ℕ → ℕ → Said → Noted
   meet s i j r = cond (s .ok && fits s i j r) (note s r) (provided false s)
 
   -- ONE LINE: its records one after the other
-  unfoldable pub along : Met → ℕ → ℕ → List Said → Met
+  unfoldable pub along : Noted → ℕ → ℕ → List Said → Noted
   along s i j [] = s
   along s i j (r ∷ l) = along (meet s i j r) i j l
 
 -- ALL LINES in the pool, whose words have the rows of the registers too
 module _ (n k : ℕ) (C : Carts) (R : Rooms) (S : Stations) (words : List ℕ) where
   -- the line from i to j: its multicasts run from the number that j expects up to what i has sent
-  unfoldable pub onLine : Met → ℕ → ℕ → Met
+  unfoldable pub onLine : Noted → ℕ → ℕ → Noted
   onLine s i j =
-      let e = along n k C R (registersIn words) (metSo (s .ok) (S .expected j i) 0 (s .found) (s .seen)) i j (saidOn words i j) in
+      let e = along n k C R (registersIn words) (notedSo (s .ok) (S .expected j i) 0 (s .found) (s .seen)) i j (saidOn words i j) in
       provided (not (ltb j n) || eqb (e .next) (S .sent i)) e
 
   -- the lines from i to the first stations
-  unfoldable pub fromStation : Met → ℕ → ℕ → Met
+  unfoldable pub fromStation : Noted → ℕ → ℕ → Noted
   fromStation s i zero = s
   fromStation s i (suc j) = onLine (fromStation s i j) i j
 
   -- the lines from the first stations
-  unfoldable pub fromEach : Met → ℕ → Met
+  unfoldable pub fromEach : Noted → ℕ → Noted
   fromEach s zero = s
   fromEach s (suc i) = fromStation (fromEach s i) i 16
 
@@ -138,8 +138,8 @@ abbrev pub isTaken : Rooms → ℕ → Bool
 isTaken R m = not (eqb (R .waiting m) 0)
 
 -- what was met before the first line, on a floor of n stations
-unfoldable pub begun : ℕ → Stations → Rooms → Met
-begun n S R = metSo (every 32 (λ m. not (isTaken R m) || apart S R m n)) 0 0 0 (listOf 32 (λ m. gathered S R m n))
+unfoldable pub begun : ℕ → Stations → Rooms → Noted
+begun n S R = notedSo (every 32 (λ m. not (isTaken R m) || apart S R m n)) 0 0 0 (listOf 32 (λ m. gathered S R m n))
 
 -- AFTER THE LINES: whoever acknowledged the message in room m is named, and its next number is above, on a floor of k carts
 unfoldable pub passed : ℕ → Carts → Rooms → ℕ → ℕ → Bool

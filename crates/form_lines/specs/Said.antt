@@ -4,7 +4,7 @@ use mathlib.Core.List.{List, map}
 use Prim.Native.Nat.{ℕ, _+_, _*_}
 use lib.Dec.{eqb}
 use Rattle.lines.specs.declared.Record as word
-use Rattle.lines.specs.Lines.{lineOf}
+use Rattle.lines.specs.Lines.{recordsOn}
 use Rattle.view.specs.Records.{kindOf, indexOf, numberOf}
 
 -- the five records, and words that are none
@@ -30,4 +30,4 @@ said r =
 
 -- the line from i to j, head first
 unfoldable pub saidOn : List ℕ → ℕ → ℕ → List Said
-saidOn words i j = map said (lineOf words (i * 16 + j))
+saidOn words i j = map said (recordsOn words (i * 16 + j))

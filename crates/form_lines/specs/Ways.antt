@@ -9,13 +9,13 @@ use Rattle.lines.specs.Bits.{bitAt}
 use Rattle.lines.specs.Form.{count, rowsOnLines, lineOk, form}
 use Rattle.form_lines.specs.declared.Way.{Way}
 use Rattle.form_lines.specs.Said.{Said, aMulticast, anAckList, aDelete, aDeregister, aRegister, unknown}
-use Rattle.form_lines.specs.Pass.{Met, metSo, note, provided}
+use Rattle.form_lines.specs.Pass.{Noted, notedSo, note, provided}
 
-abbrev pub metOf : Way → List ℕ → Met
-metOf w seen = metSo (w .ok) (w .next) (w .gone) (w .found) seen
+abbrev pub metOf : Way → List ℕ → Noted
+metOf w seen = notedSo (w .ok) (w .next) (w .gone) (w .found) seen
 
 -- what a record leaves, by its test
-abbrev pub outcome : Bool → Met → Said → Met
+abbrev pub outcome : Bool → Noted → Said → Noted
 outcome b s r = cond b (note s r) (provided false s)
 
 -- the room, or the cart, of a record is one that a floor may have
@@ -39,6 +39,6 @@ pub record Whole (l : List ℕ) (k : ℕ) (s : List ℕ) : Type 0 where
   pub marks : (x : ℕ) → bitAt s x ≡ count x (rowsOnLines l k)
 
 -- a walk up to line k: the lines are whole, and what was met is what it should be; or the pool is not well-formed
-pub record Checked (l : List ℕ) (k : ℕ) (s : List ℕ) (whole : Bool) (met due : Met) : Type 0 where
+pub record Checked (l : List ℕ) (k : ℕ) (s : List ℕ) (whole : Bool) (met due : Noted) : Type 0 where
   pub good : whole ≡ true → Whole l k s × (met ≡ due)
   pub bad : whole ≡ false → form l ≡ true → ⊥

@@ -11,7 +11,7 @@ use borrow.Author.Tests.{eq-eqb, ne-eqb}
 use Rattle.protocol.proofs.Tests.{by-lt}
 use Rattle.protocol.specs.Events.{Report, Answer, accepted, refused}
 use Rattle.protocol.specs.Printed.{digitChar, decimal, hexadecimal, field, textField, reportFields, restOf, lineOf}
-use Rattle.frame_lines.specs.Lines.{written, Wrote, Began, octetsOf}
+use Rattle.frame_lines.specs.Lines.{written, Wrote, Began, fourOctets}
 use Rattle.frame_lines.proofs.Octets.{wrote-one, wrote-all, wrote-then, wrote-wider, began-all, began-then, began-more, pair-stored}
 use Rattle.frame_lines.proofs.Numbers.{digit-small, decimal-one, some-digit, word-of, digit-written, hex-length, hex-front}
 
@@ -32,12 +32,12 @@ field-spelled n l at h w = began-more (began-all 3 (omega arith) (wrote-one l at
 
 -- two of them, in a word
 pub fields-short : (x y : ℕ) (l l₁ : List ℕ) (at : ℕ) → at + 42 ≤ length l → x < 10 → y < 10
-    → l₁ ≡ written l at (octetsOf (807415840 + x * 256 + y * 16777216)) → Wrote 42 (field x ++ field y) l l₁ at (at + 4)
+    → l₁ ≡ written l at (fourOctets (807415840 + x * 256 + y * 16777216)) → Wrote 42 (field x ++ field y) l l₁ at (at + 4)
 fields-short x y l l₁ at h i j q =
     subst (λ (a : List ℕ). Wrote 42 a l l₁ at (at + 4)) (ap₂ (λ (a b : List ℕ). (32 ∷ a) ++ (32 ∷ b)) (sym (decimal-one x i)) (sym (decimal-one y j)))
     (wrote-all l at (32 ∷ digitChar x ∷ 32 ∷ digitChar y ∷ []) (omega arith) refl (omega arith) (q ∙ ap (λ (a : List ℕ). written l at a) octets))
   where
-    octets : octetsOf (807415840 + x * 256 + y * 16777216) ≡ 32 ∷ digitChar x ∷ 32 ∷ digitChar y ∷ []
+    octets : fourOctets (807415840 + x * 256 + y * 16777216) ≡ 32 ∷ digitChar x ∷ 32 ∷ digitChar y ∷ []
     octets =
         let a = digit-small x i in
         let b = digit-small y j in

@@ -11,7 +11,7 @@ use lib.Seq.{take-suc, take-all, take-nil, take-at, getD-set-same, getD-set-othe
 use borrow.Author.Tests.{lt-ltb, le-ltb}
 use Rattle.protocol.proofs.Tests.{by-test, by-lt}
 use Rattle.protocol.specs.Printed.{digitChar, decimalDigits, decimal, hexadecimal}
-use Rattle.frame_lines.specs.Lines.{written, Wrote, Began, Spells, lastDigits, octetsOf}
+use Rattle.frame_lines.specs.Lines.{written, Wrote, Began, Spells, lastDigits, fourOctets}
 use Rattle.frame_lines.proofs.Octets.{written-none, written-whole, written-last, wrote-one, wrote-all, wrote-join, began-some, began-then, pair-stored, four-stored}
 
 -- DIGITS
@@ -202,13 +202,13 @@ pair-written l at n h k =
     pair-stored l at (pairWord n % 256) (pairWord n / 256) h .octets ∙ ap (λ (a : List ℕ). written l at a) (pair-octets n k)
 
 pub word-written : (l : List ℕ) (at w : ℕ) → at + 4 ≤ length l
-    → set (set (set (set l at (w % 256)) (at + 1) (w / 256 % 256)) (at + 2) (w / 65536 % 256)) (at + 3) (w / 16777216) ≡ written l at (octetsOf w)
-unfolding octetsOf
+    → set (set (set (set l at (w % 256)) (at + 1) (w / 256 % 256)) (at + 2) (w / 65536 % 256)) (at + 3) (w / 16777216) ≡ written l at (fourOctets w)
+unfolding fourOctets
 word-written l at w h = four-stored l at (w % 256) (w / 256 % 256) (w / 65536 % 256) (w / 16777216) h .octets
 
 -- the octets of a word that was made of them
-pub word-of : (w a b c d : ℕ) → a < 256 → b < 256 → c < 256 → w ≡ a + 256 * b + 65536 * c + 16777216 * d → octetsOf w ≡ a ∷ b ∷ c ∷ d ∷ []
-unfolding octetsOf
+pub word-of : (w a b c d : ℕ) → a < 256 → b < 256 → c < 256 → w ≡ a + 256 * b + 65536 * c + 16777216 * d → fourOctets w ≡ a ∷ b ∷ c ∷ d ∷ []
+unfolding fourOctets
 word-of w a b c d ha hb hc e =
     let p = octet-low w a (b + 256 * (c + 256 * d)) ha (omega arith) in
     let u = octet-high w a (b + 256 * (c + 256 * d)) ha (omega arith) in
@@ -234,10 +234,10 @@ split-ten : (p q : ℕ) → q ≡ p → q ≡ 10 * (p / 10) + p % 10
 split-ten p q e = omega arith
 
 pub four-digits : (n : ℕ) → n < 10000
-    → octetsOf (808464432 + (n / 100 + n % 100 * 65536) * 256 - (n / 100 / 10 + n % 100 / 10 * 65536) * 2559) ≡ lastDigits 4 n
+    → fourOctets (808464432 + (n / 100 + n % 100 * 65536) * 256 - (n / 100 / 10 + n % 100 / 10 * 65536) * 2559) ≡ lastDigits 4 n
 unfolding lastDigits
 four-digits n h =
-    ap₂ (λ (x y : ℕ). octetsOf (808464432 + (n / 100 + n % 100 * 65536) * 256 - (x + y * 65536) * 2559)) thousands tens
+    ap₂ (λ (x y : ℕ). fourOctets (808464432 + (n / 100 + n % 100 * 65536) * 256 - (x + y * 65536) * 2559)) thousands tens
     ∙ word-of _ (digitChar (n / 10 / 10 / 10 % 10)) (digitChar (n / 10 / 10 % 10)) (digitChar (n / 10 % 10)) (digitChar (n % 10))
     (let z = a in omega arith) (let z = b in omega arith) (let z = c in omega arith)
     (four-word (n / 100) (n % 100) (n / 10 / 10 / 10 % 10) (n / 10 / 10 % 10) (n / 10 % 10) (n % 10)
@@ -309,7 +309,7 @@ four-octets (a ∷ b ∷ c ∷ d ∷ []) e = refl
 four-octets (a ∷ b ∷ c ∷ d ∷ x ∷ l) e = absurd (omega arith)
 
 pub word-made : (l : List ℕ) (w : ℕ) → length l ≡ 4 → getD l 0 0 < 256 → getD l 1 0 < 256 → getD l 2 0 < 256
-    → w ≡ getD l 0 0 + 256 * getD l 1 0 + 65536 * getD l 2 0 + 16777216 * getD l 3 0 → octetsOf w ≡ l
+    → w ≡ getD l 0 0 + 256 * getD l 1 0 + 65536 * getD l 2 0 + 16777216 * getD l 3 0 → fourOctets w ≡ l
 word-made l w e ha hb hc q =
     word-of w (getD l 0 0) (getD l 1 0) (getD l 2 0) (getD l 3 0) ha hb hc q ∙ sym (four-octets l e)
 
@@ -323,13 +323,13 @@ blanks-behind (x ∷ y ∷ z ∷ u ∷ []) h k = refl
 blanks-behind (x ∷ y ∷ z ∷ u ∷ v ∷ d) h k = absurd (omega arith)
 
 -- the word of the digits written over four blanks, and their count above it
-pub spelled : (n w count : ℕ) (l : List ℕ) → n < 10000 → Wrote 4 (decimal n) (32 ∷ 32 ∷ 32 ∷ 32 ∷ []) l 0 count → octetsOf w ≡ l → w < 4294967296
+pub spelled : (n w count : ℕ) (l : List ℕ) → n < 10000 → Wrote 4 (decimal n) (32 ∷ 32 ∷ 32 ∷ 32 ∷ []) l 0 count → fourOctets w ≡ l → w < 4294967296
     → Spells (w + count * 4294967296) n
 unfolding written
 spelled n w count l h u e f =
     record {
       octets =
-          ap (λ (x : ℕ). octetsOf x) (let z : (w + count * 4294967296) % 4294967296 ≡ w = omega arith in z)
+          ap (λ (x : ℕ). fourOctets x) (let z : (w + count * 4294967296) % 4294967296 ≡ w = omega arith in z)
           ∙ e
           ∙ u .octets
           ∙ ap (λ (k : ℕ). decimal n ++ drop k (32 ∷ 32 ∷ 32 ∷ 32 ∷ [])) (let z : 0 + length (decimal n) ≡ length (decimal n) = omega arith in z)
@@ -339,7 +339,7 @@ spelled n w count l h u e f =
 
 -- it is written, with blanks behind it
 pub spelled-written : (n w : ℕ) (l l₁ : List ℕ) (at next : ℕ) → n < 10000 → at + 4 ≤ length l → Spells w n → next ≡ at + w / 4294967296
-    → l₁ ≡ written l at (octetsOf (w % 4294967296)) → Began 3 4 (decimal n) l l₁ at next
+    → l₁ ≡ written l at (fourOctets (w % 4294967296)) → Began 3 4 (decimal n) l l₁ at next
 spelled-written n w l l₁ at next h room s e q =
     let some = some-digit n in
     let few = at-most-four n h in
@@ -353,7 +353,7 @@ spelled-written n w l l₁ at next h room s e q =
     blanks = 32 ∷ 32 ∷ 32 ∷ 32 ∷ []
 
 -- four digits leave no blank
-pub spelled-four : (n w : ℕ) → 1000 ≤ n → n < 10000 → Spells w n → octetsOf (w % 4294967296) ≡ lastDigits 4 n
+pub spelled-four : (n w : ℕ) → 1000 ≤ n → n < 10000 → Spells w n → fourOctets (w % 4294967296) ≡ lastDigits 4 n
 spelled-four n w h k s =
     s .octets
     ∙ take-at (decimal n) (32 ∷ 32 ∷ 32 ∷ []) 4 (length-four n h k)
@@ -361,8 +361,8 @@ spelled-four n w h k s =
     ∙ ap (λ (j : ℕ). lastDigits j n) (length-four n h k)
 
 -- a 1 stands first, and becomes a 0
-less-one : (w b c d : ℕ) → octetsOf w ≡ 49 ∷ b ∷ c ∷ d ∷ [] → octetsOf (w - 1) ≡ 48 ∷ b ∷ c ∷ d ∷ []
-unfolding octetsOf
+less-one : (w b c d : ℕ) → fourOctets w ≡ 49 ∷ b ∷ c ∷ d ∷ [] → fourOctets (w - 1) ≡ 48 ∷ b ∷ c ∷ d ∷ []
+unfolding fourOctets
 less-one w b c d e =
     let low : w % 256 ≡ 49 = cc in
     let one : (w - 1) % 256 ≡ 48 = omega arith in
@@ -382,13 +382,13 @@ thousand-more n h =
 
 -- so the word of 1,000 more has something to lose
 pub spelled-first : (n w : ℕ) → n < 1000 → Spells w (n + 1000) → 1 ≤ w % 4294967296
-unfolding octetsOf
+unfolding fourOctets
 spelled-first n w h s =
     let e = spelled-four (n + 1000) w (omega arith) (omega arith) s ∙ thousand-more n h in
     let low : w % 4294967296 % 256 ≡ 49 = cc in
     omega arith
 
-pub spelled-low : (n w : ℕ) → n < 1000 → Spells w (n + 1000) → octetsOf (w % 4294967296 - 1) ≡ lastDigits 4 n
+pub spelled-low : (n w : ℕ) → n < 1000 → Spells w (n + 1000) → fourOctets (w % 4294967296 - 1) ≡ lastDigits 4 n
 unfolding lastDigits
 spelled-low n w h s =
     less-one (w % 4294967296) (digitChar (n / 10 / 10 % 10)) (digitChar (n / 10 % 10)) (digitChar (n % 10))
@@ -398,7 +398,7 @@ spelled-low n w h s =
 
 -- a number of five to eight digits: the spelled ones, and four of a word behind them
 pub eight-written : (n w : ℕ) {l l₁ l₂ : List ℕ} {at p : ℕ} → 10000 ≤ n → at + 8 ≤ length l → Began 3 4 (decimal (n / 10000)) l l₁ at p
-    → octetsOf w ≡ lastDigits 4 (n % 10000) → l₂ ≡ written l₁ p (octetsOf w) → Wrote 8 (decimal n) l l₂ at (p + 4)
+    → fourOctets w ≡ lastDigits 4 (n % 10000) → l₂ ≡ written l₁ p (fourOctets w) → Wrote 8 (decimal n) l l₂ at (p + 4)
 eight-written n w {l} {l₁} {l₂} {at} {p} h room b e q =
     subst (λ (a : List ℕ). Wrote 8 a l l₂ at (p + 4))
     (sym (decimal-split 4 n (n / 10000) (n % 10000) (omega arith) (omega arith) (omega arith)))

@@ -55,13 +55,13 @@ lastDigits zero n = []
 lastDigits (suc k) n = lastDigits k (n / 10) ++ (digitChar (n % 10) ∷ [])
 
 -- the four octets of a word, the least first
-unfoldable pub octetsOf : ℕ → List ℕ
-octetsOf w = w % 256 ∷ w / 256 % 256 ∷ w / 65536 % 256 ∷ w / 16777216 ∷ []
+unfoldable pub fourOctets : ℕ → List ℕ
+fourOctets w = w % 256 ∷ w / 256 % 256 ∷ w / 65536 % 256 ∷ w / 16777216 ∷ []
 
 -- a word spells a number: its four lowest octets are the digits, from the first one on, and blanks behind them, and above these stands how
 -- many digits there are
 pub record Spells (word n : ℕ) : Type 0 where
-  pub octets : octetsOf (word % 4294967296) ≡ take 4 (decimal n ++ (32 ∷ 32 ∷ 32 ∷ []))
+  pub octets : fourOctets (word % 4294967296) ≡ take 4 (decimal n ++ (32 ∷ 32 ∷ 32 ∷ []))
   pub count : word / 4294967296 ≡ length (decimal n)
 
 -- the table of the numbers of at most four digits, each spelled in its word

@@ -10,7 +10,7 @@ ghost use lib.ListN.{length, take, drop};
 ghost use Rattle.protocol.specs.Events.{refused};
 ghost use Rattle.protocol.specs.Printed.{digitChar, decimal, hexadecimal, field, textField, reportFields, restOf, lineOf};
 ghost use Rattle.reports.specs.Effects.{reportIn, acceptedIn};
-ghost use Rattle.frame_lines.specs.Lines.{written, Wrote, Began, Spells, Tabled, lastDigits, octetsOf, longestRest, restRoom, shortRest, longestRefusal};
+ghost use Rattle.frame_lines.specs.Lines.{written, Wrote, Began, Spells, Tabled, lastDigits, fourOctets, longestRest, restRoom, shortRest, longestRefusal};
 
 // The room that a line is written in. The longest line has 191 octets: six numbers of 20 digits, five blanks before them, a blank and a text of 32
 // octets, and the line end. As many octets as the longest text has digits are moved behind it, and put back.
@@ -94,7 +94,7 @@ fn put_pair(out: &mut [u8], at: usize, n: u64)
 // The four octets of a word, the least first, which the compiler makes one store.
 fn put_word(out: &mut [u8], at: usize, word: u64)
     requires { ⌜ (at + 4 ≤ length (now out)) × (word < 4294967296) ⌝ }
-    ensures { λ r. ⌜ now (out .exit) ≡ written (now (out .entry)) at (octetsOf word) ⌝ }
+    ensures { λ r. ⌜ now (out .exit) ≡ written (now (out .entry)) at (fourOctets word) ⌝ }
 {
     out[at] = (word % 256) as u8;
     out[at + 1] = (word / 256 % 256) as u8;
@@ -157,7 +157,7 @@ fn put_decimal(out: &mut [u8], at: usize, n: u64) -> usize
 // Four octets as a word, the first one lowest.
 fn word_of(octets: &[u8]) -> u64
     requires { ⌜ length (now octets) ≡ 4 ⌝ }
-    ensures { λ r. ⌜ (octetsOf r ≡ now (octets .entry)) × (r < 4294967296) ⌝ }
+    ensures { λ r. ⌜ (fourOctets r ≡ now (octets .entry)) × (r < 4294967296) ⌝ }
 {
     wide(octets[0]) + wide(octets[1]) * 256 + wide(octets[2]) * 65536 + wide(octets[3]) * 16777216
 }
@@ -197,7 +197,7 @@ fn put_spelled(out: &mut [u8], at: usize, numbers: &[u64], n: u64) -> usize
 // The word of four digits, also where the first are 0: then it is that of 1,000 more, whose first digit is 1, less one.
 fn four_word(numbers: &[u64], n: u64) -> u64
     requires { ⌜ Tabled (now numbers) × (n < 10000) ⌝ }
-    ensures { λ r. ⌜ (octetsOf r ≡ lastDigits 4 n) × (r < 4294967296) ⌝ }
+    ensures { λ r. ⌜ (fourOctets r ≡ lastDigits 4 n) × (r < 4294967296) ⌝ }
 {
     if n < 1000 {
         return numbers[n as usize + 1000] % 4294967296 - 1;

@@ -16,7 +16,7 @@ use Rattle.protocol.specs.Folds.{isEmpty}
 use Rattle.protocol.specs.Events.{start, enter, send, wire, radio, move}
 use Rattle.protocol.specs.Frames.{Fields, Reading, bigEndian, fieldsOf, unlisted, eventOf, fieldsRefusal, frameRefusal, frameOf, readAt, end, refusedFrame, taken}
 use Rattle.frames.specs.declared.Halves.{Halves}
-use Rattle.frames.specs.Decoded.{octetsOf, fieldsIn}
+use Rattle.frames.specs.Decoded.{lowOctets, fieldsIn}
 
 -- NUMBERS OF EIGHT OCTETS
 
@@ -28,17 +28,17 @@ module _ (l : List ℕ) (at : ℕ) (h : at + 8 ≤ length l) where
   eight-long : length eight ≡ 8
   eight-long = let z = length-drop at l in length-take-le 8 (drop at l) (omega arith)
 
-  pub none-read : octetsOf 0 0 ≡ drop 8 (take 8 (drop at l))
-  unfolding octetsOf
+  pub none-read : lowOctets 0 0 ≡ drop 8 (take 8 (drop at l))
+  unfolding lowOctets
   none-read = sym (drop-of-length-le eight {i = 8} (let z = eight-long in omega arith))
 
   -- one octet more
-  pub octet-read : (i v b : ℕ) → i < 8 → octetsOf i v ≡ drop (8 - i) (take 8 (drop at l)) → b ≡ getD l (at + 7 - i) 0 → b < 256
-      → octetsOf (i + 1) (v * 256 + b) ≡ drop (8 - (i + 1)) (take 8 (drop at l))
-  unfolding octetsOf
+  pub octet-read : (i v b : ℕ) → i < 8 → lowOctets i v ≡ drop (8 - i) (take 8 (drop at l)) → b ≡ getD l (at + 7 - i) 0 → b < 256
+      → lowOctets (i + 1) (v * 256 + b) ≡ drop (8 - (i + 1)) (take 8 (drop at l))
+  unfolding lowOctets
   octet-read i v b s e eb small =
-      ap (λ (n : ℕ). octetsOf n (v * 256 + b)) (add-one i)
-      ∙ ap₂ (λ (x y : ℕ). x ∷ octetsOf i y) low high
+      ap (λ (n : ℕ). lowOctets n (v * 256 + b)) (add-one i)
+      ∙ ap₂ (λ (x y : ℕ). x ∷ lowOctets i y) low high
       ∙ ap₂ (λ (x : ℕ) (k : List ℕ). x ∷ k) (eb ∙ here) (e ∙ ap (λ (n : ℕ). drop n eight) next)
       ∙ sym (drop-cons eight (7 - i) 0 inside)
       ∙ ap (λ (n : ℕ). drop n eight) before
@@ -67,20 +67,20 @@ module _ (l : List ℕ) (at : ℕ) (h : at + 8 ≤ length l) where
           ∙ sym (getD-drop at l (7 - i) 0)
           ∙ sym (getD-take 8 (drop at l) (7 - i) 0 (omega arith))
 
-  pub all-read : (i v : ℕ) → i ≡ 8 → octetsOf i v ≡ drop (8 - i) (take 8 (drop at l)) → octetsOf 8 v ≡ take 8 (drop at l)
-  all-read i v q e = subst (λ (n : ℕ). octetsOf n v ≡ drop (8 - n) eight) q e
+  pub all-read : (i v : ℕ) → i ≡ 8 → lowOctets i v ≡ drop (8 - i) (take 8 (drop at l)) → lowOctets 8 v ≡ take 8 (drop at l)
+  all-read i v q e = subst (λ (n : ℕ). lowOctets n v ≡ drop (8 - n) eight) q e
 
 -- one octet of a word is put behind those that were before it
-pub octet-turned : (i w v n : ℕ) → i < 8 → bigEndian v (octetsOf (8 - i) w) ≡ n → bigEndian (v * 256 + w % 256) (octetsOf (8 - (i + 1)) (w / 256)) ≡ n
-unfolding bigEndian octetsOf
-octet-turned i w v n h e = ap (λ (k : ℕ). bigEndian v (octetsOf k w)) one-more ∙ e
+pub octet-turned : (i w v n : ℕ) → i < 8 → bigEndian v (lowOctets (8 - i) w) ≡ n → bigEndian (v * 256 + w % 256) (lowOctets (8 - (i + 1)) (w / 256)) ≡ n
+unfolding bigEndian lowOctets
+octet-turned i w v n h e = ap (λ (k : ℕ). bigEndian v (lowOctets k w)) one-more ∙ e
   where
     one-more : suc (8 - (i + 1)) ≡ 8 - i
     one-more = omega arith
 
-pub all-turned : (i w v n : ℕ) → i ≡ 8 → bigEndian v (octetsOf (8 - i) w) ≡ n → v ≡ n
-unfolding bigEndian octetsOf
-all-turned i w v n q e = subst (λ (k : ℕ). bigEndian v (octetsOf (8 - k) w) ≡ n) q e
+pub all-turned : (i w v n : ℕ) → i ≡ 8 → bigEndian v (lowOctets (8 - i) w) ≡ n → v ≡ n
+unfolding bigEndian lowOctets
+all-turned i w v n q e = subst (λ (k : ℕ). bigEndian v (lowOctets (8 - k) w) ≡ n) q e
 
 -- i octets make a number below 2^(8 i)
 pub few-fit : (i v : ℕ) → i < 8 → v < 2 ^ (8 * i) → v < 72057594037927936
@@ -101,9 +101,9 @@ octets-split : (a b c d e f g h : ℕ) → a < 256 → b < 256 → c < 256 → d
 unfolding bigEndian
 octets-split a b c d e f g h ha hb hc hd he hf hg hh n q = (omega arith, omega arith)
 
-word-split : (w n : ℕ) → n ≡ bigEndian 0 (octetsOf 8 w)
-    → (bigEndian 0 (take 3 (octetsOf 8 w)) ≡ n / 2 ^ 40) × (bigEndian 0 (drop 3 (octetsOf 8 w)) ≡ n % 2 ^ 40)
-unfolding octetsOf
+word-split : (w n : ℕ) → n ≡ bigEndian 0 (lowOctets 8 w)
+    → (bigEndian 0 (take 3 (lowOctets 8 w)) ≡ n / 2 ^ 40) × (bigEndian 0 (drop 3 (lowOctets 8 w)) ≡ n % 2 ^ 40)
+unfolding lowOctets
 word-split w n q =
     octets-split _ _ _ _ _ _ _ _ (omega arith) (omega arith) (omega arith) (omega arith) (omega arith) (omega arith) (omega arith) (omega arith) n q
 
@@ -114,8 +114,8 @@ behind-three (x ∷ y ∷ []) = refl
 behind-three (x ∷ y ∷ z ∷ l) = refl
 
 -- the fields of the frame at the front of these octets, from the two numbers that they make
-pub fields-made : (l : List ℕ) (f : Halves) (w v : ℕ) → octetsOf 8 w ≡ take 8 l → f .head ≡ bigEndian 0 (octetsOf 8 w)
-    → octetsOf 8 v ≡ take 8 (drop 8 l) → f .set ≡ bigEndian 0 (octetsOf 8 v) → fieldsIn f ≡ fieldsOf l
+pub fields-made : (l : List ℕ) (f : Halves) (w v : ℕ) → lowOctets 8 w ≡ take 8 l → f .head ≡ bigEndian 0 (lowOctets 8 w)
+    → lowOctets 8 v ≡ take 8 (drop 8 l) → f .set ≡ bigEndian 0 (lowOctets 8 v) → fieldsIn f ≡ fieldsOf l
 unfolding fieldsOf
 fields-made l f w v e h d s = λ i. record {
   kind = (let z = high in let q : f .head / 2 ^ 60 ≡ bigEndian 0 (take 3 l) / 1048576 = omega arith in q) i;

@@ -56,9 +56,9 @@ refusalOf r = refusalNumber (readingIn [] r)
 -- FRAMES
 
 -- n octets of a number, least significant first
-unfoldable pub octetsOf : ℕ → ℕ → List ℕ
-octetsOf zero w = []
-octetsOf (suc n) w = w % 256 ∷ octetsOf n (w / 256)
+unfoldable pub lowOctets : ℕ → ℕ → List ℕ
+lowOctets zero w = []
+lowOctets (suc n) w = w % 256 ∷ lowOctets n (w / 256)
 
 -- the fields of a frame: "kind 4 bits, station 4, cart 6, other 4, length 6, zero 40, set 64"
 abbrev pub fieldsIn : Halves → Fields

@@ -8,7 +8,7 @@ ghost use lib.ListN.{length, take, drop};
 ghost use lib.Seq.{paste};
 ghost use Rattle.protocol.specs.Floor.{limits};
 ghost use Rattle.protocol.specs.Frames.{bigEndian, fieldsOf, readAt};
-ghost use Rattle.frames.specs.Decoded.{octetsOf, fieldsIn, ifListed, frameIn, sizeOf, readingIn, refusalOf};
+ghost use Rattle.frames.specs.Decoded.{lowOctets, fieldsIn, ifListed, frameIn, sizeOf, readingIn, refusalOf};
 
 // An event.
 pub enum Event {
@@ -60,7 +60,7 @@ fn wide(x: u8) -> u64
 // Eight octets as one number, the first the least significant: the machine's own order, in which it loads all eight at once.
 fn word_at(octets: &[u8], at: usize) -> u64
     requires { ⌜ at + 8 ≤ length (now octets) ⌝ }
-    ensures { λ r. ⌜ octetsOf 8 r ≡ take 8 (drop at (now (octets .entry))) ⌝ }
+    ensures { λ r. ⌜ lowOctets 8 r ≡ take 8 (drop at (now (octets .entry))) ⌝ }
 {
     let mut value: u64 = 0;
     let mut i: usize = 0;
@@ -74,8 +74,8 @@ fn word_at(octets: &[u8], at: usize) -> u64
 // The sixteen octets at a place, as the machine loads them.
 fn words_at(octets: &[u8], at: usize) -> Halves
     requires { ⌜ at + 16 ≤ length (now octets) ⌝ }
-    ensures { λ r. ⌜ octetsOf 8 (r .head) ≡ take 8 (drop at (now (octets .entry))) ⌝ }
-    ensures { λ r. ⌜ octetsOf 8 (r .set) ≡ take 8 (drop (at + 8) (now (octets .entry))) ⌝ }
+    ensures { λ r. ⌜ lowOctets 8 (r .head) ≡ take 8 (drop at (now (octets .entry))) ⌝ }
+    ensures { λ r. ⌜ lowOctets 8 (r .set) ≡ take 8 (drop (at + 8) (now (octets .entry))) ⌝ }
 {
     Halves {
         head: word_at(octets, at),
@@ -85,7 +85,7 @@ fn words_at(octets: &[u8], at: usize) -> Halves
 
 // The number that the octets of a word make, most significant first.
 fn swapped(word: u64) -> u64
-    ensures { λ r. ⌜ r ≡ bigEndian 0 (octetsOf 8 word) ⌝ }
+    ensures { λ r. ⌜ r ≡ bigEndian 0 (lowOctets 8 word) ⌝ }
 {
     let mut left = word;
     let mut value: u64 = 0;

@@ -10,7 +10,7 @@ use lib.ListN.{length}
 use Rattle.protocol.specs.Form.{bit}
 use Rattle.lines.specs.Bits.{bitAt}
 use Rattle.lines.specs.Words.{capacity, tailOf, lengthOf}
-use Rattle.lines.specs.Lines.{rowsOf, lineOf, used}
+use Rattle.lines.specs.Lines.{rowsOf, recordsOn, used}
 use Rattle.lines.specs.Form.{count, allBelow, lastOf, summaryOk}
 use Rattle.lines.proofs.Sums.{sum-one}
 use Rattle.lines.proofs.Formed.{Formed, standsTo, length-rows, length-line}
@@ -26,9 +26,9 @@ module _ (l l′ : List ℕ) (k : ℕ) (hk : k < 256) (others : (j : ℕ) → j 
   pub used-change : used l′ + lengthOf l k ≡ used l + lengthOf l′ k
   unfolding used
   used-change =
-      omega (arith, sum-one 256 (λ j. length (lineOf l j)) (λ j. length (lineOf l′ j)) k hk same, length-line l k, length-line l′ k)
+      omega (arith, sum-one 256 (λ j. length (recordsOn l j)) (λ j. length (recordsOn l′ j)) k hk same, length-line l k, length-line l′ k)
     where
-      same : (j : ℕ) → j < 256 → (j ≡ k → ⊥) → length (lineOf l′ j) ≡ length (lineOf l j)
+      same : (j : ℕ) → j < 256 → (j ≡ k → ⊥) → length (recordsOn l′ j) ≡ length (recordsOn l j)
       same j hj jk = length-line l′ j ∙ sym (length-rows l′ j) ∙ ap length (others j hj jk) ∙ length-rows l j ∙ sym (length-line l j)
 
   -- the pool stays well-formed where line k is right, and where a row is free exactly as often as it has left the lines

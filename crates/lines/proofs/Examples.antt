@@ -7,7 +7,7 @@ use lib.ListN.{set, replicate}
 use Rattle.protocol.specs.Folds.{every, sum}
 use Rattle.lines.specs.Bits.{bitAt}
 use Rattle.lines.specs.Words.{capacity, lineAt, rowAt}
-use Rattle.lines.specs.Lines.{chain, rowsOf, recordOf, lineOf, used}
+use Rattle.lines.specs.Lines.{chain, rowsOf, recordOf, recordsOn, used}
 use Rattle.lines.specs.Form.{count, allBelow, lastOf, rowsOnLines, sized, lineOk, rowsOk, summaryOk, form}
 use Rattle.lines.specs.Parts.{joined}
 
@@ -19,12 +19,12 @@ start = set (set (replicate (rowAt 4) 0) 0 6) 49 1
 pool : List ℕ
 pool = joined (joined start (lineAt 18) 18 0 0 (record { 0 = 7; 1 = 70 })) (rowAt 0) 18 3 1 (record { 0 = 8; 1 = 80 })
 
-in-order : lineOf pool 18 ≡ record { 0 = 7; 1 = 70 } ∷ record { 0 = 8; 1 = 80 } ∷ []
-unfolding pool start joined lineOf recordOf rowsOf chain
+in-order : recordsOn pool 18 ≡ record { 0 = 7; 1 = 70 } ∷ record { 0 = 8; 1 = 80 } ∷ []
+unfolding pool start joined recordsOn recordOf rowsOf chain
 in-order = refl
 
 two-used : used pool ≡ 2
-unfolding pool start joined used sum lineOf rowsOf chain
+unfolding pool start joined used sum recordsOn rowsOf chain
 two-used = refl
 
 well-formed : form pool ≡ true

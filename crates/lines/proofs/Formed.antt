@@ -18,7 +18,7 @@ use Rattle.protocol.proofs.Counting.{bit-le, sum-ext, sum-nil, sum-term, sum-ad
 use Rattle.sets.proofs.MaskLaws.{digit-is}
 use Rattle.lines.specs.Bits.{bitAt}
 use Rattle.lines.specs.Words.{capacity, lineAt, rowAt, summaryOf, headOf, tailOf, lengthOf, nextOf}
-use Rattle.lines.specs.Lines.{chain, rowsOf, recordOf, lineOf, used}
+use Rattle.lines.specs.Lines.{chain, rowsOf, recordOf, recordsOn, used}
 use Rattle.lines.specs.Form.{count, allBelow, lastOf, rowsOnLines, sized, lineOk, rowsOk, summaryOk, form}
 use Rattle.lines.proofs.Digits.{digit-none}
 use Rattle.lines.proofs.Sums.{and-true, sum-terms, sum-below, count-append, below-head, sum-count}
@@ -102,8 +102,8 @@ pub length-rows : (l : List ℕ) (k : ℕ) → length (rowsOf l k) ≡ lengthOf 
 unfolding rowsOf
 length-rows l k = length-chain (nextOf l) (headOf l k) (lengthOf l k)
 
-pub length-line : (l : List ℕ) (k : ℕ) → length (lineOf l k) ≡ lengthOf l k
-unfolding lineOf
+pub length-line : (l : List ℕ) (k : ℕ) → length (recordsOn l k) ≡ lengthOf l k
+unfolding recordsOn
 length-line l k = length-map (rowsOf l k) (recordOf l) ∙ length-rows l k
 
 -- ---- the rows of a line
@@ -177,7 +177,7 @@ module _ (l : List ℕ) (w : Formed l) where
   used-stands : used l ≡ sum 3136 (standsTo l 256)
   unfolding used
   used-stands =
-      sum-ext 256 (λ k. length (lineOf l k)) (λ k. sum 3136 (λ x. count x (rowsOf l k))) (λ k h.
+      sum-ext 256 (λ k. length (recordsOn l k)) (λ k. sum 3136 (λ x. count x (rowsOf l k))) (λ k h.
       length-line l k ∙ sym (length-rows l k) ∙ sym (sum-count 3136 (rowsOf l k) (below-more (capacity l) 3136 (rowsOf l k) (w .most) (w .below k h))))
       ∙ sym (sum-swap 3136 256 (λ x k. count x (rowsOf l k)))
 
@@ -193,7 +193,7 @@ module _ (l : List ℕ) (w : Formed l) where
 
   pub line-short : (k : ℕ) → k < 256 → lengthOf l k ≤ capacity l
   unfolding used
-  line-short k h = omega (arith, all-rows, sum-term 256 (λ j. length (lineOf l j)) k h, length-line l k)
+  line-short k h = omega (arith, all-rows, sum-term 256 (λ j. length (recordsOn l j)) k h, length-line l k)
 
   s-of : Summary l
   s-of = summary-of l (w .summary)
@@ -242,7 +242,7 @@ module _ (l : List ℕ) (e : form l ≡ true) where
   pub takable : used l < capacity l → (50 ≤ length l) × (summaryOk l ≡ true) × (0 < summaryOf l)
   takable h = (holdable .0, holdable .1, room-summary l (form-formed l e) h)
 
-  module _ (k : ℕ) (hk : k < 256) (some : 0 < length (lineOf l k)) where
+  module _ (k : ℕ) (hk : k < 256) (some : 0 < length (recordsOn l k)) where
     pub some-long : 0 < lengthOf l k
     some-long = omega (arith, length-line l k)
 

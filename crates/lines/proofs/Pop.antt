@@ -12,7 +12,7 @@ use Rattle.protocol.specs.Form.{bit}
 use Rattle.lines.specs.declared.Record.{Record}
 use Rattle.lines.specs.Bits.{bitAt}
 use Rattle.lines.specs.Words.{capacity, lineAt, rowAt, headOf, tailOf, lengthOf, nextOf}
-use Rattle.lines.specs.Lines.{chain, rowsOf, recordOf, lineOf}
+use Rattle.lines.specs.Lines.{chain, rowsOf, recordOf, recordsOn}
 use Rattle.lines.specs.Form.{count, allBelow, lastOf, summaryOk, form}
 use Rattle.lines.specs.Post.{Popped}
 use Rattle.lines.specs.Parts.{Given, left}
@@ -30,11 +30,11 @@ last-less t x (y ∷ a) e = e
 
 -- ---- the head's record
 module _ (l : List ℕ) (w : Formed l) (k : ℕ) (hk : k < 256) (some : 0 < lengthOf l k) where
-  line-head : lineOf l k ≡ recordOf l (headOf l k) ∷ map (recordOf l) (chain (nextOf l) (nextOf l (headOf l k)) (m-of l w k hk some .0))
-  unfolding lineOf
+  line-head : recordsOn l k ≡ recordOf l (headOf l k) ∷ map (recordOf l) (chain (nextOf l) (nextOf l (headOf l k)) (m-of l w k hk some .0))
+  unfolding recordsOn
   line-head = ap (map (recordOf l)) (rows-head l w k hk some)
 
-  fronted : lineOf l k ≡ recordOf l (headOf l k) ∷ drop 1 (lineOf l k)
+  fronted : recordsOn l k ≡ recordOf l (headOf l k) ∷ drop 1 (recordsOn l k)
   fronted = line-head ∙ ap (λ (t : List Record). recordOf l (headOf l k) ∷ t) (sym (ap (drop 1) line-head))
 
 -- ---- the stores
@@ -122,12 +122,12 @@ module _ (l l2 : List ℕ) (k n : ℕ) (w : Formed l) (hk : k < 256) (some : 0 <
       ∙ last-less (tailOf l k) f (rowsOf l2 k) (ap (lastOf (tailOf l k)) (sym rows-line) ∙ w .last k hk) ∙ sym (tails k hk))
       rows-same (t .summary)
 
-  line-other : (j : ℕ) → j < 256 → (j ≡ k → ⊥) → lineOf l2 j ≡ lineOf l j
-  unfolding lineOf
+  line-other : (j : ℕ) → j < 256 → (j ≡ k → ⊥) → recordsOn l2 j ≡ recordsOn l j
+  unfolding recordsOn
   line-other j hj jk = λ i. map (records i) (rows-other j hj jk i)
 
-  line-less : lineOf l2 k ≡ drop 1 (lineOf l k)
-  unfolding lineOf
+  line-less : recordsOn l2 k ≡ drop 1 (recordsOn l k)
+  unfolding recordsOn
   line-less = ap (λ (h : ℕ → Record). map h (rowsOf l2 k)) records ∙ sym (ap (λ (a : List ℕ). drop 1 (map (recordOf l) a)) rows-line)
 
   popped : Popped l l2 k
@@ -142,9 +142,9 @@ module _ (l l2 : List ℕ) (k n : ℕ) (w : Formed l) (hk : k < 256) (some : 0 <
   }
 
 -- ---- the code's own steps
-module _ (l : List ℕ) (k : ℕ) (e : form l ≡ true) (hk : k < 256) (some : 0 < length (lineOf l k)) (x : ℕ) (ex : x ≡ headOf l k) where
-  pub front-is : (r : Record) → r ≡ recordOf l x → lineOf l k ≡ r ∷ drop 1 (lineOf l k)
-  front-is r er = fronted l (form-formed l e) k hk (some-long l e k hk some) ∙ ap (λ (y : Record). y ∷ drop 1 (lineOf l k)) (sym (er ∙ ap (recordOf l) ex))
+module _ (l : List ℕ) (k : ℕ) (e : form l ≡ true) (hk : k < 256) (some : 0 < length (recordsOn l k)) (x : ℕ) (ex : x ≡ headOf l k) where
+  pub front-is : (r : Record) → r ≡ recordOf l x → recordsOn l k ≡ r ∷ drop 1 (recordsOn l k)
+  front-is r er = fronted l (form-formed l e) k hk (some-long l e k hk some) ∙ ap (λ (y : Record). y ∷ drop 1 (recordsOn l k)) (sym (er ∙ ap (recordOf l) ex))
 
   module _ (l1 : List ℕ) (n y : ℕ) (en : n ≡ lengthOf l k) (ey : y ≡ nextOf l x) (e1 : l1 ≡ left l k y (n - 1)) where
     pub givable : (50 ≤ length l1) × (summaryOk l1 ≡ true) × (x < 3136)

@@ -13,7 +13,7 @@ use Rattle.protocol.specs.Form.{bit}
 use Rattle.lines.specs.declared.Record.{Record}
 use Rattle.lines.specs.Bits.{bitAt}
 use Rattle.lines.specs.Words.{capacity, lineAt, rowAt, headOf, tailOf, lengthOf, nextOf}
-use Rattle.lines.specs.Lines.{chain, rowsOf, recordOf, lineOf}
+use Rattle.lines.specs.Lines.{chain, rowsOf, recordOf, recordsOn}
 use Rattle.lines.specs.Form.{count, allBelow, lastOf, form}
 use Rattle.lines.specs.Post.{SameRegisters, Pushed}
 use Rattle.lines.specs.Parts.{Taken, Link, Fits, joined}
@@ -209,12 +209,12 @@ module _ (l l1 : List ℕ) (at k f n : ℕ) (r : Record) (w : Formed l) (hk : k 
       (ap (lastOf (tailOf l2 k)) rows-line ∙ last-end (tailOf l2 k) f (rowsOf l k) ∙ sym (stored .tail))
       rows-same (summary-same l1 l2 low-same (t .summary))
 
-  line-other : (j : ℕ) → j < 256 → (j ≡ k → ⊥) → lineOf l2 j ≡ lineOf l j
-  unfolding lineOf
+  line-other : (j : ℕ) → j < 256 → (j ≡ k → ⊥) → recordsOn l2 j ≡ recordsOn l j
+  unfolding recordsOn
   line-other j hj jk = ap (map (recordOf l2)) (rows-other j hj jk) ∙ map-same (recordOf l2) (recordOf l) f (rowsOf l j) (f-off j hj) (stored .words)
 
-  line-more : lineOf l2 k ≡ lineOf l k ++ (r ∷ [])
-  unfolding lineOf
+  line-more : recordsOn l2 k ≡ recordsOn l k ++ (r ∷ [])
+  unfolding recordsOn
   line-more =
       ap (map (recordOf l2)) rows-line ∙ map-append (recordOf l2) (rowsOf l k) (f ∷ [])
       ∙ ap₂ (λ (a : List Record) (x : Record). a ++ (x ∷ [])) (map-same (recordOf l2) (recordOf l) f (rowsOf l k) (f-off k hk) (stored .words)) (stored .word)

@@ -14,7 +14,7 @@ use Rattle.protocol.proofs.Tests.{by-lt, by-eq, and-false}
 use Rattle.protocol.proofs.Counting.{sum-ext}
 use Rattle.lines.specs.Bits.{bitAt}
 use Rattle.lines.specs.Words.{lineAt, registerAt, rowAt, tailOf, nextOf}
-use Rattle.lines.specs.Lines.{chain, rowsOf, recordOf, lineOf, used, registersIn}
+use Rattle.lines.specs.Lines.{chain, rowsOf, recordOf, recordsOn, used, registersIn}
 use Rattle.lines.specs.Form.{count, allBelow, lastOf, form}
 use Rattle.lines.specs.Post.{SameRegisters, Carried}
 use Rattle.lines.proofs.Bitmap.{bits-same, summary-same}
@@ -81,13 +81,13 @@ module _ (l l′ : List ℕ) (same : length l′ ≡ length l) (low : (k : ℕ) 
   unfolding rowsOf
   rows-kept k h = λ i. chain (nexts i) (low (lineAt k) (omega arith) i) (low (lineAt k + 2) (omega arith) i)
 
-  line-kept : (k : ℕ) → k < 256 → lineOf l′ k ≡ lineOf l k
-  unfolding lineOf
+  line-kept : (k : ℕ) → k < 256 → recordsOn l′ k ≡ recordsOn l k
+  unfolding recordsOn
   line-kept k h = λ i. map (records i) (rows-kept k h i)
 
   used-kept : used l′ ≡ used l
   unfolding used
-  used-kept = sum-ext 256 (λ k. length (lineOf l′ k)) (λ k. length (lineOf l k)) (λ k h. ap length (line-kept k h))
+  used-kept = sum-ext 256 (λ k. length (recordsOn l′ k)) (λ k. length (recordsOn l k)) (λ k h. ap length (line-kept k h))
 
   formed-kept : Formed l → Formed l′
   formed-kept w = let room = capacity-same l l′ same in record {

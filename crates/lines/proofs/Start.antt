@@ -13,7 +13,7 @@ use Rattle.protocol.specs.Form.{bit}
 use Rattle.protocol.proofs.Counting.{sum-nil}
 use Rattle.lines.specs.Bits.{bitAt}
 use Rattle.lines.specs.Words.{capacity, lineAt, summaryOf, headOf, tailOf, lengthOf, nextOf}
-use Rattle.lines.specs.Lines.{chain, rowsOf, recordOf, lineOf, used}
+use Rattle.lines.specs.Lines.{chain, rowsOf, recordOf, recordsOn, used}
 use Rattle.lines.specs.Form.{count, allBelow, lastOf, sized}
 use Rattle.lines.specs.Post.{Cleared}
 use Rattle.lines.specs.Parts.{Full, Freed, AllFree, Emptied}
@@ -72,8 +72,8 @@ module _ (l l1 l2 : List ℕ) (e : sized l ≡ true) (f : AllFree l l1) (g : Emp
   unfolding rowsOf
   rows-none k h = ap (chain (nextOf l2) (headOf l2 k)) (g .empty k h) ∙ chain-none (nextOf l2) (headOf l2 k)
 
-  line-none : (k : ℕ) → k < 256 → lineOf l2 k ≡ []
-  unfolding lineOf
+  line-none : (k : ℕ) → k < 256 → recordsOn l2 k ≡ []
+  unfolding recordsOn
   line-none k h = ap (map (recordOf l2)) (rows-none k h)
 
   stands-none : (x : ℕ) → standsTo l2 256 x ≡ 0
@@ -99,7 +99,7 @@ module _ (l l1 l2 : List ℕ) (e : sized l ≡ true) (f : AllFree l l1) (g : Emp
   clear-is = record {
     formed = formed-form l2 formed-start;
     empty = line-none;
-    none = sum-nil 256 (λ k. length (lineOf l2 k)) (λ k h. ap length (line-none k h));
+    none = sum-nil 256 (λ k. length (recordsOn l2 k)) (λ k h. ap length (line-none k h));
     room = cap-same;
     words = same;
   }

@@ -4,11 +4,11 @@ use mathlib.Core.List.{List, [], _∷_, map}
 use Prim.Native.Nat.{ℕ, suc, _-_, _<_}
 use native.Mathlib.Omega.{arith}
 use Rattle.lines.specs.Words.{headOf, lengthOf, nextOf}
-use Rattle.lines.specs.Lines.{rowsOf, recordOf, lineOf, recordsFrom}
+use Rattle.lines.specs.Lines.{rowsOf, recordOf, recordsOn, recordsFrom}
 use Rattle.lines.proofs.Chains.{chain-none, chain-head}
 
-pub line-from : (l : List ℕ) (k : ℕ) → lineOf l k ≡ recordsFrom l (headOf l k) (lengthOf l k)
-unfolding lineOf rowsOf recordsFrom
+pub line-from : (l : List ℕ) (k : ℕ) → recordsOn l k ≡ recordsFrom l (headOf l k) (lengthOf l k)
+unfolding recordsOn rowsOf recordsFrom
 line-from l k = refl
 
 pub from-none : (l : List ℕ) (x : ℕ) → recordsFrom l x 0 ≡ []

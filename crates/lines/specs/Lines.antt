@@ -22,8 +22,8 @@ unfoldable pub recordOf : List ℕ → ℕ → Record
 recordOf l x = record { 0 = wordOf l x; 1 = cartsOf l x }
 
 -- line k, its head first
-unfoldable pub lineOf : List ℕ → ℕ → List Record
-lineOf l k = map (recordOf l) (rowsOf l k)
+unfoldable pub recordsOn : List ℕ → ℕ → List Record
+recordsOn l k = map (recordOf l) (rowsOf l k)
 
 -- the records of n rows, from row x on: what is still to come of a line that is being visited
 unfoldable pub recordsFrom : List ℕ → ℕ → ℕ → List Record
@@ -31,7 +31,7 @@ recordsFrom l x n = map (recordOf l) (chain (nextOf l) x n)
 
 -- how many records are on the lines
 unfoldable pub used : List ℕ → ℕ
-used l = sum lineCount (λ k. length (lineOf l k))
+used l = sum lineCount (λ k. length (recordsOn l k))
 
 -- "the register record carries the cart's whole row of next numbers": word s of the row of cart c's register; 0 beyond 64 carts and 16 words
 unfoldable pub registersIn : List ℕ → ℕ → ℕ → ℕ

@@ -17,7 +17,7 @@ ghost use Rattle.protocol.specs.Folds.{every, listOf};
 ghost use Rattle.protocol.specs.CartSets.{digit};
 ghost use Rattle.lines.specs.Bits.{bitAt};
 ghost use Rattle.lines.specs.Words.{freeWords, mostRows, mostCarts, linesAt, rowsAt, lineAt, rowAt, headOf, tailOf, lengthOf, nextOf, capacity, summaryOf};
-ghost use Rattle.lines.specs.Lines.{recordOf, lineOf, used, registersIn};
+ghost use Rattle.lines.specs.Lines.{recordOf, recordsOn, used, registersIn};
 ghost use Rattle.lines.specs.Form.{form, sized, rowsOk, summaryOk};
 ghost use Rattle.lines.specs.Post.{Pushed, Popped, Cleared, Carried};
 ghost use Rattle.lines.specs.Holding.{released, Holds};
@@ -168,15 +168,15 @@ fn full_word(rows: usize, w: usize) -> u64
 // No record is on the line from i to j.
 pub fn is_empty(pool: &[u64], i: usize, j: usize) -> bool
     requires { ⌜ (i < 16) × (j < 16) × (form (now pool) ≡ true) ⌝ }
-    ensures { λ r. ⌜ r ≡ eqb (length (lineOf (now (pool .entry)) (i * 16 + j))) 0 ⌝ }
+    ensures { λ r. ⌜ r ≡ eqb (length (recordsOn (now (pool .entry)) (i * 16 + j))) 0 ⌝ }
 {
     length_of(pool, i * 16 + j) == 0
 }
 
 // The record at the head of the line from i to j.
 pub fn front(pool: &[u64], i: usize, j: usize) -> Record
-    requires { ⌜ (i < 16) × (j < 16) × (form (now pool) ≡ true) × (0 < length (lineOf (now pool) (i * 16 + j))) ⌝ }
-    ensures { λ r. ⌜ lineOf (now (pool .entry)) (i * 16 + j) ≡ r ∷ drop 1 (lineOf (now (pool .entry)) (i * 16 + j)) ⌝ }
+    requires { ⌜ (i < 16) × (j < 16) × (form (now pool) ≡ true) × (0 < length (recordsOn (now pool) (i * 16 + j))) ⌝ }
+    ensures { λ r. ⌜ recordsOn (now (pool .entry)) (i * 16 + j) ≡ r ∷ drop 1 (recordsOn (now (pool .entry)) (i * 16 + j)) ⌝ }
 {
     record_of(pool, head_of(pool, i * 16 + j))
 }
@@ -294,7 +294,7 @@ pub fn release(pool: &mut [u64], held: Held)
 
 // The record at the head of the line from i to j goes.
 pub fn pop_front(pool: &mut [u64], i: usize, j: usize)
-    requires { ⌜ (i < 16) × (j < 16) × (form (now pool) ≡ true) × (0 < length (lineOf (now pool) (i * 16 + j))) ⌝ }
+    requires { ⌜ (i < 16) × (j < 16) × (form (now pool) ≡ true) × (0 < length (recordsOn (now pool) (i * 16 + j))) ⌝ }
     ensures { λ _. ⌜ Popped (now (pool .entry)) (now (pool .exit)) (i * 16 + j) ⌝ }
 {
     let k = i * 16 + j;

@@ -15,7 +15,7 @@ use Rattle.stations.specs.View.{stationsIn}
 use Rattle.carts.specs.View.{cartsIn, canonicalIn}
 use Rattle.messages.specs.View.{roomsIn}
 use Rattle.lines.specs.declared.Record as word
-use Rattle.lines.specs.Lines.{lineOf}
+use Rattle.lines.specs.Lines.{recordsOn}
 use Rattle.lines.specs.Form.{form}
 use Rattle.lines.specs.Post.{Pushed, Popped, Carried}
 use Rattle.view.specs.Records.{roomRight}
@@ -28,7 +28,7 @@ pub record Laid (L : Lent) : Type 0 where
   pub canonical : (c : ℕ) → c < L .product .carts → canonicalIn (L .carts) c ≡ true
   pub local : (t : ℕ) → t < L .product .stations → stationsIn (L .stations) .local t ≡ setOf 64 (λ c. localTo (cartsIn (L .carts) .place c) t)
   pub short : (m : ℕ) → m < L .product .held → roomsIn (L .messages) .length m ≤ 32
-  pub rooms : (i j : ℕ) → i < 16 → j < 16 → everyWord (roomRight (roomsIn (L .messages)) i j) (lineOf (L .lines) (i * 16 + j)) ≡ true
+  pub rooms : (i j : ℕ) → i < 16 → j < 16 → everyWord (roomRight (roomsIn (L .messages)) i j) (recordsOn (L .lines) (i * 16 + j)) ≡ true
   pub few : (t m : ℕ) → t < L .product .stations → m < 32 → L .product .held ≤ m → (stationsIn (L .stations) .copy m t ≡ 0) × (stationsIn (L .stations) .queue m t ≡ 0)
 
 module _ (L : Lent) where
@@ -165,7 +165,7 @@ module _ {P : Product} (S C M W T : List ℕ) (X : Laid (lent P S C M W T)) wher
 
   -- of the messages, when the records on the lines are right in the new rooms too
   pub laid-messages : (M′ : List ℕ) → ((m : ℕ) → m < P .held → roomsIn M′ .length m ≤ 32)
-      → ((i j : ℕ) → i < 16 → j < 16 → everyWord (roomRight (roomsIn M′) i j) (lineOf W (i * 16 + j)) ≡ true) → Laid (lent P S C M′ W T)
+      → ((i j : ℕ) → i < 16 → j < 16 → everyWord (roomRight (roomsIn M′) i j) (recordsOn W (i * 16 + j)) ≡ true) → Laid (lent P S C M′ W T)
   laid-messages M′ short rooms = record { chains = X .chains; canonical = X .canonical; local = X .local; short = short; rooms = rooms; few = X .few }
 
   -- a record joins a line
@@ -179,7 +179,7 @@ module _ {P : Product} (S C M W T : List ℕ) (X : Laid (lent P S C M W T)) wher
         few = X .few;
         rooms = λ i j li lj. by-eq (i * 16 + j) (a * 16 + b)
             (λ q. let z = same-line i j a b lj lb q in
-            rw (z .0, z .1) (rw (p .line) (words-append (roomRight (roomsIn M) a b) (lineOf W (a * 16 + b)) r (X .rooms a b la lb) e)))
+            rw (z .0, z .1) (rw (p .line) (words-append (roomRight (roomsIn M) a b) (recordsOn W (a * 16 + b)) r (X .rooms a b la lb) e)))
             (λ q. rw (p .others (i * 16 + j) (line-below i j li lj) q) (X .rooms i j li lj));
       }
 
@@ -194,7 +194,7 @@ module _ {P : Product} (S C M W T : List ℕ) (X : Laid (lent P S C M W T)) wher
         few = X .few;
         rooms = λ i j li lj. by-eq (i * 16 + j) (a * 16 + b)
             (λ q. let z = same-line i j a b lj lb q in
-            rw (z .0, z .1) (rw (p .line) (words-drop (roomRight (roomsIn M) a b) (lineOf W (a * 16 + b)) (X .rooms a b la lb))))
+            rw (z .0, z .1) (rw (p .line) (words-drop (roomRight (roomsIn M) a b) (recordsOn W (a * 16 + b)) (X .rooms a b la lb))))
             (λ q. rw (p .others (i * 16 + j) (line-below i j li lj) q) (X .rooms i j li lj));
       }
 

@@ -10,7 +10,7 @@ use borrow.Author.Tests.{ltb-true, lt-ltb}
 use Rattle.protocol.specs.Floor.{Record, tail, put, behead, between}
 use Rattle.protocol.proofs.Tests.{by-test, by-lt, and-left, and-right, and-intro, both-equal, both-differ, not-both-equal}
 use Rattle.lines.specs.declared.Record as word
-use Rattle.lines.specs.Lines.{lineOf, registersIn}
+use Rattle.lines.specs.Lines.{recordsOn, registersIn}
 use Rattle.lines.specs.Post.{Pushed, Popped, Cleared}
 use Rattle.view.specs.Records.{recordIn, linesIn}
 
@@ -27,11 +27,11 @@ inside : (i j : ℕ) → i < 16 → j < 16 → ltb i 16 && ltb j 16 ≡ true
 inside i j hi hj = and-intro (ltb i 16) (ltb j 16) (lt-ltb i 16 hi) (lt-ltb j 16 hj)
 
 -- a line of the floor, whose registers carry those rows
-pub line-with : (rows : ℕ → ℕ → ℕ) (l : List ℕ) (i j : ℕ) → registersIn l ≡ rows → i < 16 → j < 16 → linesIn l i j ≡ map (recordIn rows) (lineOf l (i * 16 + j))
+pub line-with : (rows : ℕ → ℕ → ℕ) (l : List ℕ) (i j : ℕ) → registersIn l ≡ rows → i < 16 → j < 16 → linesIn l i j ≡ map (recordIn rows) (recordsOn l (i * 16 + j))
 unfolding linesIn
-line-with rows l i j e hi hj = rw (inside i j hi hj) (ap (λ (f : ℕ → ℕ → ℕ). map (recordIn f) (lineOf l (i * 16 + j))) e)
+line-with rows l i j e hi hj = rw (inside i j hi hj) (ap (λ (f : ℕ → ℕ → ℕ). map (recordIn f) (recordsOn l (i * 16 + j))) e)
 
-pub line-in : (l : List ℕ) (i j : ℕ) → i < 16 → j < 16 → linesIn l i j ≡ map (recordIn (registersIn l)) (lineOf l (i * 16 + j))
+pub line-in : (l : List ℕ) (i j : ℕ) → i < 16 → j < 16 → linesIn l i j ≡ map (recordIn (registersIn l)) (recordsOn l (i * 16 + j))
 line-in l i j hi hj = line-with (registersIn l) l i j refl hi hj
 
 pub line-beyond : (l : List ℕ) (i j : ℕ) → (i < 16 → j < 16 → ⊥) → linesIn l i j ≡ []
@@ -62,9 +62,9 @@ push-view l l′ a b r ha hb p =
     fun-ext (λ i. fun-ext (λ j. by-line i j
     (λ hi hj. by-test (between a b i j)
     (λ e. let z = both-equal a i b j e in
-    rw e (line-with rows l′ i j (p .registers) hi hj ∙ ap (λ (k : ℕ). map (recordIn rows) (lineOf l′ k)) (let q : i * 16 + j ≡ a * 16 + b = (let x = z .0 in let y = z .1 in omega arith) in q)
-    ∙ ap (λ (x : List word.Record). map (recordIn rows) x) (p .line) ∙ map-append rows (lineOf l (a * 16 + b)) (r ∷ [])
-    ∙ ap (λ (k : ℕ). map (recordIn rows) (lineOf l k) ++ (recordIn rows r ∷ [])) (let q : a * 16 + b ≡ i * 16 + j = (let x = z .0 in let y = z .1 in omega arith) in q)
+    rw e (line-with rows l′ i j (p .registers) hi hj ∙ ap (λ (k : ℕ). map (recordIn rows) (recordsOn l′ k)) (let q : i * 16 + j ≡ a * 16 + b = (let x = z .0 in let y = z .1 in omega arith) in q)
+    ∙ ap (λ (x : List word.Record). map (recordIn rows) x) (p .line) ∙ map-append rows (recordsOn l (a * 16 + b)) (r ∷ [])
+    ∙ ap (λ (k : ℕ). map (recordIn rows) (recordsOn l k) ++ (recordIn rows r ∷ [])) (let q : a * 16 + b ≡ i * 16 + j = (let x = z .0 in let y = z .1 in omega arith) in q)
     ∙ ap (λ (x : List Record). x ++ (recordIn rows r ∷ [])) (sym (line-in l i j hi hj))))
     (λ e. rw e (line-with rows l′ i j (p .registers) hi hj
     ∙ ap (λ (x : List word.Record). map (recordIn rows) x) (p .others (i * 16 + j) (line-below i j hi hj) (λ q. let z = same-line i j a b hj hb q in not-both-equal a i b j e (sym (z .0)) (sym (z .1))))
@@ -78,9 +78,9 @@ pop-view l l′ a b ha hb p =
     fun-ext (λ i. fun-ext (λ j. by-line i j
     (λ hi hj. by-test (eqb a i && eqb b j)
     (λ e. let z = both-equal a i b j e in
-    rw e (line-with rows l′ i j (p .registers) hi hj ∙ ap (λ (k : ℕ). map (recordIn rows) (lineOf l′ k)) (let q : i * 16 + j ≡ a * 16 + b = (let x = z .0 in let y = z .1 in omega arith) in q)
-    ∙ ap (λ (x : List word.Record). map (recordIn rows) x) (p .line) ∙ map-drop rows (lineOf l (a * 16 + b))
-    ∙ ap (λ (k : ℕ). tail (map (recordIn rows) (lineOf l k))) (let q : a * 16 + b ≡ i * 16 + j = (let x = z .0 in let y = z .1 in omega arith) in q)
+    rw e (line-with rows l′ i j (p .registers) hi hj ∙ ap (λ (k : ℕ). map (recordIn rows) (recordsOn l′ k)) (let q : i * 16 + j ≡ a * 16 + b = (let x = z .0 in let y = z .1 in omega arith) in q)
+    ∙ ap (λ (x : List word.Record). map (recordIn rows) x) (p .line) ∙ map-drop rows (recordsOn l (a * 16 + b))
+    ∙ ap (λ (k : ℕ). tail (map (recordIn rows) (recordsOn l k))) (let q : a * 16 + b ≡ i * 16 + j = (let x = z .0 in let y = z .1 in omega arith) in q)
     ∙ ap (λ (x : List Record). tail x) (sym (line-in l i j hi hj))))
     (λ e. rw e (line-with rows l′ i j (p .registers) hi hj
     ∙ ap (λ (x : List word.Record). map (recordIn rows) x) (p .others (i * 16 + j) (line-below i j hi hj) (λ q. let z = same-line i j a b hj hb q in not-both-equal a i b j e (sym (z .0)) (sym (z .1))))
@@ -95,6 +95,6 @@ clear-view l l′ p =
     (λ h. line-beyond l′ i j h)))
 
 -- THE HEAD OF A LINE
-pub head-view : (l : List ℕ) (i j : ℕ) (r : word.Record) (rest : List word.Record) → i < 16 → j < 16 → lineOf l (i * 16 + j) ≡ r ∷ rest
+pub head-view : (l : List ℕ) (i j : ℕ) (r : word.Record) (rest : List word.Record) → i < 16 → j < 16 → recordsOn l (i * 16 + j) ≡ r ∷ rest
     → linesIn l i j ≡ recordIn (registersIn l) r ∷ map (recordIn (registersIn l)) rest
 head-view l i j r rest hi hj e = line-in l i j hi hj ∙ ap (λ (x : List word.Record). map (recordIn (registersIn l)) x) e

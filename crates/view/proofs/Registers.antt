@@ -13,7 +13,7 @@ use Rattle.protocol.specs.Floor.{Place, outside, at, leaving, travelling, Recor
 use Rattle.protocol.specs.Form.{HandoffRecord, deregistering, registering, handoffs, handoffOf}
 use Rattle.protocol.proofs.Tests.{by-test, by-eq, on-cond, eqb-self, length-listOf, listOf-at}
 use Rattle.lines.specs.declared.Record as word
-use Rattle.lines.specs.Lines.{lineOf, registersIn}
+use Rattle.lines.specs.Lines.{recordsOn, registersIn}
 use Rattle.lines.specs.Post.{Carried}
 use Rattle.view.specs.Records.{kindOf, indexOf, recordIn, linesIn}
 use Rattle.view.proofs.LinesView.{line-in, line-beyond, line-below, by-line}
@@ -73,7 +73,7 @@ module _ (W W′ : List ℕ) (c : ℕ) (row : List ℕ) (put : Carried W W′ c 
       fun-ext (λ i. fun-ext (λ j. by-line i j
       (λ li lj. line-in W′ i j li lj
       ∙ ap (λ (l : List word.Record). map (recordIn (registersIn W′)) l) (put .lines (i * 16 + j) (line-below i j li lj))
-      ∙ all-kept (registersIn W) (registersIn W′) c others-kept (lineOf W (i * 16 + j)) (let z = h i j in rw (line-in W i j li lj) at z)
+      ∙ all-kept (registersIn W) (registersIn W′) c others-kept (recordsOn W (i * 16 + j)) (let z = h i j in rw (line-in W i j li lj) at z)
       ∙ sym (line-in W i j li lj))
       (λ g. line-beyond W′ i j g ∙ sym (line-beyond W i j g))))
 

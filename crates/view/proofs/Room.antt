@@ -11,7 +11,7 @@ use Rattle.protocol.specs.Form.{bit}
 use Rattle.protocol.proofs.Tests.{by-test}
 use Rattle.protocol.proofs.Counting.{sum-ext, sum-add, sum-nil}
 use Rattle.lines.specs.declared.Record as word
-use Rattle.lines.specs.Lines.{lineOf, used, registersIn}
+use Rattle.lines.specs.Lines.{recordsOn, used, registersIn}
 use Rattle.view.specs.Records.{recordIn, linesIn}
 use Rattle.view.proofs.LinesView.{line-in}
 
@@ -30,10 +30,10 @@ sum-rows f (suc n) = let z = sum-rows f n in let y = sum-more f (n * 16) 16 in l
 pub used-view : (W : List ℕ) → used W ≡ onTheLines 16 (linesIn W)
 unfolding used
 used-view W =
-    sum-rows (λ k. length (lineOf W k)) 16
-    ∙ sum-ext 16 (λ i. sum 16 (λ j. length (lineOf W (i * 16 + j)))) (λ i. sum 16 (λ j. length (linesIn W i j)))
-    (λ i li. sum-ext 16 (λ j. length (lineOf W (i * 16 + j))) (λ j. length (linesIn W i j))
-    (λ j lj. sym (ap (λ (l : List Record). length l) (line-in W i j li lj) ∙ length-map (lineOf W (i * 16 + j)) (recordIn (registersIn W)))))
+    sum-rows (λ k. length (recordsOn W k)) 16
+    ∙ sum-ext 16 (λ i. sum 16 (λ j. length (recordsOn W (i * 16 + j)))) (λ i. sum 16 (λ j. length (linesIn W i j)))
+    (λ i li. sum-ext 16 (λ j. length (recordsOn W (i * 16 + j))) (λ j. length (linesIn W i j))
+    (λ j lj. sym (ap (λ (l : List Record). length l) (line-in W i j li lj) ∙ length-map (recordsOn W (i * 16 + j)) (recordIn (registersIn W)))))
 
 -- A RECORD IS PUT: as many more as lines are picked
 put-length : (on : ℕ → ℕ → Bool) (r : Record) (lines : ℕ → ℕ → List Record) (i j : ℕ) → length (put on r lines i j) ≡ length (lines i j) + bit (on i j)

@@ -8,7 +8,7 @@ use lib.Dec.{eqb, ltb}
 use Rattle.protocol.specs.Folds.{listOf}
 use Rattle.protocol.specs.Floor.{Record, multicast, ackList, delete, deregister, register}
 use Rattle.lines.specs.declared.Record as word
-use Rattle.lines.specs.Lines.{lineOf, registersIn}
+use Rattle.lines.specs.Lines.{recordsOn, registersIn}
 use Rattle.messages.specs.View.{Rooms}
 
 -- the parts of a record's word
@@ -41,7 +41,7 @@ recordIn rows r =
 
 -- the records on the line from i to j, head first
 unfoldable pub linesIn : List ℕ → ℕ → ℕ → List Record
-linesIn words i j = cond (ltb i 16 && ltb j 16) (map (recordIn (registersIn words)) (lineOf words (i * 16 + j))) []
+linesIn words i j = cond (ltb i 16 && ltb j 16) (map (recordIn (registersIn words)) (recordsOn words (i * 16 + j))) []
 
 -- is message n of s in room m
 abbrev pub isIn : Rooms → ℕ → ℕ → ℕ → Bool

@@ -12,7 +12,7 @@ use Rattle.carts.specs.View.{cartsIn, canonicalIn}
 use Rattle.messages.specs.View.{Rooms, roomsIn}
 use Rattle.messages.specs.Texts.{textIn}
 use Rattle.lines.specs.declared.Record as word
-use Rattle.lines.specs.Lines.{lineOf}
+use Rattle.lines.specs.Lines.{recordsOn}
 use Rattle.lines.specs.Form.{form}
 use Rattle.view.specs.Records.{linesIn, roomRight}
 
@@ -52,7 +52,7 @@ everyWord f (r ∷ l) = f r && everyWord f l
 
 -- every record on the line from i to j says its room right
 unfoldable pub lineRight : Lent → ℕ → ℕ → Bool
-lineRight L i j = everyWord (roomRight (roomsIn (L .messages)) i j) (lineOf (L .lines) (i * 16 + j))
+lineRight L i j = everyWord (roomRight (roomsIn (L .messages)) i j) (recordsOn (L .lines) (i * 16 + j))
 
 -- no text is longer than its part
 unfoldable pub shortText : Lent → ℕ → Bool

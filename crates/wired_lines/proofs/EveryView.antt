@@ -13,7 +13,7 @@ use Rattle.protocol.proofs.Tests.{by-test, clash, and-left, and-right, and-intr
 use Rattle.protocol.proofs.Counting.{sum-term}
 use Rattle.messages.specs.View.{roomsIn}
 use Rattle.lines.specs.declared.Record as word
-use Rattle.lines.specs.Lines.{lineOf, registersIn}
+use Rattle.lines.specs.Lines.{recordsOn, registersIn}
 use Rattle.view.specs.Records.{recordIn, linesIn, roomRight}
 use Rattle.view.specs.View.{lent}
 use Rattle.view.proofs.LinesView.{line-with, line-in, line-beyond, line-below, by-line, map-append}
@@ -30,7 +30,7 @@ is-picked n s j l = and-intro (eqb s s) (ltb j n) (eqb-self s) (lt-ltb j n l)
 -- records of a line, and one more at the end
 module _ (l l′ : List ℕ) (s n : ℕ) (r : word.Record) (ls : s < 16) (ln : n ≤ 16) (p : PushedToEvery l l′ s n r) where
   -- a line that is not picked
-  pub line-stays : (i j : ℕ) → i < 16 → j < 16 → toEvery n s i j ≡ false → lineOf l′ (i * 16 + j) ≡ lineOf l (i * 16 + j)
+  pub line-stays : (i j : ℕ) → i < 16 → j < 16 → toEvery n s i j ≡ false → recordsOn l′ (i * 16 + j) ≡ recordsOn l (i * 16 + j)
   line-stays i j li lj e =
       p .others (i * 16 + j) (line-below i j li lj)
       (λ k lk q. let same : i ≡ s = omega arith in let to : j ≡ k = omega arith in clash (toEvery n s i j) (rw (same, to) (is-picked n s k lk)) e)
@@ -42,13 +42,13 @@ module _ (l l′ : List ℕ) (s n : ℕ) (r : word.Record) (ls : s < 16) (ln : n
       fun-ext (λ i. fun-ext (λ j. by-line i j
       (λ li lj. by-test (toEvery n s i j)
       (λ e. rw e (line-with rows l′ i j (p .registers) li lj ∙ ap (λ (x : List word.Record). map (recordIn rows) x) (joined i j e)
-      ∙ map-append rows (lineOf l (i * 16 + j)) (r ∷ []) ∙ ap (λ (x : List Record). x ++ (recordIn rows r ∷ [])) (sym (line-in l i j li lj))))
+      ∙ map-append rows (recordsOn l (i * 16 + j)) (r ∷ []) ∙ ap (λ (x : List Record). x ++ (recordIn rows r ∷ [])) (sym (line-in l i j li lj))))
       (λ e. rw e (line-with rows l′ i j (p .registers) li lj ∙ ap (λ (x : List word.Record). map (recordIn rows) x) (line-stays i j li lj e) ∙ sym (line-in l i j li lj))))
       (λ h. by-test (toEvery n s i j)
       (λ e. let z = picked n s i j e in absurd (h (let a = z .0 in omega arith) (let b = z .1 in omega arith)))
       (λ e. rw e (line-beyond l′ i j h ∙ sym (line-beyond l i j h))))))
     where
-      joined : (i j : ℕ) → toEvery n s i j ≡ true → lineOf l′ (i * 16 + j) ≡ lineOf l (i * 16 + j) ++ (r ∷ [])
+      joined : (i j : ℕ) → toEvery n s i j ≡ true → recordsOn l′ (i * 16 + j) ≡ recordsOn l (i * 16 + j) ++ (r ∷ [])
       joined i j e = let z = picked n s i j e in rw (← z .0) (p .line j (z .1))
 
 -- THE WORDS LIE RIGHT AGAIN, when the record says its room right
@@ -63,7 +63,7 @@ module _ {P : Product} (S C M W T W′ : List ℕ) (X : Laid (lent P S C M W T))
         short = X .short;
         rooms = λ i j li lj. by-test (toEvery n s i j)
             (λ e. let z = picked n s i j e in
-            rw (← z .0) (rw (p .line j (z .1)) (words-append (roomRight (roomsIn M) s j) (lineOf W (s * 16 + j)) r (X .rooms s j ls lj) (right j (z .1)))))
+            rw (← z .0) (rw (p .line j (z .1)) (words-append (roomRight (roomsIn M) s j) (recordsOn W (s * 16 + j)) r (X .rooms s j ls lj) (right j (z .1)))))
             (λ e. rw (line-stays W W′ s n r ls ln p i j li lj e) (X .rooms i j li lj));
       }
 

@@ -18,7 +18,7 @@ use Rattle.stations.specs.View.{headIn, stationsIn}
 use Rattle.carts.specs.View.{cartsIn}
 use Rattle.messages.specs.View.{roomsIn}
 use Rattle.lines.specs.declared.Record as word
-use Rattle.lines.specs.Lines.{lineOf, used, registersIn}
+use Rattle.lines.specs.Lines.{recordsOn, used, registersIn}
 use Rattle.lines.specs.Words.{capacity}
 use Rattle.lines.specs.Post.{Popped}
 use Rattle.view.specs.Records.{kindOf, indexOf, numberOf, wordsOf, linesIn, roomRight}
@@ -37,7 +37,7 @@ use Rattle.wired_records.proofs.RoomFor.{room-popped}
 
 module _ {P : Product} (S C M W W₁ T : List ℕ) (X : Standing (lent P S C M W T)) (i j : ℕ)
     (from : i < headIn S .stations) (to : j < headIn S .stations) (said : word.Record) (rest : List word.Record)
-    (top : lineOf W (i * 16 + j) ≡ said ∷ rest) (kind : kindOf (said .0) ≡ 2) (popped : Popped W W₁ (i * 16 + j)) where
+    (top : recordsOn W (i * 16 + j) ≡ said ∷ rest) (kind : kindOf (said .0) ≡ 2) (popped : Popped W W₁ (i * 16 + j)) where
   abbrev L : Lent
   L = lent P S C M W T
 

@@ -14,7 +14,7 @@ use Rattle.stations.specs.View.{HasStation, headIn, stationsIn}
 use Rattle.messages.specs.View.{HasRoom, roomsIn}
 use Rattle.lines.specs.declared.Record as word
 use Rattle.lines.specs.Form.{form}
-use Rattle.lines.specs.Lines.{lineOf, used}
+use Rattle.lines.specs.Lines.{recordsOn, used}
 use Rattle.lines.specs.Words.{capacity}
 use Rattle.lines.specs.Post.{Popped}
 use Rattle.view.specs.Records.{kindOf, indexOf, numberOf}
@@ -26,7 +26,7 @@ use Rattle.wired_records.proofs.MulticastSets.{local-entered}
 use Rattle.wired_records.proofs.MulticastIs.{expected-below}
 
 module _ {P : Product} (S C M W W₁ T : List ℕ) (X : Standing (lent P S C M W T)) (i j : ℕ) (from : i < headIn S .stations) (to : j < headIn S .stations)
-    (said : word.Record) (rest : List word.Record) (top : lineOf W (i * 16 + j) ≡ said ∷ rest) (popped : Popped W W₁ (i * 16 + j)) where
+    (said : word.Record) (rest : List word.Record) (top : recordsOn W (i * 16 + j) ≡ said ∷ rest) (popped : Popped W W₁ (i * 16 + j)) where
   abbrev L : Lent
   L = lent P S C M W T
 

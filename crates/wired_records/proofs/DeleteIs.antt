@@ -18,7 +18,7 @@ use Rattle.stations.specs.View.{headIn, stationsIn}
 use Rattle.carts.specs.View.{cartsIn}
 use Rattle.messages.specs.View.{Rooms, roomsIn}
 use Rattle.lines.specs.declared.Record as word
-use Rattle.lines.specs.Lines.{lineOf}
+use Rattle.lines.specs.Lines.{recordsOn}
 use Rattle.lines.specs.Post.{Popped}
 use Rattle.view.specs.Records.{kindOf, indexOf, numberOf, linesIn}
 use Rattle.view.specs.View.{Lent, lent, textsIn, floorOf, floorIn}
@@ -32,7 +32,7 @@ use Rattle.wired_records.proofs.Head.{from-below, to-below, wire-is, wi
 
 module _ {P : Product} (S C M M′ W W₁ T : List ℕ) (X : Standing (lent P S C M W T)) (i j : ℕ)
     (from : i < headIn S .stations) (to : j < headIn S .stations) (said : word.Record) (rest : List word.Record)
-    (top : lineOf W (i * 16 + j) ≡ said ∷ rest) (kind : kindOf (said .0) ≡ 3) (popped : Popped W W₁ (i * 16 + j)) (deleted : Deleted M M′ (indexOf (said .0)) j) where
+    (top : recordsOn W (i * 16 + j) ≡ said ∷ rest) (kind : kindOf (said .0) ≡ 3) (popped : Popped W W₁ (i * 16 + j)) (deleted : Deleted M M′ (indexOf (said .0)) j) where
   abbrev L : Lent
   L = lent P S C M W T
 

@@ -18,7 +18,7 @@ use Rattle.protocol.proofs.Invariant.{Held}
 use Rattle.protocol.proofs.FormFacts.{room-of-held}
 use Rattle.messages.specs.View.{roomsIn}
 use Rattle.lines.specs.declared.Record as word
-use Rattle.lines.specs.Lines.{lineOf, registersIn}
+use Rattle.lines.specs.Lines.{recordsOn, registersIn}
 use Rattle.view.specs.Records.{kindOf, indexOf, numberOf, recordIn, isIn, roomRight}
 use Rattle.view.specs.View.{Lent, everyWord, floorIn}
 use Rattle.view.proofs.LinesView.{head-view}
@@ -43,7 +43,7 @@ module _ (L : Lent) (X : Standing L) (i j : ℕ) (from : i < floorIn L .stations
   pub to-below : j < 16
   to-below = let z = few-stations L X in omega arith
 
-  module _ (said : word.Record) (rest : List word.Record) (top : lineOf (L .lines) (i * 16 + j) ≡ said ∷ rest) where
+  module _ (said : word.Record) (rest : List word.Record) (top : recordsOn (L .lines) (i * 16 + j) ≡ said ∷ rest) where
     pub line-head : F .lines i j ≡ recordIn (registersIn (L .lines)) said ∷ map (recordIn (registersIn (L .lines))) rest
     line-head = head-view (L .lines) i j said rest from-below to-below top
 

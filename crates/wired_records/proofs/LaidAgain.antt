@@ -20,7 +20,7 @@ use Rattle.protocol.proofs.Theorems.{form-closed}
 use Rattle.messages.specs.View.{Rooms, roomsIn}
 use Rattle.messages.proofs.RoomLaws.{waiting-past}
 use Rattle.lines.specs.declared.Record as word
-use Rattle.lines.specs.Lines.{lineOf, registersIn}
+use Rattle.lines.specs.Lines.{recordsOn, registersIn}
 use Rattle.view.specs.Records.{kindOf, indexOf, numberOf, recordIn, linesIn, isIn, roomRight}
 use Rattle.view.specs.View.{Lent, everyWord, floorIn}
 use Rattle.view.proofs.LinesView.{line-in}
@@ -110,20 +110,20 @@ module _ (L : Lent) (X : Standing L) (e : Event) (M′ W′ : List ℕ) where
 
   pub rooms-again : F′ .waiting ≡ R′ .waiting → F′ .initiator ≡ R′ .initiator → F′ .number ≡ R′ .number → F′ .lines ≡ linesIn W′
       → ((m : ℕ) → eqb (R′ .waiting m) 0 ≡ false → Fewer R R′ m)
-      → ((i j : ℕ) → i < 16 → j < 16 → everyWord (roomRight R i j) (lineOf W′ (i * 16 + j)) ≡ true)
-      → (i j : ℕ) → i < 16 → j < 16 → everyWord (roomRight R′ i j) (lineOf W′ (i * 16 + j)) ≡ true
+      → ((i j : ℕ) → i < 16 → j < 16 → everyWord (roomRight R i j) (recordsOn W′ (i * 16 + j)) ≡ true)
+      → (i j : ℕ) → i < 16 → j < 16 → everyWord (roomRight R′ i j) (recordsOn W′ (i * 16 + j)) ≡ true
   rooms-again waiting initiator number lines fewer right i j li lj =
       let B = nothing-beyond L (X .lengths) (X .laid) in
       let after = form-closed (limitsOf (L .product)) F e B (X .passes) in
       let P = clauses-of (limitsOf (L .product)) F′ (after .1) in
       let facts : FormFacts (limitsOf (L .product)) F′ = form-of (limitsOf (L .product)) F′ (after .0) P in
       let whole = sized-of (limitsOf (L .product)) F′ (after .0) P in
-      let here : F′ .lines i j ≡ map (recordIn (registersIn W′)) (lineOf W′ (i * 16 + j)) = ap (λ (f : ℕ → ℕ → List Record). f i j) lines ∙ line-in W′ i j li lj in
-      let empty : (i < F′ .stations → j < F′ .stations → ⊥) → everyWord (roomRight R′ i j) (lineOf W′ (i * 16 + j)) ≡ true =
-      λ h. no-words (registersIn W′) (roomRight R′ i j) (lineOf W′ (i * 16 + j)) (sym here ∙ no-line (F′ .stations) (F′ .carts) i j (F′ .lines i j) (whole .lines i j) h) in
+      let here : F′ .lines i j ≡ map (recordIn (registersIn W′)) (recordsOn W′ (i * 16 + j)) = ap (λ (f : ℕ → ℕ → List Record). f i j) lines ∙ line-in W′ i j li lj in
+      let empty : (i < F′ .stations → j < F′ .stations → ⊥) → everyWord (roomRight R′ i j) (recordsOn W′ (i * 16 + j)) ≡ true =
+      λ h. no-words (registersIn W′) (roomRight R′ i j) (recordsOn W′ (i * 16 + j)) (sym here ∙ no-line (F′ .stations) (F′ .carts) i j (F′ .lines i j) (whole .lines i j) h) in
       by-lt i (F′ .stations)
       (λ a. by-lt j (F′ .stations)
-      (λ b. line-again (limitsOf (L .product)) R R′ (λ m k hm hk. X .facts .one-room m k (held m hm) (held k hk)) fewer (F′ .carts) (F′ .acked) (F′ .named) i j (registersIn W′) (lineOf W′ (i * 16 + j))
+      (λ b. line-again (limitsOf (L .product)) R R′ (λ m k hm hk. X .facts .one-room m k (held m hm) (held k hk)) fewer (F′ .carts) (F′ .acked) (F′ .named) i j (registersIn W′) (recordsOn W′ (i * 16 + j))
       (subst (λ (l : List Record). All (OfHeld (limitsOf (L .product)) (F′ .carts) (R′ .waiting) (R′ .initiator) (R′ .number) (F′ .acked) (F′ .named) i j) l) here
       (rw (waiting, initiator, number) at (facts .on-lines .records-held i j a b))) (right i j li lj))
       (λ b. empty (λ x y. omega arith)))

@@ -20,7 +20,7 @@ use Rattle.stations.specs.View.{Stations, headIn, stationsIn, withExpected, wit
 use Rattle.carts.specs.View.{cartsIn}
 use Rattle.messages.specs.View.{roomsIn}
 use Rattle.lines.specs.declared.Record as word
-use Rattle.lines.specs.Lines.{lineOf}
+use Rattle.lines.specs.Lines.{recordsOn}
 use Rattle.lines.specs.Post.{Popped}
 use Rattle.view.specs.Records.{kindOf, indexOf, numberOf, linesIn}
 use Rattle.view.specs.View.{Lent, lent, textsIn, floorOf, floorIn}
@@ -43,7 +43,7 @@ expected-below L X t s l =
 
 module _ {P : Product} (S S′ C C′ M W W₁ T : List ℕ) (X : Standing (lent P S C M W T)) (i j : ℕ)
     (from : i < headIn S .stations) (to : j < headIn S .stations) (said : word.Record) (rest : List word.Record)
-    (top : lineOf W (i * 16 + j) ≡ said ∷ rest) (kind : kindOf (said .0) ≡ 1) (popped : Popped W W₁ (i * 16 + j))
+    (top : recordsOn W (i * 16 + j) ≡ said ∷ rest) (kind : kindOf (said .0) ≡ 1) (popped : Popped W W₁ (i * 16 + j))
     (p : ℕ) (buffered : Buffered S S′ C C′ M (indexOf (said .0)) (numberOf (said .0)) i j p) where
   abbrev L : Lent
   L = lent P S C M W T

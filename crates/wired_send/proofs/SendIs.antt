@@ -24,7 +24,7 @@ use Rattle.messages.specs.View.{Rooms, roomsIn}
 use Rattle.messages.specs.View as messages
 use Rattle.messages.proofs.TextLaws.{texts-with}
 use Rattle.lines.specs.declared.Record as word
-use Rattle.lines.specs.Lines.{lineOf, registersIn}
+use Rattle.lines.specs.Lines.{recordsOn, registersIn}
 use Rattle.view.specs.Records.{kindOf, indexOf, numberOf, wordsOf, linesIn, isIn, roomRight}
 use Rattle.view.specs.View.{Lent, lent, everyWord, textsIn, floorOf, floorIn}
 use Rattle.view.proofs.Lengths.{Lengths, lengths-right}
@@ -119,10 +119,10 @@ module _ {P : Product} (S S′ C M M′ W W′ T T′ : List ℕ) (m s set : ℕ
       rw (sent .message .rooms)
       (on-update (λ (x : ℕ). x ≤ 32) (roomsIn M .length) m (length text) k (λ q. may .fits) (λ q. X .laid .short k l))
 
-  kept-right : (i j : ℕ) → i < 16 → j < 16 → everyWord (roomRight (roomsIn M′) i j) (lineOf W (i * 16 + j)) ≡ true
+  kept-right : (i j : ℕ) → i < 16 → j < 16 → everyWord (roomRight (roomsIn M′) i j) (recordsOn W (i * 16 + j)) ≡ true
   kept-right i j li lj =
       rw (sent .message .rooms)
-      (all-right (roomsIn M) m s number set (setOf n (λ t. true)) (length text) (may .free) i j (lineOf W (i * 16 + j)) (X .laid .rooms i j li lj))
+      (all-right (roomsIn M) m s number set (setOf n (λ t. true)) (length text) (may .free) i j (recordsOn W (i * 16 + j)) (X .laid .rooms i j li lj))
 
   new-right : (j : ℕ) → roomRight (roomsIn M′) s j (wordsOf 1 m number 0) ≡ true
   new-right j =

@@ -26,8 +26,8 @@ enum-known-answer-2 c = search needs
 report-of-requires : tie.Need-report-of-requires
 report-of-requires c κs = search needs
 
-octets-of-requires : tie.Need-octets-of-requires
-octets-of-requires c κs = search needs
+text-size-requires : tie.Need-text-size-requires
+text-size-requires c κs = search needs
 
 returns : tie.Need-returns
 returns c =
@@ -39,7 +39,7 @@ returns-2 : tie.Need-returns-2
 returns-2 c =
     let reported = c .before in
     let known = reported .before .before .answer2 in
-    ap₂ (λ (r : Report) (n : ℕ). record { «is_refused» = false; refusal = 0; report = r; size = n }) (reported .report-of .ensures) (c .octets-of .ensures) ∙ sym (ap toldOf (known .given .1))
+    ap₂ (λ (r : Report) (n : ℕ). record { «is_refused» = false; refusal = 0; report = r; size = n }) (reported .report-of .ensures) (c .text-size .ensures) ∙ sym (ap toldOf (known .given .1))
 
 pub told-of-spec : {M : Type 1} → statement M
-told-of-spec = tie.close (tie.spec enum-known-answer nothing-requires report-requires enum-known-answer-2 report-of-requires octets-of-requires returns returns-2)
+told-of-spec = tie.close (tie.spec enum-known-answer nothing-requires report-requires enum-known-answer-2 report-of-requires text-size-requires returns returns-2)

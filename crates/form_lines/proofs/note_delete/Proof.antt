@@ -8,7 +8,7 @@ use lib.Dec.{ltb}
 use borrow.Author.Tests.{not-true, not-false}
 use Rattle.protocol.specs.CartSets.{has}
 use Rattle.form_lines.specs.Said.{aDelete}
-use Rattle.form_lines.specs.Pass.{metSo, fresh, note}
+use Rattle.form_lines.specs.Pass.{notedSo, fresh, note}
 use Rattle.form_lines.specs.Ways.{metOf}
 use Rattle.form_lines.proofs.StepLaws.{off-first, off-second, on-both}
 use Rattle.form_lines.proofs.note_delete.Statement.{statement}
@@ -39,7 +39,7 @@ with-member-requires c κs = omega (arith, c .before .before .before .before .be
 
 returns-3 : tie.Need-returns-3
 unfolding fresh note
-returns-3 c = λ seen. on-both (c .before .before .before .before .before .before .args .right) (ltb (c .before .before .before .before .before .before .args .number) ((c .before .before .before .before .before .before .args .way) .next) && not (has ((c .before .before .before .before .before .before .args .way) .gone) (c .before .before .before .before .before .before .args .m))) (metOf (c .before .before .before .before .before .before .args .way) seen) (aDelete (c .before .before .before .before .before .before .args .m) (c .before .before .before .before .before .before .args .number)) (metSo ((c .before .before .before .before .before .before .args .way) .ok) ((c .before .before .before .before .before .before .args .way) .next) (c .with-member .result) ((c .before .before .before .before .before .before .args .way) .found) seen) (c .before .before .before .before .before .if1 .left) (sym (c .before .before .both .ensures ∙ ap (λ (y : Bool). ltb (c .before .before .before .before .before .before .args .number) ((c .before .before .before .before .before .before .args .way) .next) && not y) (c .before .before .before .before .has .ensures)) ∙ not-false (c .before .before .both .result) (c .before .if2 .left)) (ap (λ (y : ℕ). metSo ((c .before .before .before .before .before .before .args .way) .ok) ((c .before .before .before .before .before .before .args .way) .next) y ((c .before .before .before .before .before .before .args .way) .found) seen) (c .with-member .ensures))
+returns-3 c = λ seen. on-both (c .before .before .before .before .before .before .args .right) (ltb (c .before .before .before .before .before .before .args .number) ((c .before .before .before .before .before .before .args .way) .next) && not (has ((c .before .before .before .before .before .before .args .way) .gone) (c .before .before .before .before .before .before .args .m))) (metOf (c .before .before .before .before .before .before .args .way) seen) (aDelete (c .before .before .before .before .before .before .args .m) (c .before .before .before .before .before .before .args .number)) (notedSo ((c .before .before .before .before .before .before .args .way) .ok) ((c .before .before .before .before .before .before .args .way) .next) (c .with-member .result) ((c .before .before .before .before .before .before .args .way) .found) seen) (c .before .before .before .before .before .if1 .left) (sym (c .before .before .both .ensures ∙ ap (λ (y : Bool). ltb (c .before .before .before .before .before .before .args .number) ((c .before .before .before .before .before .before .args .way) .next) && not y) (c .before .before .before .before .has .ensures)) ∙ not-false (c .before .before .both .result) (c .before .if2 .left)) (ap (λ (y : ℕ). notedSo ((c .before .before .before .before .before .before .args .way) .ok) ((c .before .before .before .before .before .before .args .way) .next) y ((c .before .before .before .before .before .before .args .way) .found) seen) (c .with-member .ensures))
 
 pub note-delete-spec : {M : Type 1} → statement M
 note-delete-spec =

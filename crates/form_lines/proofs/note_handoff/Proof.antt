@@ -7,7 +7,7 @@ use native.Mathlib.Omega.{arith}
 use borrow.Author.Tests.{not-false}
 use Rattle.protocol.specs.CartSets.{has}
 use Rattle.form_lines.specs.Said.{aDeregister}
-use Rattle.form_lines.specs.Pass.{metSo, fresh, note}
+use Rattle.form_lines.specs.Pass.{notedSo, fresh, note}
 use Rattle.form_lines.specs.Ways.{metOf}
 use Rattle.form_lines.proofs.StepLaws.{off-first, off-second, on-both}
 use Rattle.form_lines.proofs.note_handoff.Statement.{statement}
@@ -35,7 +35,7 @@ with-member-requires c κs = omega (arith, c .before .before .before .pre (not-f
 
 returns-3 : tie.Need-returns-3
 unfolding fresh note
-returns-3 c = λ seen. on-both (c .before .before .before .before .args .right) (not (has ((c .before .before .before .before .args .way) .found) (c .before .before .before .before .args .cart))) (metOf (c .before .before .before .before .args .way) seen) (aDeregister (c .before .before .before .before .args .cart)) (metSo ((c .before .before .before .before .args .way) .ok) ((c .before .before .before .before .args .way) .next) ((c .before .before .before .before .args .way) .gone) (c .with-member .result) seen) (c .before .before .before .if1 .left) (ap not (sym (c .before .before .has .ensures) ∙ c .before .if2 .left)) (ap (λ (y : ℕ). metSo ((c .before .before .before .before .args .way) .ok) ((c .before .before .before .before .args .way) .next) ((c .before .before .before .before .args .way) .gone) y seen) (c .with-member .ensures))
+returns-3 c = λ seen. on-both (c .before .before .before .before .args .right) (not (has ((c .before .before .before .before .args .way) .found) (c .before .before .before .before .args .cart))) (metOf (c .before .before .before .before .args .way) seen) (aDeregister (c .before .before .before .before .args .cart)) (notedSo ((c .before .before .before .before .args .way) .ok) ((c .before .before .before .before .args .way) .next) ((c .before .before .before .before .args .way) .gone) (c .with-member .result) seen) (c .before .before .before .if1 .left) (ap not (sym (c .before .before .has .ensures) ∙ c .before .if2 .left)) (ap (λ (y : ℕ). notedSo ((c .before .before .before .before .args .way) .ok) ((c .before .before .before .before .args .way) .next) ((c .before .before .before .before .args .way) .gone) y seen) (c .with-member .ensures))
 
 pub note-handoff-spec : {M : Type 1} → statement M
 note-handoff-spec =

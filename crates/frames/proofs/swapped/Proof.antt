@@ -3,14 +3,14 @@ use mathlib.Core.Path.{_≡_, refl}
 use Prim.Native.Nat.{_-_, _*_, _^_, _≤_, _<_}
 use native.Mathlib.Omega.{arith}
 use Rattle.protocol.specs.Frames.{bigEndian}
-use Rattle.frames.specs.Decoded.{octetsOf}
+use Rattle.frames.specs.Decoded.{lowOctets}
 use Rattle.frames.proofs.Laws.{octet-turned, all-turned, few-fit, more-fit}
 use Rattle.frames.proofs.swapped.Statement.{statement}
 use Rattle.frames.proofs.swapped.Tie as tie
 
 abbrev Inv-loop : tie.InvT-loop
 Inv-loop word left₀ value₀ i₀ left value i =
-    (i ≤ 8) × (bigEndian value (octetsOf (8 - i) left) ≡ bigEndian 0 (octetsOf 8 word)) × (value < 2 ^ (8 * i))
+    (i ≤ 8) × (bigEndian value (lowOctets (8 - i) left) ≡ bigEndian 0 (lowOctets 8 word)) × (value < 2 ^ (8 * i))
 
 abbrev μ-loop : tie.MeasureT-loop
 μ-loop word left₀ value₀ i₀ left value i = 8 - i

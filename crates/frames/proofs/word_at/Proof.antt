@@ -3,13 +3,13 @@ use mathlib.Core.Path.{_≡_, refl}
 use Prim.Native.Nat.{_-_, _*_, _^_, _≤_, _<_}
 use native.Mathlib.Omega.{arith}
 use lib.ListN.{take, drop}
-use Rattle.frames.specs.Decoded.{octetsOf}
+use Rattle.frames.specs.Decoded.{lowOctets}
 use Rattle.frames.proofs.Laws.{none-read, octet-read, all-read, few-fit, more-fit}
 use Rattle.frames.proofs.word_at.Statement.{statement}
 use Rattle.frames.proofs.word_at.Tie as tie
 
 abbrev Inv-loop : tie.InvT-loop
-Inv-loop octets at value₀ i₀ value i = (i ≤ 8) × (octetsOf i value ≡ drop (8 - i) (take 8 (drop at octets))) × (value < 2 ^ (8 * i))
+Inv-loop octets at value₀ i₀ value i = (i ≤ 8) × (lowOctets i value ≡ drop (8 - i) (take 8 (drop at octets))) × (value < 2 ^ (8 * i))
 
 abbrev μ-loop : tie.MeasureT-loop
 μ-loop octets at value₀ i₀ value i = 8 - i
