@@ -55,14 +55,14 @@ fn handle(
     ensures { λ a. ⌜ ((P : Product) (W T : List ℕ) → TakenOff P (now (stations .entry)) (now (carts .entry)) (now (messages .entry)) W (now (lines .entry)) T (from .0) (to .0) said → Met (lent P (now (stations .entry)) (now (carts .entry)) (now (messages .entry)) W T) (lent P (now (stations .exit)) (now (carts .exit)) (now (messages .exit)) (now (lines .exit)) T) (wire (from .0) (to .0)) (answerIn a [])) ⌝ }
 {
     let kind = view::kind_of(said);
-    if kind <= 3 {
+    if kind <= view::DELETE {
         let number = MessageNumber(view::number_of(said));
-        if kind == 2 {
+        if kind == view::ACK_LIST {
             let n = stations::station_count(stations);
             let effect = wired_records::on_ack_list(messages, lines, said, to, n);
             return Answer::Accepted(Outcome::Acknowledged(number), effect);
         }
-        if kind == 3 {
+        if kind == view::DELETE {
             let effect = wired_records::on_delete(messages, said, to);
             return Answer::Accepted(Outcome::Deleted(number), effect);
         }
@@ -70,7 +70,7 @@ fn handle(
         return Answer::Accepted(Outcome::Buffered(number), effect);
     }
     let cart = CartNumber(view::index_of(said));
-    if kind == 4 {
+    if kind == view::DEREGISTER {
         let effect = handoff::on_deregister(stations, carts, lines, cart, to, from);
         return Answer::Accepted(Outcome::Deregistered(cart), effect);
     }

@@ -178,11 +178,11 @@ fn is_right(
     let index = view::index_of(r);
     let number = view::number_of(r);
     match kind {
-        1 => multicast_right(messages, i, j, index, number),
-        2 => ack_list_right(messages, k, j, index, number, r.1),
-        3 => delete_right(messages, i, j, index, number),
-        4 => deregister_right(carts, k, i, j, index),
-        5 => register_right(carts, lines, k, i, j, index),
+        view::MULTICAST => multicast_right(messages, i, j, index, number),
+        view::ACK_LIST => ack_list_right(messages, k, j, index, number, r.1),
+        view::DELETE => delete_right(messages, i, j, index, number),
+        view::DEREGISTER => deregister_right(carts, k, i, j, index),
+        view::REGISTER => register_right(carts, lines, k, i, j, index),
         _ => false,
     }
 }
@@ -294,11 +294,11 @@ fn take(masks: &mut [u64], way: Way, right: bool, r: Record) -> Way
     let index = view::index_of(r);
     let number = view::number_of(r);
     match kind {
-        1 => note_multicast(way, right, index, number),
-        2 => note_ack_list(masks, way, right, index, r.1),
-        3 => note_delete(way, right, index, number),
-        4 => note_handoff(way, right, index),
-        5 => note_handoff(way, right, index),
+        view::MULTICAST => note_multicast(way, right, index, number),
+        view::ACK_LIST => note_ack_list(masks, way, right, index, r.1),
+        view::DELETE => note_delete(way, right, index, number),
+        view::DEREGISTER => note_handoff(way, right, index),
+        view::REGISTER => note_handoff(way, right, index),
         _ => failed(way),
     }
 }

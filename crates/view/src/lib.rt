@@ -12,15 +12,16 @@ const INDEX: u64 = 8;
 
 const NUMBER: u64 = 2048;
 
-const MULTICAST: u64 = 1;
+// The kinds: those of a message, and from DEREGISTER on those of a cart.
+pub const MULTICAST: u64 = 1;
 
-const ACK_LIST: u64 = 2;
+pub const ACK_LIST: u64 = 2;
 
-const DELETE: u64 = 3;
+pub const DELETE: u64 = 3;
 
-const DEREGISTER: u64 = 4;
+pub const DEREGISTER: u64 = 4;
 
-const REGISTER: u64 = 5;
+pub const REGISTER: u64 = 5;
 
 // The word of these parts.
 fn word_of(kind: u64, index: u64, number: u64) -> u64
