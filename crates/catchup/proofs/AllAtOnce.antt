@@ -12,7 +12,7 @@ use Rattle.protocol.specs.Folds.{sum}
 use Rattle.protocol.specs.CartSets.{has}
 use Rattle.protocol.specs.Floor.{Limits, Floor}
 use Rattle.protocol.specs.Handoff.{Stop, catchUpStop}
-use Rattle.protocol.proofs.Tests.{by-test, by-lt, by-eq, same-test, clash, and-left, and-right}
+use Rattle.protocol.proofs.Tests.{by-test, by-lt, by-eq, same-test, clash, and-left, and-right, or-none}
 use Rattle.protocol.proofs.Counting.{sum-ext}
 use Rattle.protocol.proofs.CatchUp.{foundIs}
 use Rattle.stations.specs.View.{Stations}
@@ -59,13 +59,9 @@ module _ (F : Floor) (t c : ℕ) (row nearest : List ℕ) (is-nearest : nearest 
       (λ z. rw (occurs-once n (omega arith) m, z, le-ltb n n (omega arith), lt-ltb n (suc n) (omega arith)))
       (λ z. let no : isFound (roomIn (getD nearest n 0)) m ≡ false =
       by-test (isFound (roomIn (getD nearest n 0)) m) (λ e. absurd (z (found-would n (omega arith) m e .is-initiator))) (λ e. e) in
-      ap₂ _||_ (occurs-once n (omega arith) m) no ∙ or-no (ltb (F .initiator m) n && isFound (roomIn (getD nearest (F .initiator m) 0)) m)
+      ap₂ _||_ (occurs-once n (omega arith) m) no ∙ or-none (ltb (F .initiator m) n && isFound (roomIn (getD nearest (F .initiator m) 0)) m)
       ∙ ap (λ (b : Bool). b && isFound (roomIn (getD nearest (F .initiator m) 0)) m) (one-more (F .initiator m) n z))
     where
-      or-no : (a : Bool) → a || false ≡ a
-      or-no true = refl
-      or-no false = refl
-
       one-more : (i n : ℕ) → (i ≡ n → ⊥) → ltb i n ≡ ltb i (suc n)
       one-more i n d =
           by-lt i n (λ l. lt-ltb i n l ∙ sym (lt-ltb i (suc n) (omega arith))) (λ l. le-ltb i n l ∙ sym (le-ltb i (suc n) (by-eq i n (λ q. absurd (d q)) (λ q. omega arith))))

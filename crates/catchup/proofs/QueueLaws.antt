@@ -3,17 +3,15 @@ use mathlib.Core.Path.{_≡_, refl, sym, ap, _∙_, fun-ext}
 use mathlib.Core.Bool.{Bool, true, false, cond, _&&_, _||_}
 use mathlib.Core.List.{List}
 use mathlib.Core.Option.{Option, some}
-use Prim.Native.Nat.{ℕ, zero, suc, _+_, _<_, _≤_, _^_}
-use native.Mathlib.Nat.{pow-suc}
+use Prim.Native.Nat.{ℕ, zero, suc, _+_, _<_, _≤_}
 use native.Mathlib.Numerals.{add-one}
 use native.Mathlib.Omega.{arith}
 use lib.Dec.{eqb, ltb}
 use lib.ListN.{getD}
-use lib.Pow.{pow-mono}
 use borrow.Author.Tests.{eqb-true, ne-eqb, lt-ltb, le-ltb}
 use Rattle.protocol.specs.CartSets.{has, with}
-use Rattle.protocol.proofs.Tests.{by-test, by-lt, by-eq, clash, and-false, or-right, eqb-self}
-use Rattle.protocol.proofs.SetLaws.{has-with, with-lt, same-members}
+use Rattle.protocol.proofs.Tests.{by-test, by-lt, by-eq, clash, and-false, or-right, or-none, eqb-self}
+use Rattle.protocol.proofs.SetLaws.{has-with, same-sets}
 use Rattle.sets.proofs.Walk.{nothing-between}
 use Rattle.stations.specs.View.{Stations, withQueue}
 use Rattle.messages.specs.View.{Rooms}
@@ -23,25 +21,13 @@ use Rattle.catchup.specs.Arrival.{isFound, occurs, OwnRooms, queuedFor}
 
 -- A CART IS QUEUED ONCE
 
-below-power : (n : ℕ) → n < 2 ^ n
-below-power zero = omega arith
-below-power (suc n) = rw (pow-suc 2 n) (let z = below-power n in omega arith)
-
 or-twice : (a b : Bool) → ((a || b) || b) ≡ (a || b)
 or-twice true b = refl
 or-twice false true = refl
 or-twice false false = refl
 
 with-twice : (x c : ℕ) → with (with x c) c ≡ with x c
-with-twice x c =
-    same-members (x + suc c) (with (with x c) c) (with x c) (with-lt (x + suc c) (with x c) c once (omega arith)) once
-    (λ d l. rw (has-with (with x c) c d, has-with x c d) (or-twice (has x d) (eqb c d)))
-  where
-    small : x < 2 ^ (x + suc c)
-    small = let a = below-power x in let b : 2 ^ x ≤ 2 ^ (x + suc c) = pow-mono (omega arith) in omega arith
-
-    once : with x c < 2 ^ (x + suc c)
-    once = with-lt (x + suc c) x c small (omega arith)
+with-twice x c = same-sets (with (with x c) c) (with x c) (λ d. rw (has-with (with x c) c d, has-with x c d) (or-twice (has x d) (eqb c d)))
 
 -- QUEUED FOR WHAT PASSES
 
@@ -138,11 +124,7 @@ module _ (S : Stations) (t c : ℕ) (nearest : List ℕ) where
       → U ≡ queuedFor S t c (saidTo nearest (m + 1))
   queued-one m y e f =
       f ∙ ap (λ (X : Stations). queuedFor X t c (isFound (some m))) e ∙ queued-twice S t c (saidTo nearest m) (isFound (some m))
-      ∙ ap (queuedFor S t c) (one-more nearest m (λ k. saidTo nearest m k || eqb k m) (λ k d. rw (ne-eqb k m d) (or-false′ (saidTo nearest m k))) (or-right (saidTo nearest m m) (eqb m m) (eqb-self m) ∙ sym y))
-    where
-      or-false′ : (a : Bool) → (a || false) ≡ a
-      or-false′ true = refl
-      or-false′ false = refl
+      ∙ ap (queuedFor S t c) (one-more nearest m (λ k. saidTo nearest m k || eqb k m) (λ k d. rw (ne-eqb k m d) (or-none (saidTo nearest m k))) (or-right (saidTo nearest m m) (eqb m m) (eqb-self m) ∙ sym y))
 
   -- the rooms that a walk skips
   pub queued-skips : (a b : ℕ) {T : Stations} → a ≤ b → ((m : ℕ) → a ≤ m → m < b → occurs nearest 16 m ≡ false) → T ≡ queuedFor S t c (saidTo nearest a) → T ≡ queuedFor S t c (saidTo nearest b)

@@ -1,6 +1,6 @@
 -- The copies of a held message.
 use mathlib.Core.Path.{_≡_, refl, sym, ap, ap₂, _∙_}
-use mathlib.Core.Bool.{Bool, true, false, not, _&&_, _||_}
+use mathlib.Core.Bool.{Bool, true, false, not, _&&_}
 use mathlib.Core.List.{List}
 use mathlib.Core.Logic.{_⊎_, inl, inr, ⊎-elim}
 use mathlib.Core.Option.{some}
@@ -11,15 +11,16 @@ use borrow.Author.Tests.{not-true, lt-ltb, le-ltb}
 use Rattle.protocol.specs.CartSets.{has, union, minus}
 use Rattle.protocol.specs.Floor.{Floor, isHeld}
 use Rattle.protocol.specs.Claims.{Claim, True, test, all, is}
-use Rattle.protocol.proofs.Tests.{by-test, by-lt, by-eq, clash, and-left, and-right, and-intro, or-right, or-cases}
-use Rattle.protocol.proofs.SetLaws.{has-zero, has-union, has-minus}
+use Rattle.protocol.proofs.Tests.{by-test, by-lt, clash, and-left, and-right, and-intro}
+use Rattle.protocol.proofs.SetLaws.{has-zero, has-minus}
 use Rattle.stations.specs.View.{stationsIn}
 use Rattle.stations.proofs.TableLaws as table
 use Rattle.sets.specs.Masks.{least}
 use Rattle.sets.proofs.MaskLaws.{Lowest, least-lowest}
 use Rattle.form_tables.specs.Tables.{copyNamed, copiesRule}
-use Rattle.form_tables.specs.Parts.{missingAt}
+use Rattle.form_tables.specs.Parts.{missingAt, Collects}
 use Rattle.form_tables.proofs.Answers.{yes, no, same-answer, one-more}
+use Rattle.form_tables.proofs.Sets.{collect-none, collect-more}
 use Rattle.form_tables.proofs.Names.{free-not}
 use Rattle.form_tables.proofs.Walks.{over, nextAbove}
 
@@ -86,30 +87,13 @@ module _ (F : Floor) (m : ℕ) where
   -- the set x has those missing at the stations below t
   pub record Missing (t x : ℕ) : Type 0 where
     pub named : True (all t (copyNamed F m))
-    pub had : (u c : ℕ) → u < t → has (missingAt F m u) c ≡ true → has x c ≡ true
-    pub of : (c : ℕ) → has x c ≡ true → (u : ℕ) × (u < t) × (has (missingAt F m u) c ≡ true)
+    pub those : Collects (missingAt F m) t x
 
   pub missing-start : Missing 0 0
-  missing-start = record { named = λ k l. absurd (omega arith); had = λ u c l e. absurd (omega arith); of = λ c e. clash (has 0 c) e (has-zero c) }
+  missing-start = record { named = λ k l. absurd (omega arith); those = collect-none (missingAt F m) }
 
   pub missing-more : (t x y z : ℕ) → Missing t x → True (copyNamed F m t) → y ≡ missingAt F m t → z ≡ union x y → Missing (t + 1) z
-  missing-more t x y z X a e g =
-      record {
-        named = one-more (copyNamed F m) t (X .named) a;
-        had = λ u c l q. joined c ∙ by-eq u t
-            (λ w. or-right (has x c) (has y c) (ap (λ (v : ℕ). has v c) e ∙ (rw w at q)))
-            (λ w. or-left (has x c) (has y c) (X .had u c (omega arith) q));
-        of = λ c q. or-cases (has x c) (has y c) (sym (joined c) ∙ q)
-            (λ w. let v = X .of c w in (v .0, omega (arith, v .1), v .2))
-            (λ w. (t, omega arith, ap (λ (v : ℕ). has v c) (sym e) ∙ w));
-      }
-    where
-      joined : (c : ℕ) → has z c ≡ (has x c || has y c)
-      joined c = ap (λ (v : ℕ). has v c) g ∙ has-union x y c
-
-      or-left : (a b : Bool) → a ≡ true → (a || b) ≡ true
-      or-left true b p = refl
-      or-left false b p = clash false p refl
+  missing-more t x y z X a e g = record { named = one-more (copyNamed F m) t (X .named) a; those = collect-more (missingAt F m) t x y z (X .those) e g }
 
 -- THE COPIES of one message
 module _ (F : Floor) (m : ℕ) where
@@ -132,7 +116,7 @@ module _ (F : Floor) (m : ℕ) where
         (λ w. (
           X .named u w,
           λ g c lc a b. by-test (has (F .copy m u) c) (λ z. z)
-              (λ z. absurd (let y = p c (omega arith) (X .had u c w (missing-one F m u c g a z)) in let v = ap (F .next c) es in omega arith)),
+              (λ z. absurd (let y = p c (omega arith) (X .those .had u c w (missing-one F m u c g a z)) in let v = ap (F .next c) es in omega arith)),
         ))
         (λ w. ((λ c lc a. clash (has (F .copy m u) c) a (ap (λ (y : ℕ). has y c) (no-copy u w) ∙ has-zero c)), λ g. absurd (omega (arith, none-come u (F .initiator m) w))))
         (inside u l)
@@ -140,7 +124,7 @@ module _ (F : Floor) (m : ℕ) where
     missing : True (copiesRule F m) → True (over k x (nextAbove (F .next) s n))
     missing p c l q =
         by-lt n (F .next c s) (λ z. z)
-        (λ z. let w = X .of c q in
+        (λ z. let w = X .those .of c q in
         let y = one-missing F m (w .0) c (w .2) in
         let v = ap (F .next c) es in
         let lower = w .1 in

@@ -10,9 +10,9 @@ use lib.Pow.{pow-mono}
 use lib.Seq.{getD-set-same, getD-set-other}
 use borrow.Author.Tests.{eqb-true, eq-eqb, ne-eqb}
 use Rattle.protocol.specs.Floor.{wholeFloor, Place, outside, at, leaving, travelling, localTo}
-use Rattle.protocol.specs.CartSets.{has, with, setOf}
-use Rattle.protocol.proofs.Tests.{by-eq, by-lt, by-test, eqb-self}
-use Rattle.protocol.proofs.SetLaws.{setOf-suc, setOf-lt, has-setOf, member-below, same-members}
+use Rattle.protocol.specs.CartSets.{with, setOf}
+use Rattle.protocol.proofs.Tests.{by-eq, by-lt, eqb-self}
+use Rattle.protocol.proofs.SetLaws.{setOf-suc, setOf-lt, setOf-beyond, has-setOf, same-members}
 use Rattle.stations.specs.View.{stationsIn}
 use Rattle.carts.specs.View.{cartsIn}
 use Rattle.view.specs.View.{lent, localRight}
@@ -67,13 +67,11 @@ pub locals-all : (C : List ℕ) (k : ℕ) → length C ≡ k * 19 → k ≤ 64 �
     → setOf k (λ d. localTo (cartsIn C .place d) t) ≡ setOf 64 (λ d. localTo (cartsIn C .place d) t)
 locals-all C k e h t =
     let f : ℕ → Bool = λ d. localTo (cartsIn C .place d) t in
-    let low = setOf-lt k f in
     let wide : 2 ^ k ≤ 2 ^ 64 = pow-mono h in
-    same-members 64 (setOf k f) (setOf 64 f) (omega arith) (setOf-lt 64 f)
+    same-members 64 (setOf k f) (setOf 64 f) (let low = setOf-lt k f in omega arith) (setOf-lt 64 f)
     (λ d l. by-lt d k
     (λ b. has-setOf k f d b ∙ sym (has-setOf 64 f d l))
-    (λ b. by-test (has (setOf k f) d) (λ q. absurd (let z = member-below k (setOf k f) d low q in omega arith))
-    (λ q. q ∙ sym (has-setOf 64 f d l ∙ ap (λ (p : Place). localTo p t) (place-past C d (omega arith))))))
+    (λ b. setOf-beyond k f d b ∙ sym (has-setOf 64 f d l ∙ ap (λ (p : Place). localTo p t) (place-past C d (omega arith)))))
 
 -- the mask that a station keeps is right just when it is the one that the pass made
 pub mask-right : (S C : List ℕ) (t kept made : ℕ) → kept ≡ stationsIn S .local t → made ≡ setOf 64 (λ c. localTo (cartsIn C .place c) t)

@@ -9,7 +9,7 @@ use Rattle.protocol.specs.CartSets.{has, setOf}
 use Rattle.protocol.specs.Floor.{Floor, isHeld, isMessage}
 use Rattle.protocol.specs.Claims.{Claim, True, test, all, when, is, eq}
 use Rattle.protocol.proofs.Tests.{by-test, by-lt, by-eq, clash, and-left, and-right, and-intro, same-test}
-use Rattle.protocol.proofs.SetLaws.{has-setOf, setOf-lt, member-below}
+use Rattle.protocol.proofs.SetLaws.{has-setOf, setOf-lt, no-member, member-below}
 use Rattle.protocol.proofs.ClaimLaws.{reflect}
 use Rattle.sets.specs.Masks.{within}
 use Rattle.sets.proofs.MaskLaws.{within-has, has-within}
@@ -82,7 +82,7 @@ module _ (n waiting acked named : ℕ) where
 
   pub delete-many : waiting < 2 ^ 64 → 64 < n → (acked ≡ named → ⊥) → false ≡ test whole
   delete-many word l d =
-      no whole (λ h. d (h 64 l (by-test (has waiting 64) (λ e. absurd (let z = member-below 64 waiting 64 word e in omega arith)) (λ e. ap not e))))
+      no whole (λ h. d (h 64 l (ap not (no-member 64 waiting 64 word (omega arith)))))
 
   pub delete-within : n ≤ 64 → (acked ≡ named → ⊥) → (r : Bool) (a : ℕ) → a ≡ setOf n (λ c. true) → r ≡ within 64 a waiting → r ≡ test whole
   delete-within l d r a e g =

@@ -6,7 +6,7 @@ use native.Mathlib.Omega.{arith}
 use lib.Dec.{ltb}
 use borrow.Author.Tests.{ltb-true, ltb-false, not-true}
 use Rattle.protocol.specs.Floor.{Floor, Place, outside, at, leaving, travelling, limits, entered}
-use Rattle.protocol.specs.Claims.{Claim, True, test, all, both, lt, le, eq}
+use Rattle.protocol.specs.Claims.{Claim, True, test, all, both, when, lt, le, eq}
 use Rattle.protocol.specs.Form.{placeInside, cartRule}
 use Rattle.protocol.proofs.Tests.{by-test, clash}
 use Rattle.form_tables.proofs.Answers.{yes, no, same-answer}
@@ -33,8 +33,9 @@ module _ (F : Floor) (p : Place) where
 
 -- A CART'S RULE, by whether it has entered
 module _ (F : Floor) (c : ℕ) where
+  -- from the first initiator on
   abbrev blank : Claim
-  blank = all 16 (λ s. eq (F .next c s) 0)
+  blank = all 16 (λ s. when (le 0 s) (eq (F .next c s) 0))
 
   abbrev below : Claim
   below = all 16 (λ s. le (F .next c s) (F .sent s))
@@ -49,8 +50,8 @@ module _ (F : Floor) (c : ℕ) where
   pub cart-outside : (r : Bool) → entered (F .place c) ≡ false → r ≡ test blank → r ≡ test (cartRule limits F c)
   cart-outside r e g =
       g ∙ same-answer blank (cartRule limits F c)
-      (λ h. (not-entered (F .place c) e, ((λ q. clash (entered (F .place c)) q e), ((λ q. h), (λ s l. omega (arith, h s l))))))
-      (λ h. h .1 .1 .0 (rw e))
+      (λ h. (not-entered (F .place c) e, ((λ q. clash (entered (F .place c)) q e), ((λ q s l. h s l (omega arith)), (λ s l. omega (arith, h s l (omega arith)))))))
+      (λ h s l z. h .1 .1 .0 (rw e) s l)
 
   -- a cart that is not on the floor has not entered
   pub cart-beyond : entered (F .place c) ≡ true → F .carts ≤ c → false ≡ test (cartRule limits F c)

@@ -1,27 +1,26 @@
 -- The entries of a room at the stations: its sets, and the queued carts.
-use mathlib.Core.Path.{_≡_, refl, sym, ap, ap₂, _∙_}
+use mathlib.Core.Path.{_≡_, sym, ap, ap₂, _∙_}
 use mathlib.Core.Bool.{Bool, true, false, not, _||_}
 use mathlib.Core.List.{List, []}
-use Prim.Native.Nat.{ℕ, zero, suc, _+_, _^_, _<_}
+use Prim.Native.Nat.{ℕ, _+_, _^_, _<_}
 use native.Mathlib.Omega.{arith}
-use lib.Pow.{pow-pos, pow-mono, pow-lt}
 use borrow.Author.Tests.{not-true, eqb-true}
 use Rattle.protocol.specs.CartSets.{has, union, minus, setOf}
 use Rattle.protocol.specs.Floor.{wholeFloor, Floor, limits, isHeld, localTo}
 use Rattle.protocol.specs.Claims.{Claim, True, test, all, both, when, is, eq}
 use Rattle.protocol.specs.Form.{entryRule}
-use Rattle.protocol.proofs.Tests.{by-test, by-lt, by-eq, clash, and-left, and-right, and-intro, or-right, or-cases}
-use Rattle.protocol.proofs.SetLaws.{has-zero, has-union, has-minus, has-setOf, setOf-lt, member-below, same-members, some-member}
+use Rattle.protocol.proofs.Tests.{by-test, by-lt, clash, and-left, and-right, and-intro, or-left, or-right, or-cases}
+use Rattle.protocol.proofs.SetLaws.{has-zero, has-union, has-minus, has-setOf, setOf-lt, member-below, setOf-beyond, same-sets, some-member}
 use Rattle.stations.specs.View.{Stations, stationsIn}
 use Rattle.carts.specs.View.{cartsIn}
 use Rattle.sets.specs.Masks.{within}
 use Rattle.sets.proofs.MaskLaws.{within-has, has-within}
 use Rattle.view.specs.View.{lent, localRight}
 use Rattle.form_tables.specs.Tables.{tables}
-use Rattle.form_tables.specs.Parts.{mostOf, Collects, Entries}
+use Rattle.form_tables.specs.Parts.{mostOf, Entries}
 use Rattle.form_tables.proofs.Answers.{yes, no, same-answer}
 use Rattle.form_tables.proofs.Names.{free-not}
-use Rattle.form_tables.proofs.Sets.{most-within}
+use Rattle.form_tables.proofs.Sets.{most-within, collect-none, collect-more}
 
 -- what the mask of a station says
 pub local-mask : (S C : List ℕ) (t : ℕ) → localRight (lent wholeFloor S C [] [] []) t ≡ true → stationsIn S .local t ≡ setOf 64 (λ c. localTo (cartsIn C .place c) t)
@@ -29,47 +28,12 @@ unfolding localRight
 local-mask S C t e = eqb-true (stationsIn S .local t) (setOf 64 (λ c. localTo (cartsIn C .place c) t)) e
 
 -- A SET WHOSE MEMBERS ARE BELOW n is below 2^n
-below-pow : (n : ℕ) → n < 2 ^ n
-below-pow zero = pow-pos 0
-below-pow (suc n) = let h = below-pow n in let g = pow-lt {i = n} {j = suc n} (omega arith) in omega arith
-
 members-lt : (n x : ℕ) → ((c : ℕ) → has x c ≡ true → c < n) → x < 2 ^ n
 members-lt n x h =
-    let y = setOf n (has x) in
-    let ly = setOf-lt n (has x) in
-    let w = pow-mono {i = n} {j = x + n} (omega arith) in
-    let v = pow-mono {i = x} {j = x + n} (omega arith) in
-    let b = below-pow x in
-    let e : x ≡ y = same-members (x + n) x y (omega arith) (omega arith) (λ c l. by-lt c n
+    let e : x ≡ setOf n (has x) = same-sets x (setOf n (has x)) (λ c. by-lt c n
     (λ k. sym (has-setOf n (has x) c k))
-    (λ k. none (has x c) (λ q. let z = h c q in omega arith) ∙ sym (none (has y c) (λ q. let z = member-below n y c ly q in omega arith)))) in
-    omega arith
-  where
-    none : (b : Bool) → (b ≡ true → ⊥) → b ≡ false
-    none true f = absurd (f refl)
-    none false f = refl
-
--- COLLECTING one more
-or-left : (a b : Bool) → a ≡ true → (a || b) ≡ true
-or-left true b p = refl
-or-left false b p = clash false p refl
-
-collect-none : (f : ℕ → ℕ) → Collects f 0 0
-collect-none f = record { had = λ u c l e. absurd (omega arith); of = λ c e. clash (has 0 c) e (has-zero c) }
-
-collect-more : (f : ℕ → ℕ) (t x y z : ℕ) → Collects f t x → y ≡ f t → z ≡ union x y → Collects f (t + 1) z
-collect-more f t x y z X e g =
-    record {
-      had = λ u c l q. joined c ∙ by-eq u t
-          (λ w. or-right (has x c) (has y c) (ap (λ (v : ℕ). has v c) e ∙ (rw w at q)))
-          (λ w. or-left (has x c) (has y c) (X .had u c (omega arith) q));
-      of = λ c q. or-cases (has x c) (has y c) (sym (joined c) ∙ q)
-          (λ w. let v = X .of c w in (v .0, omega (arith, v .1), v .2))
-          (λ w. (t, omega arith, ap (λ (v : ℕ). has v c) (sym e) ∙ w));
-    }
-  where
-    joined : (c : ℕ) → has z c ≡ (has x c || has y c)
-    joined c = ap (λ (v : ℕ). has v c) g ∙ has-union x y c
+    (λ k. by-test (has x c) (λ q. absurd (let z = h c q in omega arith)) (λ q. q) ∙ sym (setOf-beyond n (has x) c k))) in
+    let z = setOf-lt n (has x) in omega arith
 
 pub entries-none : (S : Stations) (m : ℕ) → Entries S m 0 0 0 0
 entries-none S m = record { all = collect-none (λ u. union (S .copy m u) (union (S .acks m u) (S .queue m u))); queue = collect-none (S .queue m); away = collect-none (λ u. minus (S .queue m u) (S .local u)) }

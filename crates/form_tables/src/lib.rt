@@ -196,21 +196,6 @@ fn has_entered(place: Place) -> bool
     }
 }
 
-// A cart that has not entered: its next numbers are 0.
-fn row_blank(carts: &[u64], number: CartNumber) -> bool
-    requires { ⌜ HasRow (now carts) (number .0) ⌝ }
-    ensures { λ r. ⌜ r ≡ test (all 16 (λ s. eq (cartsIn (now (carts .entry)) .next (number .0) s) 0)) ⌝ }
-{
-    let mut s: u64 = 0;
-    while s < 16 {
-        if 0 < carts::next_of(carts, number, Station(s)) {
-            return false;
-        }
-        s += 1;
-    }
-    true
-}
-
 // Of the initiators from n on, which have no row, the cart's next numbers are 0.
 fn row_ends(carts: &[u64], number: CartNumber, n: u64) -> bool
     requires { ⌜ HasRow (now carts) (number .0) × (n ≤ 16) ⌝ }
@@ -249,7 +234,7 @@ fn cart_ok(stations: &[u64], carts: &[u64], number: CartNumber, n: u64) -> bool
 {
     let place = carts::place_of(carts, number);
     if !has_entered(place) {
-        return row_blank(carts, number);
+        return row_ends(carts, number, 0);
     }
     if stations::cart_count(stations) <= number.0 {
         return false;

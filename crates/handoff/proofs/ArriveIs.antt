@@ -2,7 +2,7 @@
 use mathlib.Core.Path.{_≡_, refl, sym, ap, _∙_, fun-ext}
 use mathlib.Core.Bool.{Bool, true, false, cond, _&&_, not}
 use mathlib.Core.List.{List}
-use Prim.Native.Nat.{ℕ, zero, suc, _+_, _-_, _<_, _≤_}
+use Prim.Native.Nat.{ℕ, _+_, _-_, _<_, _≤_}
 use native.Mathlib.Omega.{arith}
 use lib.Dec.{eqb, ltb}
 use lib.ListN.{getD}
@@ -24,6 +24,7 @@ use Rattle.carts.specs.Words.{HasRow}
 use Rattle.carts.specs.View.{cartsIn, canonicalIn}
 use Rattle.messages.specs.View.{Rooms, roomsIn}
 use Rattle.view.specs.View.{Lent, lent, textsIn, floorOf, floorIn}
+use Rattle.view.proofs.Room.{sum-less}
 use Rattle.view.proofs.Laid.{Laid, local-stays, local-joins, laid-carts}
 use Rattle.view.proofs.Standing.{Standing, few-stations, few-carts}
 use Rattle.queue.specs.Rooms.{tablesFloor, roomCount, HasRooms}
@@ -33,17 +34,6 @@ use Rattle.catchup.proofs.Stops.{Agree, NoneBeyond}
 use Rattle.catchup.proofs.AllAtOnce.{all-raised, all-passed, all-queued, own-rooms}
 use Rattle.handoff.specs.Struck.{isPassed, struckFrom}
 use Rattle.handoff.specs.Arrived.{joined, Arrived}
-
--- a sum of which the last terms are 0
-sum-ends : (n k : ℕ) (f : ℕ → ℕ) → ((s : ℕ) → n ≤ s → f s ≡ 0) → sum (n + k) f ≡ sum n f
-unfolding sum
-sum-ends n zero f h = let z : n + 0 ≡ n = omega arith in ap (λ (x : ℕ). sum x f) z
-sum-ends n (suc k) f h =
-    let w : n + suc k ≡ suc (n + k) = omega arith in
-    let x : sum (n + suc k) f ≡ sum (suc (n + k)) f = ap (λ (x : ℕ). sum x f) w in
-    let z = sum-ends n k f h in
-    let y = h (n + k) (omega arith) in
-    omega arith
 
 -- nothing is expected of a station that there is not
 pub expects-none : (L : Lent) → Standing L → (t : ℕ) → t < floorIn L .stations → (s : ℕ) → floorIn L .stations ≤ s → floorIn L .expected t s ≡ 0
@@ -232,7 +222,7 @@ module _ (Q : Limits) (S S′ C C′ M T : List ℕ) (lengths words : Bool) (lin
       there .docked .count
       ∙ all-passed Q D K M agree t c beyond′ row N (there .docked .is-nearest) (λ s h. next-is s)
       ∙ ap (λ (k : ℕ). sum k rise) all
-      ∙ sum-ends n (16 - n) rise (λ s l. let z = stays s l in omega arith)
+      ∙ sum-less n (16 - n) rise (λ s l. let z = stays s l in omega arith)
       ∙ sum-ext n rise (λ s. arrive Q G t c entries .next c s - entries s)
       (λ s l. let y : arrive Q G t c entries .next c s ≡ stop s .upto = ap (λ (X : Floor). X .next c s) (arrive-at-once Q G t c entries) ∙ rw (eqb-self c, lt-ltb s n l) in
       let z : D .next c s ≡ entries s = sym (next-is s) ∙ is-row s in

@@ -1,16 +1,16 @@
 -- The ways through the test whether a cart is past a message that is buffered at a station.
 use mathlib.Core.Path.{_≡_, refl, sym, ap, ap₂, _∙_, fun-ext, subst}
-use mathlib.Core.Bool.{Bool, true, false, not, _&&_}
+use mathlib.Core.Bool.{Bool, true, false, not}
 use mathlib.Core.List.{List}
-use Prim.Native.Nat.{ℕ, zero, suc, _<_, _≤_, _^_}
+use Prim.Native.Nat.{ℕ, _<_, _≤_}
 use native.Mathlib.Omega.{arith}
 use lib.Dec.{ltb, eqb}
-use borrow.Author.Tests.{lt-ltb, le-ltb, eqb-true, ne-eqb}
-use native.Mathlib.Nat.{pow-suc}
+use borrow.Author.Tests.{lt-ltb, le-ltb}
 use Rattle.protocol.specs.CartSets.{has, without}
 use Rattle.protocol.specs.Folds.{update2}
-use Rattle.protocol.proofs.Tests.{and-left, and-second-false, and-false, by-test, eqb-self, on-cond, on-update2}
-use Rattle.protocol.proofs.SetLaws.{same-members, without-lt, has-without}
+use Rattle.protocol.proofs.Tests.{and-left, and-second-false, by-eq, on-cond, on-update2}
+use Rattle.protocol.proofs.SetLaws.{same-sets, has-without}
+use Rattle.sets.proofs.MaskLaws.{without-here, without-other}
 use Rattle.stations.specs.View.{Stations, stationsIn, withCopy}
 use Rattle.stations.proofs.TableLaws.{expected-beyond}
 use Rattle.messages.specs.View.{Rooms}
@@ -38,21 +38,12 @@ module _ (S : Stations) (R : Rooms) (t m x : ℕ) where
       below = let z : S .expected t (R .initiator m) ≡ y = (ap (S .expected t) (sym ei) ∙ sym ey) in omega arith
 
 -- WHERE NOTHING IS STRUCK
-self-below : (x : ℕ) → x < 2 ^ x
-self-below zero = omega arith
-self-below (suc x) = let z = self-below x in let p = pow-suc 2 x in omega arith
-
-and-true : (a : Bool) → a && true ≡ a
-and-true true = refl
-and-true false = refl
-
 -- a set that lacks the cart stays as it is without it
 without-absent : (x c : ℕ) → has x c ≡ false → without x c ≡ x
 without-absent x c n =
-    same-members x (without x c) x (without-lt x x c (self-below x)) (self-below x)
-    (λ d l. has-without x c d ∙ by-test (eqb c d)
-    (λ e. rw e (and-false (has x d) ∙ sym (subst (λ (z : ℕ). has x z ≡ false) (eqb-true c d e) n)))
-    (λ e. rw e (and-true (has x d))))
+    same-sets (without x c) x (λ d. by-eq c d
+    (λ e. subst (λ (z : ℕ). has (without x c) z ≡ has x z) e (without-here x c ∙ sym n))
+    (λ e. without-other x c d e))
 
 module _ (S : Stations) (R : Rooms) (t : ℕ) (row : List ℕ) (m : ℕ) where
   -- the copy does not name the cart
@@ -96,5 +87,5 @@ struck-covers S t c m set r w C er f ew = rw (f, ew) (record { inside = λ k h. 
     others : (k : ℕ) → has (without set m) k ≡ false → has (update2 (S .copy) m t r k t) c ≡ false
     others k h =
         on-update2 (λ (y : ℕ). has y c ≡ false) (S .copy) m t r k t
-        (λ p q. ap (λ (y : ℕ). has y c) er ∙ has-without (S .copy m t) c c ∙ ap (λ (b : Bool). has (S .copy m t) c && not b) (eqb-self c) ∙ and-false (has (S .copy m t) c))
-        (λ d. C .others k (sym (and-true (has set k)) ∙ ap (λ (b : Bool). has set k && not b) (sym (ne-eqb m k (λ e. d (sym e) refl))) ∙ sym (has-without set m k) ∙ h))
+        (λ p q. ap (λ (y : ℕ). has y c) er ∙ without-here (S .copy m t) c)
+        (λ d. C .others k (sym (without-other set m k (λ e. d (sym e) refl)) ∙ h))

@@ -13,7 +13,7 @@ use borrow.Author.Tests.{lt-ltb, le-ltb, ltb-true}
 use Rattle.protocol.specs.Folds.{every}
 use Rattle.protocol.specs.CartSets.{digit, has, union, with, without, setOf}
 use Rattle.protocol.specs.Form.{bit}
-use Rattle.protocol.proofs.SetLaws.{has-union, union-lt, with-lt, without-lt, member-below, no-member, setOf-lt, has-setOf, same-members}
+use Rattle.protocol.proofs.SetLaws.{has-union, union-lt, with-lt, without-lt, member-below, setOf-beyond, has-setOf, same-members}
 use Rattle.protocol.proofs.Tests.{by-lt, every-at, every-all}
 use Rattle.sets.specs.Masks.{least, disjoint}
 use Rattle.sets.proofs.MaskLaws.{with-here, with-other, without-here, without-other, digit-is, least-member}
@@ -49,7 +49,7 @@ module _ (rows w : ℕ) where
       ap (λ (x : ℕ). digit x c) q ∙ digit-is (setOf n (λ c. true)) c
       ∙ by-lt c n
       (λ h. ap bit (has-setOf n (λ c. true) c h) ∙ sym (below-yes (w * 64 + c) rows (omega arith)))
-      (λ h. ap bit (no-member n (setOf n (λ c. true)) c (setOf-lt n (λ c. true)) h) ∙ sym (below-no (w * 64 + c) rows (omega arith)))
+      (λ h. ap bit (setOf-beyond n (λ c. true) c h) ∙ sym (below-no (w * 64 + c) rows (omega arith)))
 
 -- ---- the summary
 pub record Summary (l : List ℕ) : Type 0 where

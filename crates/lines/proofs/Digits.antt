@@ -3,10 +3,11 @@ use mathlib.Core.Path.{_≡_, refl, sym, ap, _∙_}
 use mathlib.Core.Bool.{Bool, true, false, not, _&&_, _||_}
 use Prim.Native.Nat.{ℕ, _-_, _≤_, _<_, max}
 use lib.Dec.{eqb, ltb}
-use borrow.Author.Tests.{eq-eqb, ne-eqb, lt-ltb, le-ltb}
+use borrow.Author.Tests.{eq-eqb, eqb-true, ne-eqb, lt-ltb, le-ltb}
 use Rattle.protocol.specs.CartSets.{digit, has, with, without}
 use Rattle.protocol.specs.Form.{bit}
 use Rattle.protocol.proofs.SetLaws.{has-zero, has-with, has-without}
+use Rattle.protocol.proofs.Counting.{same-bits}
 use Rattle.sets.proofs.MaskLaws.{digit-is}
 
 -- ---- yes and no
@@ -28,13 +29,7 @@ digit-none c = digit-is 0 c ∙ ap bit (has-zero c)
 
 -- the test of a bit asks for a member
 pub digit-has : (x c : ℕ) (b : Bool) → eqb (digit x c) (bit b) ≡ true → has x c ≡ b
-digit-has x c b e = same (has x c) b (sym (ap (λ (d : ℕ). eqb d (bit b)) (digit-is x c)) ∙ e)
-  where
-    same : (a b : Bool) → eqb (bit a) (bit b) ≡ true → a ≡ b
-    same true true e = refl
-    same true false e = sym e
-    same false true e = e
-    same false false e = refl
+digit-has x c b e = same-bits (has x c) b (sym (digit-is x c) ∙ eqb-true (digit x c) (bit b) e)
 
 pub has-digit : (x c : ℕ) (b : Bool) → has x c ≡ b → eqb (digit x c) (bit b) ≡ true
 has-digit x c b e = eq-eqb (digit x c) (bit b) (digit-is x c ∙ ap bit e)

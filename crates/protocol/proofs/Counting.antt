@@ -18,6 +18,12 @@ use Rattle.protocol.proofs.Updates.{all-append, all-map}
 abbrev pub OnLines : ℕ → (ℕ → ℕ → Record → Type 0) → (ℕ → ℕ → List Record) → Type 0
 OnLines n P lines = (i j : ℕ) → i < n → j < n → All (P i j) (lines i j)
 
+pub same-bits : (a b : Bool) → bit a ≡ bit b → a ≡ b
+same-bits true true e = refl
+same-bits true false e = absurd (omega arith)
+same-bits false true e = absurd (omega arith)
+same-bits false false e = refl
+
 pub bit-le : (b : Bool) → bit b ≤ 1
 bit-le true = omega arith
 bit-le false = omega arith

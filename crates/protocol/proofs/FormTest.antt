@@ -1,9 +1,8 @@
-use mathlib.Core.Path.{ap, refl, subst, _∙_, _≡_}
+use mathlib.Core.Path.{ap, refl, subst, sym, _∙_, _≡_}
 use mathlib.Core.Bool.{_&&_, false, not, true}
 use mathlib.Core.Option.{some}
 use mathlib.Core.List.{List, [], _∷_}
-use Prim.Native.Nat.{_<_, _^_, suc, zero, ℕ, _≤_}
-use native.Mathlib.Nat.{pow-suc}
+use Prim.Native.Nat.{_<_, ℕ, _≤_}
 use native.Mathlib.Omega.{arith}
 use lib.Dec.{eqb}
 use borrow.Author.Tests.{eqb-true, ne-eqb, not-true}
@@ -15,7 +14,7 @@ use Rattle.protocol.specs.Form.{HandoffRecord, acksOf, acksTo, bit, cart
 use Rattle.protocol.specs.Blank.{BlankBeyond}
 use Rattle.protocol.specs.Ranges.{PlaceInRange}
 use Rattle.protocol.proofs.Tests.{and-false, both-equal, by-eq, by-lt, by-test, clash, on-cond, on-option}
-use Rattle.protocol.proofs.SetLaws.{has-zero, member-below, no-member, some-member}
+use Rattle.protocol.proofs.SetLaws.{has-zero, member-below, no-member, same-sets, some-member}
 use Rattle.protocol.proofs.FloorLaws.{outside-is}
 use Rattle.protocol.proofs.Invariant.{Held, Holds}
 use Rattle.protocol.proofs.Updates.{all-map, counts-up-le}
@@ -81,11 +80,7 @@ none-handed-off c (register d row ∷ l) a = rw (a .0) (none-handed-off c l (a .
 
 -- a set that nobody is in is empty
 nobody : (x : ℕ) → ((c : ℕ) → has x c ≡ true → ⊥) → x ≡ 0
-nobody x h = by-eq x 0 (λ e. e) (λ e. absurd (let r = some-member x x (lt-two-pow x) (omega arith) in h (r .0) (r .2)))
-  where
-    lt-two-pow : (n : ℕ) → n < 2 ^ n
-    lt-two-pow zero = omega arith
-    lt-two-pow (suc n) = let z = lt-two-pow n in let p = pow-suc 2 n in omega arith
+nobody x h = same-sets x 0 (λ c. by-test (has x c) (λ e. absurd (h c e)) (λ e. e) ∙ sym (has-zero c))
 
 member-positive : (x c : ℕ) → has x c ≡ true → 0 < x
 member-positive x c e = by-eq x 0 (λ z. clash (has 0 c) (rw z at e) (has-zero c)) (λ z. omega arith)

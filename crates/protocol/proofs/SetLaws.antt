@@ -13,7 +13,7 @@ use Rattle.protocol.specs.Folds.{every}
 use Rattle.protocol.specs.CartSets.{digit, has, minus, setOf, union, with, without}
 use Rattle.protocol.specs.Floor.{at}
 use Rattle.protocol.specs.Step.{step}
-use Rattle.protocol.proofs.Tests.{by-eq, by-lt, by-test, clash, eqb-self, every-at, every-fails}
+use Rattle.protocol.proofs.Tests.{by-eq, by-lt, by-test, clash, eqb-self, every-at, every-fails, or-none, or-right}
 
 -- DIGITS
 
@@ -142,6 +142,10 @@ setOf-lt (suc n) f =
     let p = pow-suc 2 n in
     by-test (f n) (λ e. rw e (omega arith)) (λ e. rw e (omega arith))
 
+-- nobody from n on is in it
+pub setOf-beyond : (n : ℕ) (f : ℕ → Bool) (c : ℕ) → n ≤ c → has (setOf n f) c ≡ false
+setOf-beyond n f c l = no-member n (setOf n f) c (setOf-lt n f) l
+
 -- the next one joins
 pub setOf-suc : (n : ℕ) (f : ℕ → Bool) → setOf (suc n) f ≡ cond (f n) (with (setOf n f) n) (setOf n f)
 unfolding setOf with union
@@ -159,19 +163,11 @@ has-setOf (suc n) f c h =
     rw (setOf-suc n f)
     (by-eq c n
     (λ q. rw q (by-test (f n)
-    (λ e. rw e (has-with (setOf n f) n n ∙ rw (eqb-self n) (or-true (has (setOf n f) n))))
-    (λ e. rw e (by-test (has (setOf n f) n) (λ z. absurd (let y = member-below n (setOf n f) n (setOf-lt n f) z in omega arith)) (λ z. z)))))
+    (λ e. rw e (has-with (setOf n f) n n ∙ or-right (has (setOf n f) n) (eqb n n) (eqb-self n)))
+    (λ e. rw e (setOf-beyond n f n (omega arith)))))
     (λ q. by-test (f n)
-    (λ e. rw e (has-with (setOf n f) n c ∙ rw (ne-eqb n c (λ z. q (sym z))) (or-false (has (setOf n f) c) ∙ has-setOf n f c (omega arith))))
+    (λ e. rw e (has-with (setOf n f) n c ∙ rw (ne-eqb n c (λ z. q (sym z))) (or-none (has (setOf n f) c) ∙ has-setOf n f c (omega arith))))
     (λ e. rw e (has-setOf n f c (omega arith)))))
-  where
-    or-true : (b : Bool) → b || true ≡ true
-    or-true true = refl
-    or-true false = refl
-
-    or-false : (b : Bool) → b || false ≡ b
-    or-false true = refl
-    or-false false = refl
 
 -- whoever is in the set passes
 pub setOf-member : (n : ℕ) (f : ℕ → Bool) (c : ℕ) → has (setOf n f) c ≡ true → f c ≡ true
@@ -203,6 +199,17 @@ pub same-members : (n x y : ℕ) → x < 2 ^ n → y < 2 ^ n → ((c : ℕ) → 
 unfolding has
 same-members n x y hx hy e =
     same-digits n x y hx hy (λ c h. digit-of-test (digit x c) (digit y c) (digit-lt x c) (digit-lt y c) (e c h))
+
+-- a set is below its own power, so whatever their size two sets with the same members are one
+below-own : (x : ℕ) → x < 2 ^ x
+below-own zero = omega arith
+below-own (suc x) = let z = below-own x in let p = pow-suc 2 x in omega arith
+
+pub same-sets : (x y : ℕ) → ((c : ℕ) → has x c ≡ has y c) → x ≡ y
+same-sets x y h =
+    let left : 2 ^ x ≤ 2 ^ (x + y) = pow-mono (omega arith) in
+    let right : 2 ^ y ≤ 2 ^ (x + y) = pow-mono (omega arith) in
+    same-members (x + y) x y (let z = below-own x in omega arith) (let z = below-own y in omega arith) (λ c l. h c)
 
 -- a set that is not empty has a member
 pub some-member : (n x : ℕ) → x < 2 ^ n → 0 < x → (c : ℕ) × (c < n) × (has x c ≡ true)

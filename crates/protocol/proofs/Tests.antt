@@ -1,6 +1,6 @@
 -- Laws of tests, choices and searches.
 use mathlib.Core.Path.{_≡_, ap, refl, _∙_, _≡_}
-use mathlib.Core.Bool.{_&&_, Bool, cond, false, true, _||_}
+use mathlib.Core.Bool.{_&&_, Bool, cond, false, not, true, _||_}
 use mathlib.Core.Option.{Option, none, some}
 use mathlib.Core.List.{List, [], _∷_}
 use Prim.Native.Nat.{_<_, suc, zero, ℕ, _≤_}
@@ -66,6 +66,10 @@ pub and-false : (a : Bool) → a && false ≡ false
 and-false true = refl
 and-false false = refl
 
+pub and-true : (a : Bool) → a && true ≡ a
+and-true true = refl
+and-true false = refl
+
 pub and-second-false : (a b : Bool) → b ≡ false → a && b ≡ false
 and-second-false a b e = rw e (and-false a)
 
@@ -77,9 +81,26 @@ pub or-false : (a b : Bool) → a || b ≡ false → (a ≡ false) × (b ≡ fal
 or-false true b e = clash true refl e
 or-false false b e = (refl, e)
 
+pub or-left : (a b : Bool) → a ≡ true → a || b ≡ true
+or-left true b e = refl
+or-left false b e = clash false e refl
+
 pub or-right : (a b : Bool) → b ≡ true → a || b ≡ true
 or-right true b e = refl
 or-right false b e = e
+
+pub or-none : (a : Bool) → a || false ≡ a
+or-none true = refl
+or-none false = refl
+
+-- if a then b
+pub if-at : (a b : Bool) → not a || b ≡ true → a ≡ true → b ≡ true
+if-at true b e h = e
+if-at false b e h = clash false h refl
+
+pub if-of : (a b : Bool) → (a ≡ true → b ≡ true) → not a || b ≡ true
+if-of true b f = f refl
+if-of false b f = refl
 
 -- two tests that imply one another are the same
 pub same-test : (a b : Bool) → (a ≡ true → b ≡ true) → (b ≡ true → a ≡ true) → a ≡ b

@@ -8,8 +8,8 @@ use Rattle.protocol.specs.CartSets.{has, minus, setOf}
 use Rattle.protocol.specs.Folds.{every}
 use Rattle.protocol.specs.Floor.{Floor, isLocal, localTo}
 use Rattle.protocol.specs.Wireless.{allAcked}
-use Rattle.protocol.proofs.Tests.{by-test, by-lt, same-test, every-at, every-all, and-false}
-use Rattle.protocol.proofs.SetLaws.{has-minus, has-setOf, member-below}
+use Rattle.protocol.proofs.Tests.{by-lt, same-test, every-at, every-all, and-false}
+use Rattle.protocol.proofs.SetLaws.{has-minus, has-setOf, no-member}
 use Rattle.sets.specs.Masks.{disjoint}
 use Rattle.stations.specs.View.{Stations, stationsIn}
 use Rattle.view.specs.View.{Lent, floorIn, localRight}
@@ -44,11 +44,8 @@ acked-by-masks F m t local right few low =
     same : (d : ℕ) → d < 64 → apart d ≡ acked d
     same d l = rw (right d l, has-minus (F .copy m t) (F .acks m t) d) (one-cart (isLocal F t d) (has (F .copy m t) d) (has (F .acks m t) d))
 
-    not-in : (d : ℕ) → F .carts ≤ d → has (F .copy m t) d ≡ false
-    not-in d q = by-test (has (F .copy m t) d) (λ e. absurd (let z = member-below (F .carts) (F .copy m t) d low e in omega arith)) (λ e. e)
-
     no-cart : (d : ℕ) → F .carts ≤ d → apart d ≡ true
-    no-cart d q = rw (has-minus (F .copy m t) (F .acks m t) d, not-in d q) (ap not (and-false (has local d)))
+    no-cart d q = rw (has-minus (F .copy m t) (F .acks m t) d, no-member (F .carts) (F .copy m t) d low q) (ap not (and-false (has local d)))
 
 -- for the floor that lent parts say, whose mask of local carts is right
 pub all-acked : (L : Lent) (m t : ℕ) → localRight L t ≡ true → floorIn L .carts ≤ 64 → floorIn L .copy m t < 2 ^ (floorIn L .carts)

@@ -13,7 +13,7 @@ use lib.Count.{ones, ones-step, trailingZeros}
 use borrow.Author.Tests.{eq-eqb, eqb-true, ne-eqb}
 use Rattle.protocol.specs.Folds.{every, count}
 use Rattle.protocol.specs.CartSets.{digit, has, union, minus, with, without, setOf}
-use Rattle.protocol.proofs.Tests.{by-test, by-lt, clash, and-second-false, or-right, same-test, eqb-self, every-at, every-all, first-some, first-is}
+use Rattle.protocol.proofs.Tests.{by-test, by-lt, clash, and-true, and-second-false, or-right, or-none, if-at, if-of, same-test, eqb-self, every-at, every-all, first-some, first-is}
 use Rattle.protocol.proofs.SetLaws.{digit-lt, op-digit, by-digits, min-small, half-digit, has-zero, has-union, has-minus, has-power, has-with, has-without, union-lt, minus-lt, without-lt, member-below, same-members, zero-below}
 use Rattle.sets.specs.Masks.{within, disjoint, least, size}
 
@@ -75,19 +75,11 @@ module _ (n m x y : ℕ) (h : x < 2 ^ n) (l : n ≤ m) where
 -- whoever is in the smaller set is in the larger, and the other way round
 pub within-has : (n x y : ℕ) → within n x y ≡ true → (c : ℕ) → c < n → has x c ≡ true → has y c ≡ true
 unfolding within
-within-has n x y e c l h = second (has x c) (has y c) (every-at n (λ d. not (has x d) || has y d) e c l) h
-  where
-    second : (a b : Bool) → not a || b ≡ true → a ≡ true → b ≡ true
-    second true b p q = p
-    second false b p q = clash false q refl
+within-has n x y e c l h = if-at (has x c) (has y c) (every-at n (λ d. not (has x d) || has y d) e c l) h
 
 pub has-within : (n x y : ℕ) → ((c : ℕ) → c < n → has x c ≡ true → has y c ≡ true) → within n x y ≡ true
 unfolding within
-has-within n x y h = every-all n (λ d. not (has x d) || has y d) (λ c l. either (has x c) (has y c) (h c l))
-  where
-    either : (a b : Bool) → (a ≡ true → b ≡ true) → not a || b ≡ true
-    either true b p = p refl
-    either false b p = refl
+has-within n x y h = every-all n (λ d. not (has x d) || has y d) (λ c l. if-of (has x c) (has y c) (h c l))
 
 -- whoever is in one of two sets with none in common is not in the other
 pub disjoint-has : (n x y : ℕ) → disjoint n x y ≡ true → (c : ℕ) → c < n → has x c ≡ true → has y c ≡ false
@@ -109,10 +101,10 @@ without-here x c = has-without x c c ∙ and-second-false (has x c) (not (eqb c 
 
 module _ (x c d : ℕ) (other : c ≡ d → ⊥) where
   pub with-other : has (with x c) d ≡ has x d
-  with-other = has-with x c d ∙ rw (ne-eqb c d other) (by-test (has x d) (λ e. rw e) (λ e. rw e))
+  with-other = has-with x c d ∙ rw (ne-eqb c d other) (or-none (has x d))
 
   pub without-other : has (without x c) d ≡ has x d
-  without-other = has-without x c d ∙ rw (ne-eqb c d other) (by-test (has x d) (λ e. rw e) (λ e. rw e))
+  without-other = has-without x c d ∙ rw (ne-eqb c d other) (and-true (has x d))
 
 -- A DIGIT AT A TIME
 

@@ -8,7 +8,7 @@ use lib.Bits.{bitAnd, and-le-l, and-zero-r}
 use lib.Pow.{pow-mono}
 use Rattle.protocol.specs.CartSets.{digit, has, setOf}
 use Rattle.protocol.proofs.Tests.{by-test, by-lt, and-false}
-use Rattle.protocol.proofs.SetLaws.{has-zero, has-setOf, setOf-lt, member-below, same-members}
+use Rattle.protocol.proofs.SetLaws.{has-zero, has-setOf, setOf-lt, no-member, same-members}
 use Rattle.sets.proofs.MaskLaws.{digit-is, setOf-low, has-and}
 use Rattle.rows.proofs.ColumnLaws.{column-read}
 use Rattle.stations.specs.View.{rooms, copyAt, copiesAt, stationWord, stationsIn, wordNames, namingIn}
@@ -89,7 +89,7 @@ module _ (l : List ℕ) (t c : ℕ) where
   pub naming-half : (x y : ℕ) → x ≡ setOf 16 (wordNames l t c) → y ≡ stationWord l t copiesAt → y < 2 ^ 16 → bitAnd x y ≡ namingIn (stationsIn l) t c
   naming-half x y ex ey low =
       naming-counts 16 x y (omega arith) ex ey
-      (λ k a b. by-test (has y k) (λ e. absurd (let z = member-below 16 y k low e in omega arith)) (λ e. e))
+      (λ k a b. no-member 16 y k low a)
 
   pub naming-all : (x y : ℕ) → x ≡ setOf rooms (wordNames l t c) → y ≡ stationWord l t copiesAt → bitAnd x y ≡ namingIn (stationsIn l) t c
   naming-all x y ex ey = naming-counts rooms x y (omega arith) ex ey (λ k a b. absurd (omega arith))

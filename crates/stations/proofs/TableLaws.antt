@@ -10,7 +10,7 @@ use borrow.Author.Tests.{eq-eqb, eqb-true, ne-eqb, not-true, not-false}
 use Rattle.protocol.specs.Folds.{update2}
 use Rattle.protocol.specs.CartSets.{has, minus, setOf}
 use Rattle.protocol.proofs.Tests.{same-test, by-test, by-lt, clash}
-use Rattle.protocol.proofs.SetLaws.{has-zero, has-minus, has-setOf, setOf-lt, minus-lt, member-below, no-member, same-members}
+use Rattle.protocol.proofs.SetLaws.{has-zero, has-minus, has-setOf, setOf-lt, setOf-beyond, minus-lt, member-below, same-members}
 use Rattle.sets.proofs.MaskLaws.{with-here, with-other, without-other}
 use Rattle.rows.specs.Rows.{cell, column}
 use Rattle.rows.proofs.RowLaws.{cell-zero, cell-past, update2-column}
@@ -66,10 +66,6 @@ head-put l l₁ l₂ l₃ x y z p q r =
 counted-none : (m v : ℕ) → counted 0 m v ≡ 0
 counted-none m v = ap (λ (b : Bool). cond b v 0) (has-zero m)
 
--- a set has no room beyond
-not-beyond : (n : ℕ) (f : ℕ → Bool) (c : ℕ) → n ≤ c → has (setOf n f) c ≡ false
-not-beyond n f c l = no-member n (setOf n f) c (setOf-lt n f) l
-
 counted-zero : (among m : ℕ) → counted among m 0 ≡ 0
 counted-zero among m = by-test (has among m) (λ h. rw h) (λ h. rw h)
 
@@ -83,7 +79,7 @@ among-rooms word a b small p q =
     (λ c h. rw (q, has-minus word a c, p, has-minus word (setOf rooms (λ c. true)) c)
     (by-lt c rooms
     (λ l. rw (has-setOf rooms (λ c. true) c l, has-setOf rooms (has word) c l) (by-test (has word c) (λ e. rw e) (λ e. rw e)))
-    (λ l. rw (not-beyond rooms (λ c. true) c l, not-beyond rooms (has word) c l) (by-test (has word c) (λ e. rw e) (λ e. rw e)))))
+    (λ l. rw (setOf-beyond rooms (λ c. true) c l, setOf-beyond rooms (has word) c l) (by-test (has word c) (λ e. rw e) (λ e. rw e)))))
 
 -- once a room has a word, that word is what counts, and for the other rooms nothing changed
 counted-same : (among m v : ℕ) → counted (countedWith among m v) m v ≡ v

@@ -9,7 +9,7 @@ use borrow.Author.Tests.{eqb-true, eq-eqb, ne-eqb, leb-true, le-leb, lt-ltb, le-
 use Rattle.protocol.specs.Folds.{every, update}
 use Rattle.protocol.specs.CartSets.{with, without, setOf}
 use Rattle.protocol.specs.Floor.{Product, Place, localTo}
-use Rattle.protocol.proofs.Tests.{and-left, and-right, and-intro, and-false, or-right, by-eq, by-lt, on-update, every-at, every-all}
+use Rattle.protocol.proofs.Tests.{and-left, and-right, and-intro, and-true, and-false, or-right, or-none, by-eq, by-lt, on-update, every-at, every-all}
 use Rattle.protocol.proofs.SetLaws.{has-with, has-without, has-setOf, setOf-lt, with-lt, without-lt, same-members}
 use Rattle.stations.specs.View.{stationsIn}
 use Rattle.carts.specs.View.{cartsIn, canonicalIn}
@@ -95,15 +95,6 @@ words-drop : (f : word.Record → Bool) (l : List word.Record) → everyWord f l
 words-drop f [] h = refl
 words-drop f (x ∷ l) h = and-right (f x) (everyWord f l) h
 
--- TESTS
-or-nothing : (a : Bool) → (a || false) ≡ a
-or-nothing true = refl
-or-nothing false = refl
-
-and-nothing : (a : Bool) → (a && true) ≡ a
-and-nothing true = refl
-and-nothing false = refl
-
 -- LOCAL CARTS, when cart c's place is another
 module _ (place : ℕ → Place) (c t : ℕ) (p : Place) where
   abbrev before : ℕ
@@ -132,7 +123,7 @@ module _ (place : ℕ → Place) (c t : ℕ) (p : Place) where
       joined d =
           on-update (λ (x : Place). (localTo (place d) t || eqb c d) ≡ localTo x t) place c p d
           (λ z. or-right (localTo (place d) t) (eqb c d) (eq-eqb c d (sym z)) ∙ sym q)
-          (λ z. rw (ne-eqb c d (λ y. z (sym y))) (or-nothing (localTo (place d) t)))
+          (λ z. rw (ne-eqb c d (λ y. z (sym y))) (or-none (localTo (place d) t)))
 
   -- it is local no more
   pub local-leaves : localTo p t ≡ false → without before c ≡ after
@@ -145,7 +136,7 @@ module _ (place : ℕ → Place) (c t : ℕ) (p : Place) where
       left d =
           on-update (λ (x : Place). (localTo (place d) t && not (eqb c d)) ≡ localTo x t) place c p d
           (λ z. rw (eq-eqb c d (sym z)) (and-false (localTo (place d) t) ∙ sym q))
-          (λ z. rw (ne-eqb c d (λ y. z (sym y))) (and-nothing (localTo (place d) t)))
+          (λ z. rw (ne-eqb c d (λ y. z (sym y))) (and-true (localTo (place d) t)))
 
 -- WRITES, each of one part; what it leaves is laid again
 module _ {P : Product} (S C M W T : List ℕ) (X : Laid (lent P S C M W T)) where

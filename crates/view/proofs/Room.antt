@@ -47,7 +47,7 @@ put-counts n on r lines =
     ∙ sum-add n (λ i. sum n (λ j. length (lines i j))) (λ i. sum n (λ j. bit (on i j)))
 
 -- THE LINES OF FEWER STATIONS, when the others have no records
-sum-less : (n k : ℕ) (f : ℕ → ℕ) → ((i : ℕ) → n ≤ i → f i ≡ 0) → sum (n + k) f ≡ sum n f
+pub sum-less : (n k : ℕ) (f : ℕ → ℕ) → ((i : ℕ) → n ≤ i → f i ≡ 0) → sum (n + k) f ≡ sum n f
 sum-less n k f h = omega (arith, sum-more f n k, sum-nil k (λ j. f (n + j)) (λ j l. h (n + j) (omega arith)))
 
 pub fewer-stations : (n k : ℕ) (lines : ℕ → ℕ → List Record) → ((i j : ℕ) → n ≤ i → lines i j ≡ []) → ((i j : ℕ) → n ≤ j → lines i j ≡ []) → onTheLines (n + k) lines ≡ onTheLines n lines

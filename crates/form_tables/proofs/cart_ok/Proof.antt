@@ -19,16 +19,16 @@ place-of-requires c κs = search needs
 has-entered-requires : tie.Need-has-entered-requires
 has-entered-requires c κs = search needs
 
-row-blank-requires : tie.Need-row-blank-requires
-row-blank-requires c κs = search needs
+row-ends-requires : tie.Need-row-ends-requires
+row-ends-requires c κs = search needs
 
 returns : tie.Need-returns
 returns c =
     let a = c .before .before .before .before .before .before .args in
     let place = c .before .before .before .place-of in
     let went = c .before .before .has-entered in
-    cart-outside (tables (a .stations .now) (a .carts .now) []) (a .number .0) (c .row-blank .result)
-    (ap entered (sym (place .ensures)) ∙ sym (went .ensures) ∙ not-true _ (c .before .if1 .taken)) (c .row-blank .ensures)
+    cart-outside (tables (a .stations .now) (a .carts .now) []) (a .number .0) (c .row-ends .result)
+    (ap entered (sym (place .ensures)) ∙ sym (went .ensures) ∙ not-true _ (c .before .if1 .taken)) (c .row-ends .ensures)
 
 cart-count-requires : tie.Need-cart-count-requires
 cart-count-requires c κs = search needs
@@ -78,7 +78,7 @@ cart-ok-spec =
     (tie.spec
     place-of-requires
     has-entered-requires
-    row-blank-requires
+    row-ends-requires
     returns
     cart-count-requires
     returns-2
