@@ -18,6 +18,7 @@ use Rattle.protocol.specs.Form.{passesForm}
 use Rattle.protocol.specs.Refusals.{check, headLacks, neverEntered, noCart, noStation, refusal, refusalIf, strangers}
 use Rattle.protocol.specs.Step.{accept, answer, step}
 use Rattle.protocol.proofs.Tests.{by-eq, by-option, by-test, clash, first-some, or-false}
+use Rattle.protocol.proofs.Readings
 
 -- What is known of an event that passed its checks; and by cases on what an event does to a started floor.
 -- a check that did not apply, and the rest of the table
@@ -48,6 +49,7 @@ pub record MaySend (M : Limits) (F : Floor) (s set : ℕ) (text : List ℕ) (m :
   pub carts : set < 2 ^ F .carts
   pub some : eqb set 0 ≡ false
   pub all-entered : neverEntered F set ≡ false
+  pub has-text : isEmpty text ≡ false
   pub number : F .sent s ≤ M .last
   pub room : m < M .held
   pub free : eqb (F .waiting m) 0 ≡ true
@@ -90,7 +92,8 @@ module _ (M : Limits) (F : Floor) (broken : Bool) where
       let a9 = passed-check 9 (strangers F set) _ (omega arith) (a8 .1) in
       let a11 = passed-check 11 (eqb set 0) _ (omega arith) (a9 .1) in
       let a12 = passed-check 12 (neverEntered F set) _ (omega arith) (a11 .1) in
-      let a13 = passed-check 13 (ltb (M .last) (F .sent s)) _ (omega arith) (a12 .1) in
+      let a24 = passed-check 24 (isEmpty text) _ (omega arith) (a12 .1) in
+      let a13 = passed-check 13 (ltb (M .last) (F .sent s)) _ (omega arith) (a24 .1) in
       let a14 = passed-check 14 (isNone (freeRoom M F)) _ (omega arith) (a13 .1) in
       by-option (freeRoom M F)
       (λ q. clash (isNone (freeRoom M F)) (rw q) (a14 .0))
@@ -103,6 +106,7 @@ module _ (M : Limits) (F : Floor) (broken : Bool) where
           carts = leb-false (2 ^ F .carts) set (a9 .0);
           some = a11 .0;
           all-entered = a12 .0;
+          has-text = a24 .0;
           number = ltb-false (M .last) (F .sent s) (a13 .0);
           room = f .0;
           free = f .1;

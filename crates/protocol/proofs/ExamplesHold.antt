@@ -8,7 +8,7 @@ use lib.ListN.{drop, length}
 use borrow.Author.Tests.{ne-eqb}
 use Rattle.protocol.specs.Folds.{count, every, first, listOf, sum}
 use Rattle.protocol.specs.CartSets.{has, minus, setOf, union, with, without}
-use Rattle.protocol.specs.Floor.{limits, unstarted}
+use Rattle.protocol.specs.Floor.{Floor, limits, unstarted}
 use Rattle.protocol.specs.Events.{Answer}
 use Rattle.protocol.specs.Handoff.{arrive, bufferedFor, catchUp, catchUpEach, catchUpStop, climb, onDeregister, onEnter, onMove, onRegister, passedOver, roomOf, struck}
 use Rattle.protocol.specs.Wired.{buffer, freeRoom, handle, onAckList, onDelete, onMulticast, onSend, onWire, withMessage}
@@ -20,21 +20,25 @@ use Rattle.protocol.specs.Refusals.{neverEntered, refusalIf}
 use Rattle.protocol.specs.Step.{accept}
 use Rattle.protocol.specs.Frames.{bigEndian, fieldsOf, unlisted, eventOf, fieldsRefusal, frameRefusal, frameOf}
 use Rattle.protocol.specs.Printed.{decimal, decimalDigits, hexadecimal, restOf, lineOf, printedRun}
-use Rattle.protocol.specs.Examples.{Given, Row, Shown, answered, events, examples, form, frames, nearTheLast, outcome, passes, printed}
+use Rattle.protocol.specs.Examples.{Given, Row, Shown, after, answered, events, examples, form, frames, framesOn, heldOn, holds, holdsNoText, nearTheLast, outcome, passes, printed}
 use Rattle.protocol.proofs.Tests.{and-false}
-use Rattle.protocol.proofs.Ready.{Ready, quick-answers, quick-lines, quickAnswer, quickAnswers, quickLines, quickStep, ready-unstarted}
+use Rattle.protocol.proofs.Ready.{Ready, quick-answers, quick-floor, quick-lines, quickAnswer, quickAnswers, quickFloor, quickLines, quickStep, ready-unstarted}
 
 -- The starred examples, by computation.
 -- what is computed for a row: with refusal 5 read off the mark
 unfoldable pub quickOutcome : Given → Shown
 quickOutcome (frames octets) = printed (quickLines limits (suc (length octets)) unstarted 0 octets)
+quickOutcome (framesOn F octets) = printed (quickLines limits (suc (length octets)) F 0 octets)
 quickOutcome (events F es hidden) = answered (drop hidden (quickAnswers limits F es))
+quickOutcome (after F es) = holds (heldOn (quickFloor limits F es))
 quickOutcome (form F) = passes (passesForm limits F)
 
 -- a row's floor, where it is started, passes the form rule
 abbrev pub ReadyFor : Given → Type 0
 ReadyFor (frames octets) = Unit {0}
+ReadyFor (framesOn F octets) = Ready limits F
 ReadyFor (events F es hidden) = Ready limits F
+ReadyFor (after F es) = Ready limits F
 ReadyFor (form F) = Unit {0}
 
 from-unstarted : Ready limits unstarted
@@ -43,7 +47,9 @@ from-unstarted = ready-unstarted limits unstarted refl
 quick-outcome : (g : Given) → ReadyFor g → outcome g ≡ quickOutcome g
 unfolding outcome quickOutcome printedRun
 quick-outcome (frames octets) R = ap printed (quick-lines limits (suc (length octets)) unstarted 0 octets from-unstarted)
+quick-outcome (framesOn F octets) R = ap printed (quick-lines limits (suc (length octets)) F 0 octets R)
 quick-outcome (events F es hidden) R = ap (λ (l : List Answer). answered (drop hidden l)) (quick-answers limits F es R)
+quick-outcome (after F es) R = ap (λ (X : Floor). holds (heldOn X)) (quick-floor limits F es R)
 quick-outcome (form F) R = refl
 
 abbrev pub AllReady : List Row → Type 0
@@ -69,12 +75,33 @@ near-the-last-blank =
       lines = record { below = λ i j h. refl; right = λ i j h. refl };
     }
 
+no-text-passes : passesForm limits holdsNoText ≡ true
+unfolding passesForm test every has count sum roomOf first listOf
+no-text-passes = refl
+
+no-text-blank : BlankBeyond limits holdsNoText
+no-text-blank =
+    record {
+      sent = λ s h. rw (ne-eqb s 0 (omega arith));
+      expected = λ t s lt h. rw (ne-eqb s 0 (omega arith), and-false (eqb t 0));
+      place = λ c h. rw (ne-eqb c 0 (omega arith));
+      next = record { below = λ c s h. refl; right = λ c s h. refl };
+      queue = record { below = λ m t h. rw (ne-eqb m 0 (omega arith)); right = λ m t h. rw (ne-eqb t 0 (omega arith), and-false (eqb m 0)) };
+      lines = record { below = λ i j h. refl; right = λ i j h. refl };
+    }
+
 computed : map (λ r. quickOutcome (r .given)) examples ≡ map (λ r. r .shown) examples
-unfolding quickOutcome quickLines quickAnswers quickStep quickAnswer refusalIf accept frameOf frameRefusal fieldsRefusal fieldsOf bigEndian unlisted eventOf restOf lineOf decimal decimalDigits hexadecimal onEnter onSend onWire onRadio onMove handle onMulticast onAckList onDelete onDeregister onRegister arrive passedOver catchUpEach catchUp catchUpStop climb bufferedFor roomOf freeRoom struck withMessage buffer receive sendAcks allAcked handOver queueHead headAmong neverEntered passesForm test every count sum first listOf has union minus with without setOf
+unfolding quickOutcome quickLines quickAnswers quickFloor quickStep quickAnswer refusalIf accept frameOf frameRefusal fieldsRefusal fieldsOf bigEndian unlisted eventOf restOf lineOf decimal decimalDigits hexadecimal onEnter onSend onWire onRadio onMove handle onMulticast onAckList onDelete onDeregister onRegister arrive passedOver catchUpEach catchUp catchUpStop climb bufferedFor roomOf freeRoom struck withMessage buffer receive sendAcks allAcked handOver queueHead headAmong neverEntered passesForm test every count sum first listOf has union minus with without setOf
 computed = refl
+
+near-the-last : Ready limits nearTheLast
+near-the-last s = (near-the-last-blank, near-the-last-passes)
+
+no-text : Ready limits holdsNoText
+no-text s = (no-text-blank, no-text-passes)
 
 -- THE TABLE
 pub table-holds : map (λ r. outcome (r .given)) examples ≡ map (λ r. r .shown) examples
 table-holds =
-    quick-table examples (tt, (from-unstarted, (from-unstarted, (from-unstarted, (from-unstarted, (from-unstarted, (tt, ((λ s. (near-the-last-blank, near-the-last-passes)), (from-unstarted, (from-unstarted, (from-unstarted, (from-unstarted, tt))))))))))))
+    quick-table examples (tt, (from-unstarted, (from-unstarted, (from-unstarted, (from-unstarted, (from-unstarted, (tt, (near-the-last, (from-unstarted, (from-unstarted, (from-unstarted, (from-unstarted, (tt, (no-text, (no-text, (no-text, tt))))))))))))))))
     ∙ computed

@@ -32,4 +32,5 @@ pub mod InRange
 pub mod Width
 pub mod QueueOrder
 pub mod Found
+pub mod Texts
 pub mod Theorems

@@ -7,10 +7,14 @@ use native.Mathlib.Omega.{arith}
 use lib.Dec.{eqb}
 use borrow.Author.Tests.{eqb-true, le-ltb, ne-eqb}
 use Rattle.protocol.specs.CartSets.{has, union}
-use Rattle.protocol.specs.Floor.{Floor, Limits, ackList, at}
+use Rattle.protocol.specs.Floor.{Floor, Limits, ackList, at, setTexts}
+use Rattle.protocol.specs.Events.{send}
 use Rattle.protocol.specs.Handoff.{catchUp, catchUpStop, onDeregister, roomOf}
 use Rattle.protocol.specs.Wired.{onAckList}
 use Rattle.protocol.specs.Wireless.{allAcked, handOver, receive, sendAcks, sendAcksIfAll, standsBefore}
+use Rattle.protocol.specs.Claims.{True}
+use Rattle.protocol.specs.Form.{formRule}
+use Rattle.protocol.specs.Refusals.{neverEntered, noStation, refusalIf, strangers}
 use Rattle.protocol.proofs.Tests.{and-false, by-lt, by-test, clash, eqb-self, on-cond, on-option, or-right}
 use Rattle.protocol.proofs.SetLaws.{has-with, has-without}
 
@@ -51,3 +55,24 @@ ack-list-sent F m t = rw (eqb-self t, eqb-self (F .initiator m))
 pub cart-in-ack-list : (F : Floor) (m t c : ℕ) → has (receive F m t c .acks m t) c ≡ true
 unfolding receive
 cart-in-ack-list F m t c = rw (eqb-self m, eqb-self t) (has-with (F .acks m t) c c ∙ or-right (has (F .acks m t) c) (eqb c c) (eqb-self c))
+
+-- A CORRECTION WITH NO TEXT: "24 empty text, after 12 and before 13"
+
+-- of a send with no text that passes 8, 9 and 11: 12 comes before 24
+pub never-entered-is-12 : (M : Limits) (F : Floor) (s set : ℕ) → noStation F s ≡ false → strangers F set ≡ false → eqb set 0 ≡ false → neverEntered F set ≡ true
+    → refusalIf M F false (send s set []) ≡ 12
+unfolding refusalIf
+never-entered-is-12 M F s set a8 a9 a11 a12 = rw (le-ltb (M .text) 0 (omega arith), a8, a9, a11, a12)
+
+-- and 24 before 13 and 14: whatever number the station has used, and whatever is held
+pub no-text-is-24 : (M : Limits) (F : Floor) (s set : ℕ) → noStation F s ≡ false → strangers F set ≡ false → eqb set 0 ≡ false → neverEntered F set ≡ false
+    → refusalIf M F false (send s set []) ≡ 24
+unfolding refusalIf
+no-text-is-24 M F s set a8 a9 a11 a12 = rw (le-ltb (M .text) 0 (omega arith), a8, a9, a11, a12)
+
+-- "The form rule still admits them": where it holds, it holds with no text in any room
+pub form-without-texts : (M : Limits) (F : Floor) → True (formRule M F) → True (formRule M (setTexts F (λ m. [])))
+unfolding roomOf
+form-without-texts M F h =
+    let room = h .1 .1 .1 .0 in
+    (h .0, (h .1 .0, (h .1 .1 .0, ((λ m l. (room m l .0, (room m l .1 .0, (room m l .1 .1 .0, omega arith)))), h .1 .1 .1 .1))))

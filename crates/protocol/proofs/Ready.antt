@@ -113,6 +113,15 @@ pub quick-answer : (M : Limits) (F : Floor) (e : Event) → Ready M F → answer
 unfolding answer refusal quickAnswer
 quick-answer M F e R = ap (λ (b : Bool). cond (eqb (refusalIf M F b e) 0) (accepted (accept M F e .report)) (refused (refusalIf M F b e))) (only-unstarted M F R)
 
+unfoldable pub quickFloor : Limits → Floor → List Event → Floor
+quickFloor M F [] = F
+quickFloor M F (e ∷ es) = quickFloor M (quickStep M F e) es
+
+pub quick-floor : (M : Limits) (F : Floor) (es : List Event) → Ready M F → floorAfter M F es ≡ quickFloor M F es
+unfolding floorAfter quickFloor
+quick-floor M F [] R = refl
+quick-floor M F (e ∷ es) R = quick-floor M (step M F e) es (ready-step M F e R) ∙ ap (λ (X : Floor). quickFloor M X es) (quick-step M F e R)
+
 unfoldable pub quickAnswers : Limits → Floor → List Event → List Answer
 quickAnswers M F [] = []
 quickAnswers M F (e ∷ es) = quickAnswer M F e ∷ quickAnswers M (quickStep M F e) es

@@ -1,28 +1,29 @@
 use mathlib.Core.Path.{_≡_, ap, refl, subst, sym}
 use mathlib.Core.Bool.{false, not, true}
 use mathlib.Core.Option.{some}
-use mathlib.Core.List.{List, map, _∷_}
+use mathlib.Core.List.{List, [], map, _∷_}
 use Prim.Native.Nat.{_*_, _+_, _-_, _<_, _^_, max, suc, ℕ, _≤_}
 use native.Mathlib.Nat.{mul-le-mul-left, mul-le-mul-right}
 use native.Mathlib.Omega.{arith}
 use lib.Dec.{eqb}
 use lib.ListN.{length}
-use borrow.Author.Tests.{ne-eqb}
-use Rattle.protocol.specs.Folds.{count, sum}
-use Rattle.protocol.specs.Floor.{Floor, Limits, Record, ackList, at, behead, delete, justStarted, kit, limits, limitsOf, mostRecords, multicast, onLines, onTheLines, register, stationOf}
+use borrow.Author.Tests.{ne-eqb, not-true}
+use Rattle.protocol.specs.Folds.{count, isEmpty, sum}
+use Rattle.protocol.specs.Floor.{Floor, Limits, Record, ackList, at, behead, delete, isHeld, justStarted, kit, limits, limitsOf, mostRecords, multicast, onLines, onTheLines, register, setTexts, stationOf}
 use Rattle.protocol.specs.Events.{Event, Report, accepted, move, radio, refused, send, start, wire}
 use Rattle.protocol.specs.Handoff.{entryOf, onRegister, roomOf}
 use Rattle.protocol.specs.Wired.{freeRoom, handle, onWire}
 use Rattle.protocol.specs.Wireless.{queueHead}
-use Rattle.protocol.specs.Form.{passesForm}
+use Rattle.protocol.specs.Form.{formRule, passesForm}
 use Rattle.protocol.specs.Blank.{BlankBeyond}
-use Rattle.protocol.specs.Refusals.{refusal, refusalIf, wrongSize}
+use Rattle.protocol.specs.Refusals.{neverEntered, noStation, refusal, refusalIf, strangers, wrongSize}
 use Rattle.protocol.specs.Step.{accept, answer, floorAfter, step}
 use Rattle.protocol.specs.TwoLists.{TwoListRule, bothEmpty, listsAfter, owes}
 use Rattle.protocol.specs.SumRule.{gains, total}
 use Rattle.protocol.specs.Ranges.{InRange, NumbersBelow, Wide}
 use Rattle.protocol.specs.Examples.{examples, outcome}
-use Rattle.protocol.proofs.Tests.{by-eq}
+use Rattle.protocol.proofs.Tests.{by-eq, clash}
+use Rattle.protocol.proofs.Readings.{form-without-texts, never-entered-is-12, no-text-is-24}
 use Rattle.protocol.proofs.Accepted.{MayWire, accepted-passes, accepted-report, may-move, may-radio, may-send, may-wire, passed-check}
 use Rattle.protocol.proofs.Demand3.{nothing, rule-after, started-ok}
 use Rattle.protocol.proofs.Counting.{sum-ext, sum-term}
@@ -31,6 +32,7 @@ use Rattle.protocol.proofs.FloorLaws.{at-home}
 use Rattle.protocol.proofs.SumSteps.{arrive-bound}
 use Rattle.protocol.proofs.SumRun.{started-total, sums}
 use Rattle.protocol.proofs.FormFacts.{past, some-history}
+use Rattle.protocol.proofs.ClaimLaws.{reflect}
 use Rattle.protocol.proofs.Sized.{CountsFit}
 use Rattle.protocol.proofs.FormTest.{clauses-of, form-of, sized-of}
 use Rattle.protocol.proofs.FormRule.{form-bound, form-kept, form-started}
@@ -40,6 +42,7 @@ use Rattle.protocol.proofs.ExamplesHold.{table-holds}
 use Rattle.protocol.proofs.InRange.{in-range, step-most}
 use Rattle.protocol.proofs.QueueOrder.{head-first}
 use Rattle.protocol.proofs.Found.{ack-list-room, delete-room, multicast-room}
+use Rattle.protocol.proofs.Texts.{texts-after}
 
 -- WHAT IS PROVED of the written steps. Each statement uses names of specs/ alone; M are any limits, `limits` those of the floor.
 
@@ -243,6 +246,40 @@ pub move-finds-station : (M : Limits) (F : Floor) (c to : ℕ) (l : Report) → 
 unfolding refusal
 move-finds-station M F c to l a =
     let z = may-move M F (not (passesForm M F)) c to (accepted-passes M F (move c to) l a) in at-home (F .place c) (z .has-entered) (z .not-moving)
+
+-- A CORRECTION WITH NO TEXT
+
+-- "A send with length 0 is now turned away", whatever the floor
+pub no-text-turned-away : (M : Limits) (F : Floor) (s set : ℕ) (l : Report) → answer M F (send s set []) ≡ accepted l → ⊥
+unfolding refusal
+no-text-turned-away M F s set l a = clash true refl (may-send M F (not (passesForm M F)) s set [] (accepted-passes M F (send s set []) l a) .2 .has-text)
+
+-- a refusal that is known on a floor that passes
+refused-with : (M : Limits) (F : Floor) (e : Event) (r : ℕ) → 0 < r → passesForm M F ≡ true → refusalIf M F false e ≡ r → answer M F e ≡ refused r
+unfolding answer refusal
+refused-with M F e r pos h z = rw (h, z, ne-eqb r 0 (omega arith))
+
+-- "24 empty text, after 12 and before 13": on a floor that passes, a send with no text that passes 8, 9 and 11 is 12 if a named cart never entered,
+-- and 24 otherwise, whatever number the station has used and whatever is held
+pub no-text-after-12 : (M : Limits) (F : Floor) (s set : ℕ) → passesForm M F ≡ true → noStation F s ≡ false → strangers F set ≡ false → eqb set 0 ≡ false
+    → neverEntered F set ≡ true → answer M F (send s set []) ≡ refused 12
+no-text-after-12 M F s set h a8 a9 a11 a12 = refused-with M F (send s set []) 12 (omega arith) h (never-entered-is-12 M F s set a8 a9 a11 a12)
+
+pub no-text-before-13 : (M : Limits) (F : Floor) (s set : ℕ) → passesForm M F ≡ true → noStation F s ≡ false → strangers F set ≡ false → eqb set 0 ≡ false
+    → neverEntered F set ≡ false → answer M F (send s set []) ≡ refused 24
+no-text-before-13 M F s set h a8 a9 a11 a12 = refused-with M F (send s set []) 24 (omega arith) h (no-text-is-24 M F s set a8 a9 a11 a12)
+
+-- "no run from a start holds one now"
+pub no-text-held : (M : Limits) (F : Floor) (n k : ℕ) (l : Report) → answer M F (start n k) ≡ accepted l → (es : List Event) (m : ℕ)
+    → isHeld (floorAfter M (step M F (start n k)) es) m ≡ true → isEmpty (floorAfter M (step M F (start n k)) es .text m) ≡ false
+no-text-held M F n k l a es m =
+    from-start (λ X. isHeld (floorAfter M X es) m ≡ true → isEmpty (floorAfter M X es .text m) ≡ false) M F n k l a
+    (λ fit h. texts-after M (justStarted n k) refl (λ m e. clash true refl e) es m (not-true (eqb (floorAfter M (justStarted n k) es .waiting m) 0) h))
+
+-- "The form rule still admits them": a floor that passes also passes with no text in any room
+pub form-admits-no-text : (M : Limits) (F : Floor) → passesForm M F ≡ true → passesForm M (setTexts F (λ m. [])) ≡ true
+unfolding passesForm
+form-admits-no-text M F h = reflect (formRule M (setTexts F (λ m. []))) .1 (form-without-texts M F (reflect (formRule M F) .0 h))
 
 -- THE EXAMPLES: "The starred examples are gathered as rows of a single proved table over the written steps"
 pub examples-hold : map (λ r. outcome (r .given)) examples ≡ map (λ r. r .shown) examples

@@ -1,27 +1,32 @@
--- THE STARRED EXAMPLES K1 to K10, as rows of one table.
+-- THE STARRED EXAMPLES K1 to K10, and the further one of a message with no text, as rows of one table.
 use mathlib.Core.Bool.{Bool, true, cond, _&&_}
 use mathlib.Core.List.{List, [], _∷_, _++_}
 use Prim.Native.Nat.{ℕ, zero, suc}
 use Prim.Native.Char.{code}
 use Prim.Native.String.{String, [] as endOfText, _∷_ as _then_}
 use lib.Dec.{eqb}
-use lib.ListN.{drop, replicate}
-use Rattle.protocol.specs.Floor.{limits, outside, at, Floor, unstarted}
+use lib.ListN.{length, drop, replicate}
+use Rattle.protocol.specs.Folds.{count}
+use Rattle.protocol.specs.Floor.{limits, outside, at, Floor, isHeld, unstarted}
 use Rattle.protocol.specs.Events.{Event, start, enter, send, wire, radio, move, Answer, refused, accepted}
 use Rattle.protocol.specs.Form.{passesForm}
-use Rattle.protocol.specs.Step.{answers}
-use Rattle.protocol.specs.Printed.{printedRun}
+use Rattle.protocol.specs.Step.{floorAfter, answers}
+use Rattle.protocol.specs.Printed.{linesFrom, printedRun}
 
--- what an example begins with: the octets of frames; a floor and events, of which the first so many answers are not shown; or a floor alone
+-- what an example begins with: the octets of frames; a floor written out and the octets of frames; a floor and events, of which the first so
+-- many answers are not shown; a floor and the events that lead from it to the floor that is shown; or a floor alone
 pub data Given : Type 0 where
   frames : List ℕ → Given
+  framesOn : Floor → List ℕ → Given
   events : Floor → List Event → (hidden : ℕ) → Given
+  after : Floor → List Event → Given
   form : Floor → Given
 
--- what it shows: the printed lines; the answers; or whether the floor passes the form rule
+-- what it shows: the printed lines; the answers; how many messages the floor holds; or whether it passes the form rule
 pub data Shown : Type 0 where
   printed : List ℕ → Shown
   answered : List Answer → Shown
+  holds : ℕ → Shown
   passes : Bool → Shown
 
 -- a row of the table
@@ -29,10 +34,16 @@ pub record Row : Type 0 where
   pub given : Given
   pub shown : Shown
 
+-- how many messages a floor holds
+abbrev pub heldOn : Floor → ℕ
+heldOn F = count (limits .held) (isHeld F)
+
 -- what the written steps say of it
 unfoldable pub outcome : Given → Shown
 outcome (frames octets) = printed (printedRun limits octets)
+outcome (framesOn F octets) = printed (linesFrom limits (suc (length octets)) F 0 octets)
 outcome (events F es hidden) = answered (drop hidden (answers limits F es))
+outcome (after F es) = holds (heldOn (floorAfter limits F es))
 outcome (form F) = passes (passesForm limits F)
 
 -- the octets of a text
@@ -151,6 +162,55 @@ K9 = ask (start 2 1 ∷ enter 0 0 ∷ move 0 0 ∷ move 0 1 ∷ move 0 0 ∷ [])
 abbrev pub K10 : Row
 K10 = ask (start 0 1 ∷ start 17 1 ∷ []) 0 (refused 7 ∷ refused 7 ∷ [])
 
+-- "Empty messages already held are still handed out, acknowledged and deleted": "a further starred row, set up as K6 is", from a floor written
+-- out by the definitions. One station has sent one message, with no text; it is held, buffered there, and the one cart is queued for it
+abbrev pub holdsNoText : Floor
+holdsNoText =
+    record {
+      lengthsRight = true;
+      wordsRight = true;
+      started = true;
+      stations = 1;
+      carts = 1;
+      sent = λ s. cond (eqb s 0) 1 0;
+      expected = λ t s. cond (eqb t 0 && eqb s 0) 1 0;
+      place = λ c. cond (eqb c 0) (at 0) outside;
+      next = λ c s. 0;
+      initiator = λ m. 0;
+      number = λ m. 0;
+      named = λ m. cond (eqb m 0) 1 0;
+      text = λ m. [];
+      acked = λ m. 0;
+      waiting = λ m. cond (eqb m 0) 1 0;
+      copy = λ m t. cond (eqb m 0 && eqb t 0) 1 0;
+      acks = λ m t. 0;
+      queue = λ m t. cond (eqb m 0 && eqb t 0) 1 0;
+      lines = λ i j. [];
+    }
+
+-- "The form rule still admits them"
+abbrev pub noTextForm : Row
+noTextForm = record { given = form holdsNoText; shown = passes true }
+
+-- "handed out, acknowledged and deleted, and still print -": radio 0, cart 0; wire 0→0 twice. Then a send from 0 to {0} with length 0, which "is
+-- now turned away"
+abbrev pub noText : Row
+noText =
+    record {
+      given = framesOn holdsNoText (frame 0x40 0x00 0x00 0 ++ frame 0x30 0x00 0x00 0 ++ frame 0x30 0x00 0x00 0 ++ frame 0x20 0x00 0x00 1);
+      shown = printed (octetsOf "0 4 0 0 0 1 -\n1 3 2 0 0 1\n2 3 3 0 0 0\n3 no 24\n");
+    }
+
+-- acknowledged, it is still held
+abbrev pub noTextHeld : Row
+noTextHeld = record { given = after holdsNoText (radio 0 0 32 ∷ wire 0 0 ∷ []); shown = holds 1 }
+
+-- deleted, it is not, and its room is free
+abbrev pub noTextGone : Row
+noTextGone = record { given = after holdsNoText (radio 0 0 32 ∷ wire 0 0 ∷ wire 0 0 ∷ []); shown = holds 0 }
+
 -- THE TABLE: "The starred examples are gathered as rows of a single proved table over the written steps"
 abbrev pub examples : List Row
-examples = K1 ∷ K2 ∷ K3 ∷ K4 (wire 0 0) (wire 1 0) ∷ K4 (wire 1 0) (wire 0 0) ∷ K5 ∷ K6form ∷ K6 ∷ K7 ∷ K8 ∷ K9 ∷ K10 ∷ []
+examples =
+    K1 ∷ K2 ∷ K3 ∷ K4 (wire 0 0) (wire 1 0) ∷ K4 (wire 1 0) (wire 0 0) ∷ K5 ∷ K6form ∷ K6 ∷ K7 ∷ K8 ∷ K9 ∷ K10
+    ∷ noTextForm ∷ noText ∷ noTextHeld ∷ noTextGone ∷ []

@@ -266,6 +266,10 @@ setPlace F x = onCarts F (record { place = x; next = F .next })
 abbrev pub setNext : Floor → (ℕ → ℕ → ℕ) → Floor
 setNext F x = onCarts F (record { place = F .place; next = x })
 
+-- other texts
+abbrev pub setTexts : Floor → (ℕ → List ℕ) → Floor
+setTexts F x = onMessages F (record { initiator = F .initiator; number = F .number; named = F .named; text = x; acked = F .acked; waiting = F .waiting })
+
 -- other carts known to have a message
 abbrev pub setAcked : Floor → (ℕ → ℕ) → Floor
 setAcked F x = onMessages F (record { initiator = F .initiator; number = F .number; named = F .named; text = F .text; acked = x; waiting = F .waiting })

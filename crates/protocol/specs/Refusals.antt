@@ -45,7 +45,8 @@ module _ (M : Limits) (F : Floor) where
   bufferShort t buffer = byOption (queueHead M F t) false (λ m. ltb buffer (length (F .text m)))
 
   -- the refusal of an event, 0 if it is accepted; `broken`: "not started, or the lent floor breaks the written form rule". "Start skips 8
-  -- and 9, and of 5 it keeps only this: a lent part of the floor has the wrong length, met before 6"
+  -- and 9, and of 5 it keeps only this: a lent part of the floor has the wrong length, met before 6". A number above 21 came later, with its
+  -- place: "24 empty text, after 12 and before 13"
   unfoldable pub refusalIf : Bool → Event → ℕ
   refusalIf broken (start n k) = check 5 (not (F .lengthsRight)) (check 6 (F .started) (check 7 (wrongSize M n k) 0))
   refusalIf broken (enter t c) =
@@ -60,8 +61,9 @@ module _ (M : Limits) (F : Floor) where
       (check 9 (strangers F set)
       (check 11 (eqb set 0)
       (check 12 (neverEntered F set)
+      (check 24 (isEmpty text)
       (check 13 (ltb (M .last) (F .sent s))
-      (check 14 (isNone (freeRoom M F)) 0)))))))
+      (check 14 (isNone (freeRoom M F)) 0))))))))
   refusalIf broken (wire i j) =
       check 5 broken
       (check 8 (noStation F i || noStation F j)
