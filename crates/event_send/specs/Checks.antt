@@ -1,8 +1,9 @@
--- THE CHECKS OF A SEND behind 8, in two parts of the table: "Checks run down the table; the first that applies is the answer."
+-- THE CHECKS OF A SEND behind 8, in three parts of the table: "Checks run down the table; the first that applies is the answer."
 use mathlib.Core.Bool.{cond}
+use mathlib.Core.List.{List}
 use Prim.Native.Nat.{ℕ}
 use lib.Dec.{eqb, ltb}
-use Rattle.protocol.specs.Folds.{isNone}
+use Rattle.protocol.specs.Folds.{isEmpty, isNone}
 use Rattle.protocol.specs.Floor.{Limits, Floor}
 use Rattle.protocol.specs.Wired.{freeRoom}
 use Rattle.protocol.specs.Refusals.{check, strangers, neverEntered}
@@ -10,6 +11,10 @@ use Rattle.protocol.specs.Refusals.{check, strangers, neverEntered}
 -- those of its set: "a cart in the set, not on the floor", "empty set", "a named cart never entered"
 abbrev pub setChecks : Floor → ℕ → ℕ
 setChecks F set = check 9 (strangers F set) (check 11 (eqb set 0) (check 12 (neverEntered F set) 0))
+
+-- that of its text: "24 empty text, after 12 and before 13"
+abbrev pub textChecks : List ℕ → ℕ
+textChecks text = check 24 (isEmpty text) 0
 
 -- those of the message's number and room: the caller's last number, and as many messages as the caller may hold
 abbrev pub roomChecks : Limits → Floor → ℕ → ℕ

@@ -24,7 +24,7 @@ ghost use Rattle.view.specs.View.{lent, floorIn};
 ghost use Rattle.wired_send.specs.Rooms.{firstFree};
 ghost use Rattle.event_answers.specs.Answers.{answerIn};
 ghost use Rattle.event_answers.specs.Met.{ReadyWith, MetWith};
-ghost use Rattle.event_send.specs.Checks.{setChecks, roomChecks, firstApplying};
+ghost use Rattle.event_send.specs.Checks.{setChecks, textChecks, roomChecks, firstApplying};
 
 // "a named cart never entered": is it one? A cart that is leaving or travelling has entered.
 fn is_outside(carts: &[u64], number: CartNumber) -> bool
@@ -71,6 +71,13 @@ fn set_refusal(stations: &[u64], carts: &[u64], set: u64) -> u64
     if all_entered(carts, set) { 0 } else { 12 }
 }
 
+// "empty text", 24, or 0.
+fn text_refusal(text: &[u8]) -> u64
+    ensures { λ r. ⌜ r ≡ textChecks (now (text .entry)) ⌝ }
+{
+    if text.len() == 0 { 24 } else { 0 }
+}
+
 // "the station has used number 65,534", 13, or "32 messages held", 14, or 0; m is the first free room.
 fn room_refusal(stations: &[u64], station: Station, m: usize, last: u64) -> u64
     requires { ⌜ HasStation (now stations) (station .0) ⌝ }
@@ -89,24 +96,26 @@ fn first_of(refusal: u64, next: u64) -> u64
     if refusal == 0 { next } else { refusal }
 }
 
-// The refusal of a send, 8, 9 and 11 to 14, or 0; m is the first free room.
+// The refusal of a send, 8, 9, 11, 12, "24 empty text, after 12 and before 13", 13 and 14, or 0; m is the first free room.
 fn send_refusal(
     stations: &[u64],
     carts: &[u64],
     station: Station,
     set: u64,
+    text: &[u8],
     m: usize,
     last: u64,
 ) -> u64
-    requires { ⌜ HasHead (now stations) × (headIn (now stations) .carts * 19 ≤ length (now carts)) × (headIn (now stations) .carts ≤ 64) × (116 + headIn (now stations) .stations * 116 ≤ length (now stations)) ⌝ }
-    ensures { λ r. ⌜ ((P : Product) (M W T text : List ℕ) → P .last ≡ last → m ≡ firstFree (P .held) M → length text ≤ 32 → r ≡ refusalIf (limitsOf P) (floorIn (lent P (now (stations .entry)) (now (carts .entry)) M W T)) false (send (station .0) set text)) ⌝ }
+    requires { ⌜ HasHead (now stations) × (headIn (now stations) .carts * 19 ≤ length (now carts)) × (headIn (now stations) .carts ≤ 64) × (116 + headIn (now stations) .stations * 116 ≤ length (now stations)) × (length (now text) ≤ 32) ⌝ }
+    ensures { λ r. ⌜ ((P : Product) (M W T : List ℕ) → P .last ≡ last → m ≡ firstFree (P .held) M → r ≡ refusalIf (limitsOf P) (floorIn (lent P (now (stations .entry)) (now (carts .entry)) M W T)) false (send (station .0) set (now (text .entry)))) ⌝ }
 {
     if stations::station_count(stations) <= station.0 {
         return 8;
     }
     let of_set = set_refusal(stations, carts, set);
+    let of_text = text_refusal(text);
     let of_room = room_refusal(stations, station, m, last);
-    first_of(of_set, of_room)
+    first_of(of_set, first_of(of_text, of_room))
 }
 
 // "Send (station, set, text): the message takes the station's number; a multicast goes on the line to every station". A text longer than 32 octets,
@@ -130,7 +139,7 @@ pub fn send(
         return Answer::Refused(5);
     }
     let m = wired_send::free_room(messages, bounds.held);
-    let refusal = send_refusal(stations, carts, station, set, m, bounds.last);
+    let refusal = send_refusal(stations, carts, station, set, text, m, bounds.last);
     if refusal != 0 {
         return Answer::Refused(refusal);
     }

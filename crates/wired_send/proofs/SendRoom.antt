@@ -32,6 +32,7 @@ module _ (M : Limits) (F : Floor) (s set : ℕ) (text : List ℕ) (m : ℕ) (pas
         lt-leb (2 ^ F .carts) set (may .carts),
         may .some,
         may .all-entered,
+        may .has-text,
         le-ltb (M .last) (F .sent s) (may .number),
         found,
       )

@@ -47,7 +47,8 @@ send-refusal-requires c κs =
     let P = start .pre .0 .0 in
     let numbers = start .pre .0 .1 in
     let passes = (started-passes (lent P (now (a .stations)) (now (a .carts)) (now (a .messages)) (now (a .lines)) (now (a .texts))) _ (begun .before .is-started .ensures) (start .pre .0 .2) (begun .if1 .left)) in
-    checks-asked P (a .bounds) numbers (now (a .stations)) (now (a .carts)) (now (a .messages)) (now (a .lines)) (now (a .texts)) passes
+    let asked = checks-asked P (a .bounds) numbers (now (a .stations)) (now (a .carts)) (now (a .messages)) (now (a .lines)) (now (a .texts)) passes in
+    (asked .0, asked .1, asked .2, asked .3, start .pre .1)
 
 same-length-2 : tie.Need-same-length-2
 same-length-2 c = search needs
@@ -64,7 +65,7 @@ returns-2 c =
     let a = start .args in
     λ P numbers R.
     let room = searched P (a .bounds) numbers (now (a .messages)) _ (searching .free-room .ensures) in
-    let told = checked .send-refusal .ensures P (now (a .messages)) (now (a .lines)) (now (a .texts)) (now (a .text)) (numbers .last-is) room (start .pre .1) in
+    let told = checked .send-refusal .ensures P (now (a .messages)) (now (a .lines)) (now (a .texts)) (numbers .last-is) room in
     meets-no (lent P (now (a .stations)) (now (a .carts)) (now (a .messages)) (now (a .lines)) (now (a .texts))) (send (a .station .0) (a .set) (now (a .text))) _ (started-passes (lent P (now (a .stations)) (now (a .carts)) (now (a .messages)) (now (a .lines)) (now (a .texts))) _ (begun .before .is-started .ensures) R (begun .if1 .left)) told (c .if2 .taken)
 
 station-count-requires : tie.Need-station-count-requires
@@ -89,7 +90,7 @@ sent-of-requires c κs =
     let numbers = start .pre .0 .1 in
     let passes = (started-passes (lent P (now (a .stations)) (now (a .carts)) (now (a .messages)) (now (a .lines)) (now (a .texts))) _ (begun .before .is-started .ensures) (start .pre .0 .2) (begun .if1 .left)) in
     let room = searched P (a .bounds) numbers (now (a .messages)) _ (searching .free-room .ensures) in
-    let told = checked .send-refusal .ensures P (now (a .messages)) (now (a .lines)) (now (a .texts)) (now (a .text)) (numbers .last-is) room (start .pre .1) in
+    let told = checked .send-refusal .ensures P (now (a .messages)) (now (a .lines)) (now (a .texts)) (numbers .last-is) room in
     has-station P (a .bounds) numbers (now (a .stations)) (now (a .carts)) (now (a .messages)) (now (a .lines)) (now (a .texts)) passes (a .station .0) (a .set) (searching .free-room .result) (now (a .text)) room _ told (free .if2 .left)
 
 on-send-requires : tie.Need-on-send-requires
@@ -106,7 +107,7 @@ on-send-requires c κs =
     let numbers = start .pre .0 .1 in
     let passes = (started-passes (lent P (now (a .stations)) (now (a .carts)) (now (a .messages)) (now (a .lines)) (now (a .texts))) _ (begun .before .is-started .ensures) (start .pre .0 .2) (begun .if1 .left)) in
     let room = searched P (a .bounds) numbers (now (a .messages)) _ (searching .free-room .ensures) in
-    let told = checked .send-refusal .ensures P (now (a .messages)) (now (a .lines)) (now (a .texts)) (now (a .text)) (numbers .last-is) room (start .pre .1) in
+    let told = checked .send-refusal .ensures P (now (a .messages)) (now (a .lines)) (now (a .texts)) (numbers .last-is) room in
     send-asks P (a .bounds) numbers (now (a .stations)) (now (a .carts)) (now (a .messages)) (now (a .lines)) (now (a .texts)) passes (a .station .0) (a .set) (searching .free-room .result) (now (a .text)) room _ told (free .if2 .left) _ _ (counted .station-count .ensures) (numbered .sent-of .ensures)
 
 same-length-4 : tie.Need-same-length-4
@@ -134,7 +135,7 @@ returns-3 c =
     let a = start .args in
     λ P numbers R.
     let room = searched P (a .bounds) numbers (now (a .messages)) _ (searching .free-room .ensures) in
-    let told = checked .send-refusal .ensures P (now (a .messages)) (now (a .lines)) (now (a .texts)) (now (a .text)) (numbers .last-is) room (start .pre .1) in
+    let told = checked .send-refusal .ensures P (now (a .messages)) (now (a .lines)) (now (a .texts)) (numbers .last-is) room in
     meets-send P (a .bounds) numbers (now (a .stations)) (now (a .carts)) (now (a .messages)) (now (a .lines)) (now (a .texts)) (started-passes (lent P (now (a .stations)) (now (a .carts)) (now (a .messages)) (now (a .lines)) (now (a .texts))) _ (begun .before .is-started .ensures) R (begun .if1 .left)) (a .station .0) (a .set) (searching .free-room .result) (now (a .text)) room _ told (free .if2 .left) _ _ (counted .station-count .ensures) (numbered .sent-of .ensures) _ _ _ _ _ (done .on-send .ensures .0) (done .on-send .ensures .1)
 
 pub send-spec : {M : Type 1} → statement M
