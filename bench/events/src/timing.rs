@@ -142,7 +142,7 @@ fn messages(floor: &mut Floor) -> Vec<Batch> {
             while set.count_ones() < 8 {
                 set |= 1 << free[numbers.below(free.len() as u64) as usize];
             }
-            Event::Send(s, set, (0..2 * s).map(|_| numbers.next() as u8).collect())
+            Event::Send(s, set, (0..1 + 2 * s).map(|_| numbers.next() as u8).collect())
         })
         .collect();
     accept(floor, &sends);

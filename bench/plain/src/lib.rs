@@ -1,5 +1,6 @@
-//! The floor controller of document 01, written by hand and without proofs: what the proved
-//! controller is compared with, for its answers and for its speed.
+//! The floor controller of document 01, with the requests of document 02 that have landed, written
+//! by hand and without proofs: what the proved controller is compared with, for its answers and for
+//! its speed.
 //!
 //! * [`floor`]: the records of stations, carts and held messages, and the wired lines.
 //! * [`steps`]: the events: start, enter, send, wire, radio, move.

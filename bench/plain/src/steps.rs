@@ -42,6 +42,7 @@ pub enum Refusal {
     InHandOff = 19,
     AlreadyThere = 20,
     ShortBuffer = 21,
+    EmptyText = 24,
 }
 
 impl Refusal {
@@ -98,28 +99,7 @@ impl Floor {
     /// A station initiates a message to a set of carts.
     #[inline]
     pub fn send(&mut self, station: StationNo, set: u64, text: &[u8]) -> Result<Step, Refusal> {
-        if text.len() > TEXT {
-            return Err(Refusal::LongText);
-        }
-        self.check_started()?;
-        self.check_station(station)?;
-        if set & !self.all_carts() != 0 {
-            return Err(Refusal::NoSuchCart);
-        }
-        if set == 0 {
-            return Err(Refusal::EmptySet);
-        }
-        if set & !self.entered != 0 {
-            return Err(Refusal::NamedNeverEntered);
-        }
-        let number = self.station[station.at()].sent;
-        if number > LAST_NUMBER {
-            return Err(Refusal::NumbersUsedUp);
-        }
-        if self.rooms.count_ones() as usize == HELD {
-            return Err(Refusal::NoRoom);
-        }
-
+        let number = self.check_send(station, set, text)?;
         let room = Room(self.rooms.trailing_ones() as u8);
         self.station[station.at()].sent = number + 1;
         self.rooms |= room.alone();
@@ -235,6 +215,37 @@ impl Floor {
         self.cart[cart.at()].place = Place::Leaving(old);
         self.lines[line(to, old)].push_back(Record::Deregister(cart));
         Ok(Step { a: cart.0 as u16, b: to.0 as u16, p: 0, w: 1 })
+    }
+
+    /// The checks of a send, in their order; the number that the message will have.
+    #[inline(always)]
+    fn check_send(&self, station: StationNo, set: u64, text: &[u8]) -> Result<u16, Refusal> {
+        if text.len() > TEXT {
+            return Err(Refusal::LongText);
+        }
+        self.check_started()?;
+        self.check_station(station)?;
+        if set & !self.all_carts() != 0 {
+            return Err(Refusal::NoSuchCart);
+        }
+        if set == 0 {
+            return Err(Refusal::EmptySet);
+        }
+        if set & !self.entered != 0 {
+            return Err(Refusal::NamedNeverEntered);
+        }
+        // "A send with length 0 is now turned away"; "24 empty text, after 12 and before 13".
+        if text.is_empty() {
+            return Err(Refusal::EmptyText);
+        }
+        let number = self.station[station.at()].sent;
+        if number > LAST_NUMBER {
+            return Err(Refusal::NumbersUsedUp);
+        }
+        if self.rooms.count_ones() as usize == HELD {
+            return Err(Refusal::NoRoom);
+        }
+        Ok(number)
     }
 
     #[inline(always)]

@@ -36,7 +36,7 @@ fn settle(floor: &mut Floor) {
 
 /// A text of any length that one may have.
 pub fn some_text(numbers: &mut Numbers) -> Vec<u8> {
-    (0..numbers.below(33)).map(|_| numbers.next() as u8).collect()
+    (0..1 + numbers.below(32)).map(|_| numbers.next() as u8).collect()
 }
 
 /// Full size with few records, and with so many held messages: all are buffered everywhere, some carts have theirs, and the last hand-overs

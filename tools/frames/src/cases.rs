@@ -132,7 +132,7 @@ fn held_and_drained() -> Vec<u8> {
             beside.accepted(Event::Send { station, set, text: &text });
         }
         for station in [StationNo(0), StationNo(1)] {
-            let refused = beside.event(Event::Send { station, set: 1, text: &[] });
+            let refused = beside.event(Event::Send { station, set: 1, text: &[round] });
             assert_eq!(refused.map_err(Refusal::number), Err(14));
         }
         beside.drain();
@@ -148,7 +148,7 @@ fn late(numbers: u16) -> Vec<u8> {
     let (station, cart) = (StationNo(0), CartNo(0));
     beside.accepted(Event::Enter { station, cart });
     for _ in 0..numbers {
-        beside.accepted(Event::Send { station, set: cart.alone(), text: &[] });
+        beside.accepted(Event::Send { station, set: cart.alone(), text: &[0x0A] });
         beside.wire(0, 0);
         beside.accepted(Event::Radio { station, cart });
         beside.wire(0, 0);

@@ -84,12 +84,15 @@ fn show_then_script_is_the_identity_on_damaged_streams() {
     }
 }
 
+/// The last refusal that an event can have.
+const LAST_REFUSAL: usize = 24;
+
 /// Gives a stream to a floor; answers the accepted and the refused events, the latter by number,
 /// and the most messages held in the last tenth.
-fn give_all(octets: &[u8], frames: usize) -> (usize, [usize; 22], usize) {
+fn give_all(octets: &[u8], frames: usize) -> (usize, [usize; LAST_REFUSAL + 1], usize) {
     let mut floor = Box::new(Floor::new());
     let mut reader = Reader::new(octets);
-    let (mut accepted, mut refused, mut held) = (0, [0; 22], 0);
+    let (mut accepted, mut refused, mut held) = (0, [0; LAST_REFUSAL + 1], 0);
     for index in 0..frames {
         let Taken::Event(event) = reader.take() else { panic!("frame {index} is refused") };
         match give(&mut floor, &event) {
@@ -135,7 +138,7 @@ fn no_message_is_held_for_ever() {
         assert!(held < 32, "{stations} stations, {carts} carts: {held} held at the end");
         assert!(counts.sends > 500);
         // Random fields meet every refusal that this floor has.
-        for number in [6, 10, 11, 15, 16, 17, 20] {
+        for number in [6, 10, 11, 15, 16, 17, 20, 24] {
             assert!(refused[number] > 0, "{stations} stations, {carts} carts: no {number}");
         }
     }

@@ -6,6 +6,9 @@ fn floor(stations: u8, carts: u8) -> Floor {
     floor
 }
 
+/// A text of one octet, where the text does not matter.
+const ONE: &[u8] = &[0x0A];
+
 fn answer(step: Result<Step, Refusal>) -> (u16, u16, u32, u8) {
     let Step { a, b, p, w } = step.unwrap();
     (a, b, p, w)
@@ -58,7 +61,7 @@ fn k2_a_late_cart_passes_over_what_does_not_name_it() {
     let mut f = floor(1, 2);
     f.enter(s(0), c(0)).unwrap();
     for _ in 0..3 {
-        f.send(s(0), 0b01, &[]).unwrap();
+        f.send(s(0), 0b01, ONE).unwrap();
     }
     for _ in 0..3 {
         f.wire(s(0), s(0)).unwrap();
@@ -71,7 +74,7 @@ fn k3_a_local_cart_that_is_not_named_passes_over() {
     let mut f = floor(1, 2);
     f.enter(s(0), c(0)).unwrap();
     f.enter(s(0), c(1)).unwrap();
-    f.send(s(0), 0b01, &[]).unwrap();
+    f.send(s(0), 0b01, ONE).unwrap();
     assert_eq!(answer(f.wire(s(0), s(0))), (1, 0, 1, 0));
 }
 
@@ -80,8 +83,8 @@ fn k4_between_equal_numbers_the_higher_initiator_is_head() {
     for order in [[0, 1], [1, 0]] {
         let mut f = floor(2, 1);
         f.enter(s(0), c(0)).unwrap();
-        f.send(s(0), 1, &[]).unwrap();
-        f.send(s(1), 1, &[]).unwrap();
+        f.send(s(0), 1, ONE).unwrap();
+        f.send(s(1), 1, ONE).unwrap();
         for initiator in order {
             f.wire(s(initiator), s(0)).unwrap();
         }
@@ -95,13 +98,13 @@ fn a_smaller_number_takes_the_heads_place() {
     let mut f = floor(2, 2);
     f.enter(s(0), c(0)).unwrap();
     f.enter(s(0), c(1)).unwrap();
-    f.send(s(1), 0b01, &[]).unwrap();
-    f.send(s(1), 0b10, &[]).unwrap();
+    f.send(s(1), 0b01, ONE).unwrap();
+    f.send(s(1), 0b10, ONE).unwrap();
     f.wire(s(1), s(0)).unwrap();
     f.wire(s(1), s(0)).unwrap();
     assert_eq!(refusal(f.hand(0, 1)), 17);
     assert_eq!(answer(f.hand(0, 0)), (1, 0, 1, 1));
-    f.send(s(0), 0b10, &[]).unwrap();
+    f.send(s(0), 0b10, ONE).unwrap();
     f.wire(s(0), s(0)).unwrap();
     assert_eq!(answer(f.hand(0, 1)), (0, 0, 0, 1));
     assert_eq!(answer(f.hand(0, 1)), (1, 1, 0, 1));
@@ -131,15 +134,50 @@ fn k6_the_last_number() {
     f.station[0].expected[1] = LAST_NUMBER;
     f.station[1].expected[1] = LAST_NUMBER;
     f.cart[0].next[1] = LAST_NUMBER;
-    assert_eq!(answer(f.send(s(1), 1, &[])), (1, 65_534, 0, 2));
-    assert_eq!(refusal(f.send(s(1), 1, &[])), 13);
+    assert_eq!(answer(f.send(s(1), 1, ONE)), (1, 65_534, 0, 2));
+    assert_eq!(refusal(f.send(s(1), 1, ONE)), 13);
     assert_eq!(answer(f.wire(s(1), s(0))), (1, 65_534, 0, 0));
     assert_eq!(answer(f.hand(0, 0)), (1, 65_534, 0, 1));
     assert_eq!(f.next(c(0), s(1)), 65_535);
     assert_eq!(answer(f.wire(s(1), s(1))), (1, 65_534, 0, 0));
     assert_eq!(answer(f.wire(s(0), s(1))), (2, 65_534, 0, 2));
-    assert_eq!(refusal(f.send(s(1), 1, &[])), 13);
+    assert_eq!(refusal(f.send(s(1), 1, ONE)), 13);
     assert_eq!(refusal(f.send(s(1), 0, &[])), 11);
+}
+
+#[test]
+fn an_empty_text_is_turned_away() {
+    let mut f = floor(1, 2);
+    f.enter(s(0), c(0)).unwrap();
+    assert_eq!(refusal(f.send(s(0), 0b01, &[])), 24);
+    assert_eq!(refusal(f.send(s(0), 0b10, &[])), 12);
+    assert_eq!(refusal(f.send(s(0), 0, &[])), 11);
+    // It uses up no number, and goes before the checks of numbers and rooms.
+    for number in 0..32 {
+        assert_eq!(answer(f.send(s(0), 0b01, ONE)), (0, number, 0, 1));
+        assert_eq!(refusal(f.send(s(0), 0b01, &[])), 24);
+    }
+    f.station[0].sent = LAST_NUMBER + 1;
+    assert_eq!(refusal(f.send(s(0), 0b01, &[])), 24);
+    assert_eq!(refusal(f.send(s(0), 0b01, ONE)), 13);
+}
+
+#[test]
+fn an_empty_message_that_is_held_is_handed_out_acknowledged_and_deleted() {
+    let mut f = floor(1, 1);
+    f.enter(s(0), c(0)).unwrap();
+    f.send(s(0), 1, ONE).unwrap();
+    // No run from a start holds an empty message; a floor set up by hand may.
+    f.held[0].length = 0;
+    assert_eq!(answer(f.wire(s(0), s(0))), (1, 0, 0, 0));
+    // No buffer is shorter than an empty text, and no octet of one is written.
+    let mut text = [0xEE; TEXT];
+    let received = f.radio(s(0), c(0), &mut text[..0]);
+    assert_eq!(received, Ok((Step { a: 0, b: 0, p: 0, w: 1 }, 0)));
+    assert_eq!(text, [0xEE; TEXT]);
+    assert_eq!(answer(f.wire(s(0), s(0))), (2, 0, 0, 1));
+    assert_eq!(answer(f.wire(s(0), s(0))), (3, 0, 0, 0));
+    assert_eq!(f.held(), 0);
 }
 
 #[test]
@@ -147,10 +185,10 @@ fn k7_and_k8_thirty_two_held() {
     let mut f = floor(2, 1);
     f.enter(s(0), c(0)).unwrap();
     for number in 0..32 {
-        assert_eq!(answer(f.send(s(0), 1, &[])), (0, number, 0, 2));
+        assert_eq!(answer(f.send(s(0), 1, ONE)), (0, number, 0, 2));
     }
-    assert_eq!(refusal(f.send(s(0), 1, &[])), 14);
-    assert_eq!(refusal(f.send(s(1), 1, &[])), 14);
+    assert_eq!(refusal(f.send(s(0), 1, ONE)), 14);
+    assert_eq!(refusal(f.send(s(1), 1, ONE)), 14);
     assert_eq!(refusal(f.send(s(0), 0, &[])), 11);
     f.wire(s(0), s(0)).unwrap();
     f.hand(0, 0).unwrap();
@@ -160,12 +198,12 @@ fn k7_and_k8_thirty_two_held() {
     }
     assert_eq!(answer(f.wire(s(0), s(0))), (2, 0, 0, 2));
     assert_eq!(answer(f.wire(s(0), s(0))), (3, 0, 0, 0));
-    assert_eq!(refusal(f.send(s(0), 1, &[])), 14);
+    assert_eq!(refusal(f.send(s(0), 1, ONE)), 14);
     for _ in 0..32 {
         assert_eq!(f.wire(s(0), s(1)).unwrap().a, 1);
     }
     assert_eq!(answer(f.wire(s(0), s(1))), (3, 0, 0, 0));
-    assert_eq!(answer(f.send(s(1), 1, &[])), (1, 0, 0, 2));
+    assert_eq!(answer(f.send(s(1), 1, ONE)), (1, 0, 0, 2));
 }
 
 #[test]
@@ -238,7 +276,7 @@ fn a_full_floor_of_64_carts() {
     for cart in 0..64 {
         f.enter(s(cart % 16), c(cart)).unwrap();
     }
-    assert_eq!(answer(f.send(s(15), u64::MAX, &[])), (15, 0, 0, 16));
+    assert_eq!(answer(f.send(s(15), u64::MAX, ONE)), (15, 0, 0, 16));
     for to in 0..16 {
         assert_eq!(answer(f.wire(s(15), s(to))), (1, 0, 0, 0));
     }
@@ -384,7 +422,7 @@ mod as_worded {
             Ok([station as u32, cart as u32, p, 0])
         }
 
-        pub fn send(&mut self, station: u8, set: u64) -> Result<[u32; 4], u8> {
+        pub fn send(&mut self, station: u8, set: u64, text: &[u8]) -> Result<[u32; 4], u8> {
             self.station(station)?;
             let carts: Vec<u8> = (0..64).filter(|c| set >> c & 1 == 1).collect();
             carts.iter().try_for_each(|c| self.cart(*c))?;
@@ -393,6 +431,9 @@ mod as_worded {
             }
             if carts.iter().any(|c| self.places[*c as usize].0 == 0) {
                 return Err(12);
+            }
+            if text.is_empty() {
+                return Err(24);
             }
             if self.held.len() == 32 {
                 return Err(14);
@@ -540,7 +581,8 @@ fn the_same_as_the_worded_steps() {
                         let random = (half() << 32 | half()) & (half() << 32 | half());
                         let one = if half() % 50 == 0 { 0 } else { 1 << (cart % 64) };
                         let set = (random & floor.entered) | one;
-                        (floor.send(s(station), set, &[1]), worded.send(station, set))
+                        let text = if half() % 30 == 0 { &[] } else { ONE };
+                        (floor.send(s(station), set, text), worded.send(station, set, text))
                     }
                     3 => (floor.move_cart(c(cart), s(other)), worded.move_cart(cart, other)),
                     4..=9 => {
