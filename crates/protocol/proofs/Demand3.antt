@@ -14,7 +14,7 @@ use Rattle.protocol.specs.CartSets.{has, union}
 use Rattle.protocol.specs.Floor.{Floor, Limits, Record, ackList, at, delete, deregister, isHeld, justStarted, multicast, register}
 use Rattle.protocol.specs.Events.{Answer, Done, Event, Report, accepted, enter, move, radio, refused, send, start, wire}
 use Rattle.protocol.specs.Handoff.{arrive, entryOf, onDeregister, onEnter, onMove, onRegister, roomOf, struck}
-use Rattle.protocol.specs.Wired.{buffer, handle, onAckList, onDelete, onMulticast, withMessage}
+use Rattle.protocol.specs.Wired.{buffer, handle, multicastByRow, onAckList, onDelete, onMulticast, withMessage}
 use Rattle.protocol.specs.Wireless.{allAcked, handOver, receive, sendAcks, sendAcksIfAll}
 use Rattle.protocol.specs.Step.{answer, floorAfter, step}
 use Rattle.protocol.specs.TwoLists.{Item, Lists, TwoListRule, item, listsAfter, listsStep, owes}
@@ -181,7 +181,7 @@ unfolding struck
 arrived-size M F t c row = rw (arrive-at-once M F t c row) (same-size F)
 
 handled-size : (M : Limits) (F : Floor) (i j : ℕ) (r : Record) → SameSize F (handle M F i j r .floor)
-unfolding handle onMulticast onAckList onDelete onDeregister onRegister buffer
+unfolding handle onMulticast multicastByRow onAckList onDelete onDeregister onRegister buffer
 handled-size M F i j (multicast n) = on-option (λ (d : Done). SameSize F (d .floor)) (roomOf M F i n) (λ e. same-size F) (λ m e. same-size F)
 handled-size M F i j (ackList n set) =
     on-option (λ (d : Done). SameSize F (d .floor)) (roomOf M F j n) (λ e. same-size F)

@@ -11,7 +11,7 @@ use Rattle.protocol.specs.CartSets.{has, minus, setOf, union, with, with
 use Rattle.protocol.specs.Floor.{Floor, limits, unstarted}
 use Rattle.protocol.specs.Events.{Answer}
 use Rattle.protocol.specs.Handoff.{arrive, bufferedFor, catchUp, catchUpEach, catchUpStop, climb, onDeregister, onEnter, onMove, onRegister, passedOver, roomOf, struck}
-use Rattle.protocol.specs.Wired.{buffer, freeRoom, handle, onAckList, onDelete, onMulticast, onSend, onWire, withMessage}
+use Rattle.protocol.specs.Wired.{buffer, freeRoom, handle, multicastByRow, onAckList, onDelete, onMulticast, onSend, onWire, withMessage}
 use Rattle.protocol.specs.Wireless.{allAcked, handOver, headAmong, onRadio, queueHead, receive, sendAcks}
 use Rattle.protocol.specs.Claims.{test}
 use Rattle.protocol.specs.Form.{passesForm}
@@ -91,7 +91,7 @@ no-text-blank =
     }
 
 computed : map (λ r. quickOutcome (r .given)) examples ≡ map (λ r. r .shown) examples
-unfolding quickOutcome quickLines quickAnswers quickFloor quickStep quickAnswer refusalIf accept frameOf frameRefusal fieldsRefusal fieldsOf bigEndian unlisted eventOf restOf lineOf decimal decimalDigits hexadecimal onEnter onSend onWire onRadio onMove handle onMulticast onAckList onDelete onDeregister onRegister arrive passedOver catchUpEach catchUp catchUpStop climb bufferedFor roomOf freeRoom struck withMessage buffer receive sendAcks allAcked handOver queueHead headAmong neverEntered passesForm test every count sum first listOf has union minus with without setOf
+unfolding quickOutcome quickLines quickAnswers quickFloor quickStep quickAnswer refusalIf accept frameOf frameRefusal fieldsRefusal fieldsOf bigEndian unlisted eventOf restOf lineOf decimal decimalDigits hexadecimal onEnter onSend onWire onRadio onMove handle onMulticast multicastByRow onAckList onDelete onDeregister onRegister arrive passedOver catchUpEach catchUp catchUpStop climb bufferedFor roomOf freeRoom struck withMessage buffer receive sendAcks allAcked handOver queueHead headAmong neverEntered passesForm test every count sum first listOf has union minus with without setOf
 computed = refl
 
 near-the-last : Ready limits nearTheLast

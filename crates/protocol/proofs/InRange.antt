@@ -10,7 +10,7 @@ use Rattle.protocol.specs.CartSets.{union}
 use Rattle.protocol.specs.Floor.{Floor, Limits, Record, ackList, at, delete, deregister, multicast, register}
 use Rattle.protocol.specs.Events.{Answer, Done, Event, accepted, refused}
 use Rattle.protocol.specs.Handoff.{entryOf, onDeregister, onEnter, onMove, onRegister, passedOver, roomOf}
-use Rattle.protocol.specs.Wired.{buffer, handle, onAckList, onDelete, onMulticast, passesOver}
+use Rattle.protocol.specs.Wired.{buffer, handle, localRow, multicastByRow, onAckList, onDelete, onMulticast, passesOver}
 use Rattle.protocol.specs.Wireless.{allAcked, handOver, receive, sendAcks, sendAcksIfAll}
 use Rattle.protocol.specs.Form.{multicastNumbers}
 use Rattle.protocol.specs.Step.{answer}
@@ -93,10 +93,10 @@ module _ (M : Limits) (F : Floor) (G : History) (I : Invariant M F G) (S : Sized
       omega arith
 
   handled-most : (i j : ℕ) (r : Record) (l : List Record) → MayWire F i j r l → handle M (unlined F i j) i j r .report .p ≤ most
-  unfolding handle onMulticast onAckList onDelete onDeregister onRegister roomOf most
+  unfolding handle onMulticast multicastByRow onAckList onDelete onDeregister onRegister roomOf most
   handled-most i j (multicast n) l may =
       on-option (λ (d : Done). d .report .p ≤ most) (roomOf M F i n) (λ q. omega arith)
-      (λ m q. let z = count-le (F .carts) (passesOver (unlined F i j) m j i n) in omega arith)
+      (λ m q. let z = count-le (F .carts) (passesOver (unlined F i j) (localRow F j) m i n) in omega arith)
   handled-most i j (ackList n set) l may =
       on-option (λ (d : Done). d .report .p ≤ most) (roomOf M F j n) (λ q. omega arith)
       (λ m q. on-cond (λ (d : Done). d .report .p ≤ most) (eqb (union (F .acked m) set) (F .named m)) (λ b. omega arith) (λ b. omega arith))

@@ -11,7 +11,7 @@ use Rattle.protocol.specs.CartSets.{has, with}
 use Rattle.protocol.specs.Floor.{Floor, Limits, Record, ackList, at, behead, between, delete, deregister, multicast, onLines, put, register}
 use Rattle.protocol.specs.Events.{Done}
 use Rattle.protocol.specs.Handoff.{onDeregister, roomOf, rowOf}
-use Rattle.protocol.specs.Wired.{buffer, onMulticast}
+use Rattle.protocol.specs.Wired.{buffer, multicastByRow, onMulticast}
 use Rattle.protocol.specs.Wireless.{allAcked, handOver, receive, sendAcks, sendAcksIfAll}
 use Rattle.protocol.specs.Form.{ackCount, acksOf, acksTo, bit, countLine, countLines, isAckOf, isDeleteOf}
 use Rattle.protocol.proofs.Tests.{and-false, and-left, and-right, both-equal, by-test, eqb-self, not-both-equal, on-cond, on-option, on-update2, or-cases, or-right, update2-at}
@@ -31,7 +31,7 @@ deregister-lines M F i t c l e lc X =
 
 pub multicast-lines : (M : Limits) (F : Floor) (s t n : ℕ) (l : List Record) → F .lines s t ≡ multicast n ∷ l → LineFacts M F
     → LineFacts M (onMulticast M (onLines F (behead s t (F .lines))) s t n .floor)
-unfolding onMulticast buffer roomOf
+unfolding onMulticast multicastByRow buffer roomOf
 multicast-lines M F s t n l e X =
     on-option (λ (d : Done). LineFacts M (d .floor)) (roomOf M F s n) (λ q. multicast-taken-lines M F s t n l e X) (λ m q. multicast-taken-lines M F s t n l e X)
 

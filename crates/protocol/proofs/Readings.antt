@@ -7,16 +7,16 @@ use native.Mathlib.Omega.{arith}
 use lib.Dec.{eqb}
 use borrow.Author.Tests.{eqb-true, le-ltb, ne-eqb}
 use Rattle.protocol.specs.CartSets.{has, union}
-use Rattle.protocol.specs.Floor.{Floor, Limits, ackList, at, setTexts}
-use Rattle.protocol.specs.Events.{send}
+use Rattle.protocol.specs.Floor.{Floor, Limits, Place, ackList, at, isLocal, setPlace, setTexts}
+use Rattle.protocol.specs.Events.{Done, send}
 use Rattle.protocol.specs.Handoff.{catchUp, catchUpStop, onDeregister, roomOf}
-use Rattle.protocol.specs.Wired.{onAckList}
+use Rattle.protocol.specs.Wired.{buffer, localRow, multicastByRow, onAckList}
 use Rattle.protocol.specs.Wireless.{allAcked, handOver, receive, sendAcks, sendAcksIfAll, standsBefore}
 use Rattle.protocol.specs.Claims.{True}
 use Rattle.protocol.specs.Form.{formRule}
 use Rattle.protocol.specs.Refusals.{neverEntered, noStation, refusalIf, strangers}
-use Rattle.protocol.proofs.Tests.{and-false, by-lt, by-test, clash, eqb-self, on-cond, on-option, or-right}
-use Rattle.protocol.proofs.SetLaws.{has-with, has-without}
+use Rattle.protocol.proofs.Tests.{and-false, by-lt, by-option, by-test, clash, eqb-self, on-cond, on-option, or-right}
+use Rattle.protocol.proofs.SetLaws.{has-setOf, has-with, has-without}
 
 -- "Readings that lose or double a correction": for each of them, what the written steps do instead.
 -- "Dropping a message at a station once its own carts have it": a radio step takes no message out of any station's buffer
@@ -76,3 +76,21 @@ unfolding roomOf
 form-without-texts M F h =
     let room = h .1 .1 .1 .0 in
     (h .0, (h .1 .0, (h .1 .1 .0, ((λ m l. (room m l .0, (room m l .1 .0, (room m l .1 .1 .0, omega arith)))), h .1 .1 .1 .1))))
+
+-- THE LOCAL LIST LOOKED UP ONCE
+
+-- "The answers make a row, yes exactly for the local carts"
+pub row-of-local : (F : Floor) (t c : ℕ) → c < F .carts → has (localRow F t) c ≡ isLocal F t c
+row-of-local F t c l = has-setOf (F .carts) (isLocal F t) c l
+
+-- a step by any row changes no answer, of no station
+pub row-kept : (M : Limits) (F : Floor) (local s t n u : ℕ) → localRow (multicastByRow M F local s t n .floor) u ≡ localRow F u
+unfolding multicastByRow buffer
+row-kept M F local s t n u = on-option (λ (d : Done). localRow (d .floor) u ≡ localRow F u) (roomOf M F s n) (λ q. refl) (λ m q. refl)
+
+-- "The rest of the step takes it from that row alone": with the carts in any other places it does and reports the same
+pub places-not-asked : (M : Limits) (F : Floor) (x : ℕ → Place) (local s t n : ℕ)
+    → (multicastByRow M (setPlace F x) local s t n .floor ≡ setPlace (multicastByRow M F local s t n .floor) x)
+    × (multicastByRow M (setPlace F x) local s t n .report ≡ multicastByRow M F local s t n .report)
+unfolding multicastByRow buffer roomOf
+places-not-asked M F x local s t n = by-option (roomOf M F s n) (λ q. rw q (refl, refl)) (λ m q. rw q (refl, refl))

@@ -12,7 +12,7 @@ use Rattle.protocol.specs.CartSets.{minus, setOf, union, with, without}
 use Rattle.protocol.specs.Floor.{Floor, Limits, Place, Record, ackList, at, behead, between, cartsThat, delete, deregister, entered, isBuffered, justStarted, leaving, multicast, outside, put, register, stationOf, toEvery, travelling}
 use Rattle.protocol.specs.Events.{Done, Event}
 use Rattle.protocol.specs.Handoff.{arrive, catchUpStop, entryOf, onDeregister, onEnter, onMove, onRegister, roomOf, rowOf, struck, withRow}
-use Rattle.protocol.specs.Wired.{buffer, handle, isQueued, isStruck, onAckList, onDelete, onMulticast, withMessage}
+use Rattle.protocol.specs.Wired.{buffer, handle, isQueued, isStruck, localRow, multicastByRow, onAckList, onDelete, onMulticast, withMessage}
 use Rattle.protocol.specs.Wireless.{allAcked, handOver, receive, sendAcks, sendAcksIfAll}
 use Rattle.protocol.specs.Claims.{All}
 use Rattle.protocol.specs.Form.{handoffOf, handoffs, registering}
@@ -180,17 +180,17 @@ module _ (M : Limits) where
     Fits d = Sized M (d .floor)
 
     handled-sized : (i j : ℕ) (r : Record) (l : List Record) → MayWire F i j r l → Fits (handle M (unlined F i j) i j r)
-    unfolding handle onMulticast onAckList onDelete onDeregister onRegister buffer roomOf
+    unfolding handle onMulticast multicastByRow onAckList onDelete onDeregister onRegister buffer roomOf
     handled-sized i j (multicast n) l may =
         let P = popped-sized i j in
         on-option Fits (roomOf M F i n)
         (λ q. record { lengths = P .lengths; words = P .words; counts = P .counts; numbers = P .numbers; places = P .places; messages = P .messages; copies = P .copies; lines = P .lines })
         (λ m q. record {
           copies = record {
-            copy = set-update M (F .carts) (F .copy) m j (minus (F .named m) (cartsThat F (isStruck F m j i n)))
-                (λ lm lt. minus-lt (F .carts) (F .named m) (cartsThat F (isStruck F m j i n)) (S .messages .named m lm)) (S .copies .copy);
+            copy = set-update M (F .carts) (F .copy) m j (minus (F .named m) (cartsThat F (isStruck F (localRow F j) m i n)))
+                (λ lm lt. minus-lt (F .carts) (F .named m) (cartsThat F (isStruck F (localRow F j) m i n)) (S .messages .named m lm)) (S .copies .copy);
             acks = S .copies .acks;
-            queue = set-update M (F .carts) (F .queue) m j (cartsThat F (isQueued F m j i n)) (λ lm lt. setOf-lt (F .carts) (isQueued F m j i n)) (S .copies .queue);
+            queue = set-update M (F .carts) (F .queue) m j (cartsThat F (isQueued F (localRow F j) m i n)) (λ lm lt. setOf-lt (F .carts) (isQueued F (localRow F j) m i n)) (S .copies .queue);
           };
           lengths = P .lengths;
           words = P .words;

@@ -9,7 +9,7 @@ use Rattle.protocol.specs.CartSets.{union}
 use Rattle.protocol.specs.Floor.{Floor, Limits, Record, ackList, at, delete, deregister, justStarted, multicast, register}
 use Rattle.protocol.specs.Events.{Done, Event, accepted, wire}
 use Rattle.protocol.specs.Handoff.{entryOf, onDeregister, onEnter, onMove, onRegister, roomOf, rowOf}
-use Rattle.protocol.specs.Wired.{buffer, handle, onAckList, onDelete, onMulticast, withMessage}
+use Rattle.protocol.specs.Wired.{buffer, handle, localRow, multicastByRow, onAckList, onDelete, onMulticast, withMessage}
 use Rattle.protocol.specs.Form.{handoffOf, handoffs, registering}
 use Rattle.protocol.specs.Step.{answer, floorAfter, step}
 use Rattle.protocol.specs.SumRule.{gain, gains, total}
@@ -34,8 +34,8 @@ module _ (M : Limits) (F : Floor) (G : History) (I : Invariant M F G) where
   idle n = omega arith
 
   handle-sum : (i j : ℕ) (r : Record) (l : List Record) → MayWire F i j r l → Gains (wire i j) (handle M (unlined F i j) i j r)
-  unfolding handle onMulticast onAckList onDelete onDeregister onRegister roomOf total
-  handle-sum i j (multicast n) l may = on-option (Gains (wire i j)) (roomOf M F i n) (λ q. idle (total F)) (λ m q. by-p _ _ _ (multicast-sum M (unlined F i j) m i j n (may .from)))
+  unfolding handle onMulticast multicastByRow onAckList onDelete onDeregister onRegister roomOf total
+  handle-sum i j (multicast n) l may = on-option (Gains (wire i j)) (roomOf M F i n) (λ q. idle (total F)) (λ m q. by-p _ _ _ (multicast-sum M (unlined F i j) (localRow F j) m i j n (may .from)))
   handle-sum i j (ackList n set) l may =
       on-option (Gains (wire i j)) (roomOf M F j n) (λ q. idle (total F))
       (λ m q. on-cond (Gains (wire i j)) (eqb (union (F .acked m) set) (F .named m)) (λ b. idle (total F)) (λ b. idle (total F)))

@@ -7,7 +7,7 @@ use lib.Dec.{eqb, ltb}
 use borrow.Author.Tests.{eqb-false, eqb-true, lt-ltb, ne-eqb}
 use Rattle.protocol.specs.Folds.{count, sum, update2}
 use Rattle.protocol.specs.CartSets.{has}
-use Rattle.protocol.specs.Floor.{Floor, Limits, isLocal}
+use Rattle.protocol.specs.Floor.{Floor, Limits}
 use Rattle.protocol.specs.Handoff.{arrive, catchUpStop, passedOver, struck}
 use Rattle.protocol.specs.Wired.{buffer, passesOver}
 use Rattle.protocol.specs.Wireless.{allAcked, handOver, receive, sendAcks, sendAcksIfAll}
@@ -91,22 +91,22 @@ module _ (M : Limits) (F : Floor) (t c : ℕ) (row : ℕ → ℕ) where
       rw passed-over-is
       (sum-mono (F .stations) (λ s. upto s - row s) (λ s. F .expected t s - row s) (λ s ls. let a = rises s .1 in omega arith))
 
--- multicast: p counts the carts that are passed over
-pub multicast-sum : (M : Limits) (F : Floor) (m s t n : ℕ) → s < F .stations
-    → total (buffer F m t s n) ≡ total F + count (F .carts) (passesOver F m t s n)
+-- multicast: p counts the carts that are passed over, by any row
+pub multicast-sum : (M : Limits) (F : Floor) (local m s t n : ℕ) → s < F .stations
+    → total (buffer F local m t s n) ≡ total F + count (F .carts) (passesOver F local m s n)
 unfolding total buffer
-multicast-sum M F m s t n ls =
-    total-up (F .carts) (F .stations) (F .next) (buffer F m t s n .next) (λ c u. cond (eqb u s) (cond (passesOver F m t s n c) 1 0) 0)
+multicast-sum M F local m s t n ls =
+    total-up (F .carts) (F .stations) (F .next) (buffer F local m t s n .next) (λ c u. cond (eqb u s) (cond (passesOver F local m s n c) 1 0) 0)
     (λ c u lc lu. by-test (eqb u s)
-    (λ e. by-test (passesOver F m t s n c)
+    (λ e. by-test (passesOver F local m s n c)
     (λ q. let y = eqb-true u s e in
-    let v = eqb-true (F .next c s) n (and-left (eqb (F .next c s) n) (not (has (F .named m) c)) (and-right (isLocal F t c) (eqb (F .next c s) n && not (has (F .named m) c)) q)) in
+    let v = eqb-true (F .next c s) n (and-left (eqb (F .next c s) n) (not (has (F .named m) c)) (and-right (has local c) (eqb (F .next c s) n && not (has (F .named m) c)) q)) in
     rw (e, q, y) (omega arith))
     (λ q. rw (e, q) (omega arith)))
     (λ e. rw e (omega arith)))
-    ∙ (let z = sum-ext (F .carts) (λ c. sum (F .stations) (λ u. cond (eqb u s) (cond (passesOver F m t s n c) 1 0) 0)) (λ c. cond (passesOver F m t s n c) 1 0)
-    (λ c lc. sum-at (F .stations) s (cond (passesOver F m t s n c) 1 0) ls) in
-    let y = sum-count (F .carts) (passesOver F m t s n) in omega arith)
+    ∙ (let z = sum-ext (F .carts) (λ c. sum (F .stations) (λ u. cond (eqb u s) (cond (passesOver F local m s n c) 1 0) 0)) (λ c. cond (passesOver F local m s n c) 1 0)
+    (λ c lc. sum-at (F .stations) s (cond (passesOver F local m s n c) 1 0) ls) in
+    let y = sum-count (F .carts) (passesOver F local m s n) in omega arith)
 
 -- radio: one receipt, and what the catch-up passed over
 catch-sum : (M : Limits) (F D : Floor) (s n t c : ℕ) → c < F .carts → s < F .stations → F .next c s ≡ n

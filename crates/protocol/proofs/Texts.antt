@@ -11,7 +11,7 @@ use Rattle.protocol.specs.CartSets.{union, without}
 use Rattle.protocol.specs.Floor.{Floor, Limits, Record, ackList, delete, deregister, multicast, register}
 use Rattle.protocol.specs.Events.{Done, Event}
 use Rattle.protocol.specs.Handoff.{arrive, entryOf, onDeregister, onEnter, onMove, onRegister, roomOf, struck}
-use Rattle.protocol.specs.Wired.{buffer, handle, onAckList, onDelete, onMulticast, withMessage}
+use Rattle.protocol.specs.Wired.{buffer, handle, multicastByRow, onAckList, onDelete, onMulticast, withMessage}
 use Rattle.protocol.specs.Wireless.{allAcked, handOver, receive, sendAcks, sendAcksIfAll}
 use Rattle.protocol.specs.Step.{floorAfter, step}
 use Rattle.protocol.proofs.Tests.{by-eq, by-test, clash, on-cond, on-option}
@@ -51,7 +51,7 @@ module _ (M : Limits) (F : Floor) (T : AllTexts F) where
   HasTexts d = AllTexts (d .floor)
 
   handled-text : (i j : ℕ) (r : Record) → HasTexts (handle M F i j r)
-  unfolding handle onMulticast onAckList onDelete onDeregister onRegister buffer
+  unfolding handle onMulticast multicastByRow onAckList onDelete onDeregister onRegister buffer
   handled-text i j (multicast n) = on-option HasTexts (roomOf M F i n) (λ e. T) (λ m e. T)
   handled-text i j (ackList n set) =
       on-option HasTexts (roomOf M F j n) (λ e. T) (λ m e. on-cond HasTexts (eqb (union (F .acked m) set) (F .named m)) (λ b. T) (λ b. T))

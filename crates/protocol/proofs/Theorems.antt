@@ -9,10 +9,11 @@ use lib.Dec.{eqb}
 use lib.ListN.{length}
 use borrow.Author.Tests.{ne-eqb, not-true}
 use Rattle.protocol.specs.Folds.{count, isEmpty, sum}
-use Rattle.protocol.specs.Floor.{Floor, Limits, Record, ackList, at, behead, delete, isHeld, justStarted, kit, limits, limitsOf, mostRecords, multicast, onLines, onTheLines, register, setTexts, stationOf}
+use Rattle.protocol.specs.CartSets.{has}
+use Rattle.protocol.specs.Floor.{Floor, Limits, Place, Record, ackList, at, behead, delete, isHeld, isLocal, justStarted, kit, limits, limitsOf, mostRecords, multicast, onLines, onTheLines, register, setPlace, setTexts, stationOf}
 use Rattle.protocol.specs.Events.{Event, Report, accepted, move, radio, refused, send, start, wire}
 use Rattle.protocol.specs.Handoff.{entryOf, onRegister, roomOf}
-use Rattle.protocol.specs.Wired.{freeRoom, handle, onWire}
+use Rattle.protocol.specs.Wired.{freeRoom, handle, localRow, multicastByRow, onMulticast, onWire}
 use Rattle.protocol.specs.Wireless.{queueHead}
 use Rattle.protocol.specs.Form.{formRule, passesForm}
 use Rattle.protocol.specs.Blank.{BlankBeyond}
@@ -22,8 +23,8 @@ use Rattle.protocol.specs.TwoLists.{TwoListRule, bothEmpty, listsAfter, 
 use Rattle.protocol.specs.SumRule.{gains, total}
 use Rattle.protocol.specs.Ranges.{InRange, NumbersBelow, Wide}
 use Rattle.protocol.specs.Examples.{examples, outcome}
-use Rattle.protocol.proofs.Tests.{by-eq, clash}
-use Rattle.protocol.proofs.Readings.{form-without-texts, never-entered-is-12, no-text-is-24}
+use Rattle.protocol.proofs.Tests.{by-eq, clash, on-cond}
+use Rattle.protocol.proofs.Readings.{form-without-texts, never-entered-is-12, no-text-is-24, places-not-asked, row-kept, row-of-local}
 use Rattle.protocol.proofs.Accepted.{MayWire, accepted-passes, accepted-report, may-move, may-radio, may-send, may-wire, passed-check}
 use Rattle.protocol.proofs.Demand3.{nothing, rule-after, started-ok}
 use Rattle.protocol.proofs.Counting.{sum-ext, sum-term}
@@ -280,6 +281,30 @@ no-text-held M F n k l a es m =
 pub form-admits-no-text : (M : Limits) (F : Floor) → passesForm M F ≡ true → passesForm M (setTexts F (λ m. [])) ≡ true
 unfolding passesForm
 form-admits-no-text M F h = reflect (formRule M (setTexts F (λ m. []))) .1 (form-without-texts M F (reflect (formRule M F) .0 h))
+
+-- THE LOCAL LIST LOOKED UP ONCE
+
+-- "The answers make a row, yes exactly for the local carts"
+pub row-is-local : (F : Floor) (t c : ℕ) → c < F .carts → has (localRow F t) c ≡ isLocal F t c
+row-is-local F t c l = row-of-local F t c l
+
+-- "that the step changes none of them is proved": the row after a wire step with a multicast is the row before it, of every station
+pub multicast-keeps-row : (M : Limits) (F : Floor) (i j n : ℕ) (rest : List Record) → F .lines i j ≡ multicast n ∷ rest → (u : ℕ) → localRow (step M F (wire i j)) u ≡ localRow F u
+unfolding step accept onWire handle onMulticast
+multicast-keeps-row M F i j n rest e u =
+    on-cond (λ (X : Floor). localRow X u ≡ localRow F u) (eqb (refusal M F (wire i j)) 0)
+    (λ b. rw e (row-kept M (onLines F (behead i j (F .lines))) (localRow F j) i j n u)) (λ b. refl)
+
+-- "The rest of the step takes it from that row alone: its contract holds for any row, also one that disagrees with the carts' records": wherever the
+-- carts are, the rest does and reports the same
+pub row-alone : (M : Limits) (F : Floor) (elsewhere : ℕ → Place) (local s t n : ℕ)
+    → (multicastByRow M (setPlace F elsewhere) local s t n .floor ≡ setPlace (multicastByRow M F local s t n .floor) elsewhere)
+    × (multicastByRow M (setPlace F elsewhere) local s t n .report ≡ multicastByRow M F local s t n .report)
+row-alone M F elsewhere local s t n = places-not-asked M F elsewhere local s t n
+
+-- and changes no answer, by whatever row it goes
+pub any-row-kept : (M : Limits) (F : Floor) (local s t n u : ℕ) → localRow (multicastByRow M F local s t n .floor) u ≡ localRow F u
+any-row-kept M F local s t n u = row-kept M F local s t n u
 
 -- THE EXAMPLES: "The starred examples are gathered as rows of a single proved table over the written steps"
 pub examples-hold : map (λ r. outcome (r .given)) examples ≡ map (λ r. r .shown) examples

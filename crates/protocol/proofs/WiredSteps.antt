@@ -13,7 +13,7 @@ use Rattle.protocol.specs.CartSets.{has, minus, union, without}
 use Rattle.protocol.specs.Floor.{Floor, Limits, Record, at, behead, cartsThat, delete, isLocal, multicast, onLines, setCopy, setExpected, setWaiting, toEvery}
 use Rattle.protocol.specs.Events.{Done}
 use Rattle.protocol.specs.Handoff.{roomOf}
-use Rattle.protocol.specs.Wired.{addAcks, buffer, isQueued, isStruck, onAckList, onDelete, onMulticast, passesOver, raiseExpected}
+use Rattle.protocol.specs.Wired.{addAcks, buffer, isQueued, isStruck, localRow, multicastByRow, onAckList, onDelete, onMulticast, passesOver, raiseExpected}
 use Rattle.protocol.proofs.Tests.{and-intro, and-left, and-right, by-test, clash, on-cond, on-option, on-update, on-update2, or-cases, update-at, update2-at}
 use Rattle.protocol.proofs.SetLaws.{has-minus, has-union, setOf-member}
 use Rattle.protocol.proofs.Invariant.{Held, History, Invariant, Queued, blank, names}
@@ -134,11 +134,11 @@ module _ (M : Limits) (F : Floor) (G : History) (s t n : ℕ) (hs : (c : ℕ) �
   unfolding waitingLess onDelete
   delete-ok = on-option (λ (d : Done). Invariant M (d .floor) G) (roomOf M F s n) (λ q. I) (λ m q. waiting-less-ok m q)
 
--- multicast
+-- multicast, by a row that says yes for no cart but local ones
 module _ (M : Limits) (F : Floor) (G : History) (s t n : ℕ) (l : List Record) (e : F .lines s t ≡ multicast n ∷ l) (lt : t < F .stations) (I : Invariant M F G) where
-  module _ (m : ℕ) (f : roomOf M F s n ≡ some m) where
+  module _ (local : ℕ) (is-local : (c : ℕ) → has local c ≡ true → isLocal F t c ≡ true) (m : ℕ) (f : roomOf M F s n ≡ some m) where
     copied : ℕ → ℕ → ℕ
-    copied = update2 (F .copy) m t (minus (F .named m) (cartsThat F (isStruck F m t s n)))
+    copied = update2 (F .copy) m t (minus (F .named m) (cartsThat F (isStruck F local m s n)))
 
     H : Held M (F .waiting) m
     H = room-some M F s n m f .0
@@ -152,28 +152,28 @@ module _ (M : Limits) (F : Floor) (G : History) (s t n : ℕ) (l : List Record) 
     is-expected : n ≡ F .expected t s
     is-expected = (rw e at (I .run s t lt)) .0
 
-    in-copy : (c : ℕ) → has (minus (F .named m) (cartsThat F (isStruck F m t s n))) c ≡ (has (F .named m) c && not (has (cartsThat F (isStruck F m t s n)) c))
-    in-copy c = has-minus (F .named m) (cartsThat F (isStruck F m t s n)) c
+    in-copy : (c : ℕ) → has (minus (F .named m) (cartsThat F (isStruck F local m s n))) c ≡ (has (F .named m) c && not (has (cartsThat F (isStruck F local m s n)) c))
+    in-copy c = has-minus (F .named m) (cartsThat F (isStruck F local m s n)) c
 
     copy-ok : Invariant M (setCopy F copied) G
     unfolding copied
     copy-ok =
         copy-changed M F G I copied
         (λ k u c h a b g d le.
-        on-update2 (λ x. has x c ≡ true) (F .copy) m t (minus (F .named m) (cartsThat F (isStruck F m t s n))) k u
+        on-update2 (λ x. has x c ≡ true) (F .copy) m t (minus (F .named m) (cartsThat F (isStruck F local m s n))) k u
         (λ x y. absurd (let b' : F .number m < F .expected t (F .initiator m) = rw (← x, ← y) b in let b'' : n < F .expected t s = rw (is-i, is-n) at b' in let z = is-expected in omega arith))
         (λ z. I .copies k u c h a b g d le))
         (λ k u c h lu.
-        on-update2 (λ x. has x c ≡ true → has (F .named k) c ≡ true) (F .copy) m t (minus (F .named m) (cartsThat F (isStruck F m t s n))) k u
-        (λ x y q. rw x (and-left (has (F .named m) c) (not (has (cartsThat F (isStruck F m t s n)) c)) (sym (in-copy c) ∙ q)))
+        on-update2 (λ x. has x c ≡ true → has (F .named k) c ≡ true) (F .copy) m t (minus (F .named m) (cartsThat F (isStruck F local m s n))) k u
+        (λ x y q. rw x (and-left (has (F .named m) c) (not (has (cartsThat F (isStruck F local m s n)) c)) (sym (in-copy c) ∙ q)))
         (λ z. I .within k u c h lu))
 
     -- a cart with a next number up to n is not struck
-    not-struck : (c : ℕ) → F .next c s ≤ n → not (has (cartsThat F (isStruck F m t s n)) c) ≡ true
+    not-struck : (c : ℕ) → F .next c s ≤ n → not (has (cartsThat F (isStruck F local m s n)) c) ≡ true
     not-struck c le =
-        by-test (has (cartsThat F (isStruck F m t s n)) c)
-        (λ q. let z = setOf-member (F .carts) (isStruck F m t s n) c q in
-        let y = and-left (ltb n (F .next c s)) (has (F .named m) c) (and-right (isLocal F t c) (ltb n (F .next c s) && has (F .named m) c) z) in
+        by-test (has (cartsThat F (isStruck F local m s n)) c)
+        (λ q. let z = setOf-member (F .carts) (isStruck F local m s n) c q in
+        let y = and-left (ltb n (F .next c s)) (has (F .named m) c) (and-right (has local c) (ltb n (F .next c s) && has (F .named m) c) z) in
         absurd (let x = ltb-true n (F .next c s) y in omega arith))
         (λ q. ap not q)
 
@@ -185,24 +185,24 @@ module _ (M : Limits) (F : Floor) (G : History) (s t n : ℕ) (l : List Record) 
         let is-k : k ≡ m = I .one-room k m h H (a ∙ sym is-i) (b ∙ sym is-n) in
         let d' : has (F .named m) c ≡ true = rw is-k at d in
         let le' : F .next c s ≤ n = rw (a, b) at le in
-        rw (is-k, update2-at (F .copy) m t (minus (F .named m) (cartsThat F (isStruck F m t s n))))
-        (in-copy c ∙ and-intro (has (F .named m) c) (not (has (cartsThat F (isStruck F m t s n)) c)) d' (not-struck c le')))
+        rw (is-k, update2-at (F .copy) m t (minus (F .named m) (cartsThat F (isStruck F local m s n))))
+        (in-copy c ∙ and-intro (has (F .named m) c) (not (has (cartsThat F (isStruck F local m s n)) c)) d' (not-struck c le')))
 
-    skipping : (c : ℕ) → passesOver F m t s n c ≡ true → (isLocal F t c ≡ true) × ((F .next c s ≡ n) × (has (F .named m) c ≡ false))
+    skipping : (c : ℕ) → passesOver F local m s n c ≡ true → (isLocal F t c ≡ true) × ((F .next c s ≡ n) × (has (F .named m) c ≡ false))
     skipping c q =
-        let a = and-left (isLocal F t c) (eqb (F .next c s) n && not (has (F .named m) c)) q in
-        let b = and-right (isLocal F t c) (eqb (F .next c s) n && not (has (F .named m) c)) q in
+        let a = is-local c (and-left (has local c) (eqb (F .next c s) n && not (has (F .named m) c)) q) in
+        let b = and-right (has local c) (eqb (F .next c s) n && not (has (F .named m) c)) q in
         (a, (eqb-true (F .next c s) n (and-left (eqb (F .next c s) n) (not (has (F .named m) c)) b), not-true (has (F .named m) c) (and-right (eqb (F .next c s) n) (not (has (F .named m) c)) b)))
 
     X : ℕ → ℕ → ℕ
-    X = λ c u. cond (eqb u s && passesOver F m t s n c) (suc n) (F .next c u)
+    X = λ c u. cond (eqb u s && passesOver F local m s n c) (suc n) (F .next c u)
 
     -- a property of the raised number
     on-X : (P : ℕ → Type 0) (c u : ℕ) → (u ≡ s → (isLocal F t c ≡ true) × ((F .next c s ≡ n) × (has (F .named m) c ≡ false)) → P (suc n)) → P (F .next c u) → P (X c u)
     unfolding X
     on-X P c u p q =
-        on-cond P (eqb u s && passesOver F m t s n c)
-        (λ b. p (eqb-true u s (and-left (eqb u s) (passesOver F m t s n c) b)) (skipping c (and-right (eqb u s) (passesOver F m t s n c) b)))
+        on-cond P (eqb u s && passesOver F local m s n c)
+        (λ b. p (eqb-true u s (and-left (eqb u s) (passesOver F local m s n c) b)) (skipping c (and-right (eqb u s) (passesOver F local m s n c) b)))
         (λ b. q)
 
     rises : Rise F X
@@ -223,17 +223,17 @@ module _ (M : Limits) (F : Floor) (G : History) (s t n : ℕ) (l : List Record) 
         (λ g. absurd (omega arith))
 
     enqueued : ℕ → ℕ → ℕ
-    enqueued = update2 (F .queue) m t (cartsThat F (isQueued F m t s n))
+    enqueued = update2 (F .queue) m t (cartsThat F (isQueued F local m s n))
 
     queued : (k u c : ℕ) → has (enqueued k u) c ≡ true → Queued M (F .waiting) (F .initiator) (F .number) (F .named) (F .place) X k u c
     unfolding enqueued
     queued k u c =
         on-update2 (λ x. has x c ≡ true → Queued M (F .waiting) (F .initiator) (F .number) (F .named) (F .place) X k u c) (F .queue) m t
-        (cartsThat F (isQueued F m t s n)) k u
+        (cartsThat F (isQueued F local m s n)) k u
         (λ x y q.
-        let r = setOf-member (F .carts) (isQueued F m t s n) c q in
-        let o = and-left (isLocal F t c) (eqb (F .next c s) n && has (F .named m) c) r in
-        let r' = and-right (isLocal F t c) (eqb (F .next c s) n && has (F .named m) c) r in
+        let r = setOf-member (F .carts) (isQueued F local m s n) c q in
+        let o = is-local c (and-left (has local c) (eqb (F .next c s) n && has (F .named m) c) r) in
+        let r' = and-right (has local c) (eqb (F .next c s) n && has (F .named m) c) r in
         let v = eqb-true (F .next c s) n (and-left (eqb (F .next c s) n) (has (F .named m) c) r') in
         let d = and-right (eqb (F .next c s) n) (has (F .named m) c) r' in
         record {
@@ -257,7 +257,7 @@ module _ (M : Limits) (F : Floor) (G : History) (s t n : ℕ) (l : List Record) 
               (o .due);
         })
 
-    pub multicast-buffered-ok : Invariant M (raiseExpected (buffer (onLines F (behead s t (F .lines))) m t s n) t s) G
+    pub multicast-buffered-ok : Invariant M (raiseExpected (buffer (onLines F (behead s t (F .lines))) local m t s n) t s) G
     unfolding X enqueued copied buffer
     multicast-buffered-ok =
         let F2 = setExpected (onLines (setCopy F copied) (behead s t (F .lines))) (update2 (F .expected) t s (suc (F .expected t s))) in
@@ -265,8 +265,8 @@ module _ (M : Limits) (F : Floor) (G : History) (s t n : ℕ) (l : List Record) 
         numbers-rise M F2 G X enqueued (G .received) R queued (received-over M F2 G X moved-ok R passes) moved-ok
 
   pub multicast-ok : Invariant M (onMulticast M (onLines F (behead s t (F .lines))) s t n .floor) G
-  unfolding onMulticast buffer roomOf
+  unfolding onMulticast multicastByRow buffer roomOf
   multicast-ok =
       on-option (λ (d : Done). Invariant M (d .floor) G) (roomOf M F s n)
       (λ q. multicast-taken M F G s t n l e lt I (λ m c h a b g d le. absurd (room-none M F s n m q h a b)))
-      (λ m q. multicast-buffered-ok m q)
+      (λ m q. multicast-buffered-ok (localRow F t) (λ c. setOf-member (F .carts) (isLocal F t) c) m q)

@@ -37,28 +37,34 @@ unfoldable pub withMessage : Floor → ℕ → ℕ → ℕ → List ℕ → Floo
 withMessage F m s set text =
     push (onStations (newCopies (newMessage F m s set text) m) (update (F .sent) s (suc (F .sent s))) (F .expected)) (toEvery (F .stations) s) (multicast (F .sent s))
 
--- MULTICAST: message n of s, in room m, handled at t
+-- MULTICAST: message n of s, in room m, handled at t. "a multicast step shall find out once for each cart whether it is local, before it goes
+-- over queue and copy. The answers make a row": the set of the carts with a yes, `local` below. "The rest of the step takes it from that row
+-- alone", for any row
+
+-- "The answers make a row, yes exactly for the local carts", of station t
+abbrev pub localRow : Floor → ℕ → ℕ
+localRow F t = cartsThat F (isLocal F t)
 
 -- "equal and not named, its next number rises": does it for cart c
 abbrev pub passesOver : Floor → ℕ → ℕ → ℕ → ℕ → ℕ → Bool
-passesOver F m t s n c = isLocal F t c && (eqb (F .next c s) n && not (has (F .named m) c))
+passesOver F local m s n c = has local c && (eqb (F .next c s) n && not (has (F .named m) c))
 
 -- "next number equal and cart named, it is queued for that message": is cart c
 abbrev pub isQueued : Floor → ℕ → ℕ → ℕ → ℕ → ℕ → Bool
-isQueued F m t s n c = isLocal F t c && (eqb (F .next c s) n && has (F .named m) c)
+isQueued F local m s n c = has local c && (eqb (F .next c s) n && has (F .named m) c)
 
 -- "greater and named, it is struck from the copy": is cart c
 abbrev pub isStruck : Floor → ℕ → ℕ → ℕ → ℕ → ℕ → Bool
-isStruck F m t s n c = isLocal F t c && (ltb n (F .next c s) && has (F .named m) c)
+isStruck F local m s n c = has local c && (ltb n (F .next c s) && has (F .named m) c)
 
 -- "the message is buffered with its own copy of the set. For each local cart: .."
-unfoldable pub buffer : Floor → ℕ → ℕ → ℕ → ℕ → Floor
-buffer F m t s n =
+unfoldable pub buffer : Floor → ℕ → ℕ → ℕ → ℕ → ℕ → Floor
+buffer F local m t s n =
     setQueue
     (setCopy
-    (setNext F (λ c u. cond (eqb u s && passesOver F m t s n c) (suc n) (F .next c u)))
-    (update2 (F .copy) m t (minus (F .named m) (cartsThat F (isStruck F m t s n)))))
-    (update2 (F .queue) m t (cartsThat F (isQueued F m t s n)))
+    (setNext F (λ c u. cond (eqb u s && passesOver F local m s n c) (suc n) (F .next c u)))
+    (update2 (F .copy) m t (minus (F .named m) (cartsThat F (isStruck F local m s n)))))
+    (update2 (F .queue) m t (cartsThat F (isQueued F local m s n)))
 
 -- "the expected number rises by one"
 abbrev pub raiseExpected : Floor → ℕ → ℕ → Floor
@@ -81,11 +87,15 @@ module _ (M : Limits) where
   unfoldable pub onSend : Floor → ℕ → ℕ → List ℕ → Done
   onSend F s set text = byOption (freeRoom F) (done F 2 s 0 0 0 []) (λ m. done (withMessage F m s set text) 2 s (F .sent s) 0 (F .stations) [])
 
-  -- "Multicast", with number n, from s, handled at t
-  unfoldable pub onMulticast : Floor → ℕ → ℕ → ℕ → Done
-  onMulticast F s t n =
+  -- "Multicast", with number n, from s, handled at t, once it is known who is local: for any row
+  unfoldable pub multicastByRow : Floor → ℕ → ℕ → ℕ → ℕ → Done
+  multicastByRow F local s t n =
       byOption (roomOf M F s n) (done (raiseExpected F t s) 3 1 n 0 0 [])
-      (λ m. done (raiseExpected (buffer F m t s n) t s) 3 1 n (count (F .carts) (passesOver F m t s n)) 0 [])
+      (λ m. done (raiseExpected (buffer F local m t s n) t s) 3 1 n (count (F .carts) (passesOver F local m s n)) 0 [])
+
+  -- "Multicast": the row is made first
+  unfoldable pub onMulticast : Floor → ℕ → ℕ → ℕ → Done
+  onMulticast F s t n = let local = localRow F t in multicastByRow F local s t n
 
   -- "Ack list: .. When they make up the whole set, a delete goes to every station", with number n, handled at the initiator s
   unfoldable pub onAckList : Floor → ℕ → ℕ → ℕ → Done
