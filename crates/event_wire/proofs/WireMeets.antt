@@ -92,7 +92,7 @@ module _ (P : Product) (S C M W W₁ T : List ℕ) (i j : ℕ) (said : word.Reco
       → (HasStation S j × (i < 16) × (stationsIn S .expected j i < 4294967296)) × (((c : ℕ) → has (stationsIn S .local j) c ≡ true → HasRow C c) × HasRoom M m × (m < 32) × (n < 4294967296))
   multicast-asks k = asks.multicast-asks S C M W W₁ T X i j (off .from) (off .to) said rest (off .top) (off .popped) k
 
-  pub meets-multicast : kindOf (said .0) ≡ 1 → (S′ C′ : List ℕ) (x : ℕ) (f : Effect) → x ≡ n → Buffered S S′ C C′ M m n i j (f .passed) → f ≡ passing (f .passed)
+  pub meets-multicast : kindOf (said .0) ≡ 1 → (S′ C′ : List ℕ) (x : ℕ) (f : Effect) → x ≡ n → Buffered S S′ C C′ M (stationsIn S .local j) m n i j (f .passed) → f ≡ passing (f .passed)
       → Met L (lent P S′ C′ M W₁ T) (wire i j) (says 3 1 x f)
   meets-multicast k S′ C′ x f e b counted =
       meets (lent P S′ C′ M W₁ T) 1 x f (passing (f .passed)) refl counted

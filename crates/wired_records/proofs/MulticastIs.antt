@@ -1,8 +1,8 @@
 -- A MULTICAST OVER THE LENT PARTS IS THE WRITTEN MULTICAST: the floor that they then say is the floor of the written step.
-use mathlib.Core.Path.{_≡_, refl, sym, ap, _∙_}
+use mathlib.Core.Path.{_≡_, refl, sym, ap, _∙_, subst}
 use mathlib.Core.Bool.{Bool, false, cond, _&&_}
 use mathlib.Core.List.{List, [], _∷_}
-use Prim.Native.Nat.{ℕ, suc, _+_, _*_, _<_}
+use Prim.Native.Nat.{ℕ, suc, _+_, _*_, _^_, _<_}
 use native.Mathlib.Numerals.{add-one}
 use native.Mathlib.Omega.{arith}
 use lib.Dec.{eqb}
@@ -12,7 +12,7 @@ use Rattle.protocol.specs.Floor.{Floor, Carts, localTo, Record, behead, limitsO
 use Rattle.protocol.specs.Events.{Done, done}
 use Rattle.protocol.specs.Form.{multicastNumbers}
 use Rattle.protocol.specs.Handoff.{roomOf}
-use Rattle.protocol.specs.Wired.{handle, onMulticast, onWire, buffer, raiseExpected, passesOver, isQueued, isStruck}
+use Rattle.protocol.specs.Wired.{handle, localRow, multicastByRow, onMulticast, onWire, buffer, raiseExpected, passesOver, isQueued, isStruck}
 use borrow.Author.Tests.{ne-eqb}
 use Rattle.protocol.proofs.Accepted.{unlined}
 use Rattle.protocol.proofs.Updates.{counts-up-le}
@@ -30,7 +30,7 @@ use Rattle.view.proofs.Laid.{Laid, words-right, laid-pop, laid-carts}
 use Rattle.view.proofs.Standing.{Standing}
 use Rattle.wired_records.specs.Handled.{Buffered}
 use Rattle.wired_records.proofs.Head.{InRoom, from-below, to-below, wire-is, says-multicast, multicast-room}
-use Rattle.wired_records.proofs.MulticastSets.{over-has, over-count, queue-same, copy-same}
+use Rattle.wired_records.proofs.MulticastSets.{row-made, row-small, over-has, over-count, queue-same, copy-same}
 
 -- the number that a station expects is no more than 65,535
 pub expected-below : (L : Lent) → Standing L → (t s : ℕ) → t < floorIn L .stations → floorIn L .expected t s < 4294967296
@@ -44,7 +44,7 @@ expected-below L X t s l =
 module _ {P : Product} (S S′ C C′ M W W₁ T : List ℕ) (X : Standing (lent P S C M W T)) (i j : ℕ)
     (from : i < headIn S .stations) (to : j < headIn S .stations) (said : word.Record) (rest : List word.Record)
     (top : recordsOn W (i * 16 + j) ≡ said ∷ rest) (kind : kindOf (said .0) ≡ 1) (popped : Popped W W₁ (i * 16 + j))
-    (p : ℕ) (buffered : Buffered S S′ C C′ M (indexOf (said .0)) (numberOf (said .0)) i j p) where
+    (p : ℕ) (by-table : Buffered S S′ C C′ M (stationsIn S .local j) (indexOf (said .0)) (numberOf (said .0)) i j p) where
   abbrev L : Lent
   L = lent P S C M W T
 
@@ -66,15 +66,22 @@ module _ {P : Product} (S S′ C C′ M W W₁ T : List ℕ) (X : Standing (lent
   lj : j < 16
   lj = to-below L X i j from to
 
-  lj′ : j < P .stations
-  lj′ = let z = X .sized .counts .stations in omega arith
+  -- the row that was made first
+  abbrev local : ℕ
+  local = localRow F j
+
+  small : local < 2 ^ F .carts
+  small = row-small L X j to
+
+  buffered : Buffered S S′ C C′ M local m n i j p
+  buffered = subst (λ (row : ℕ). Buffered S S′ C C′ M row m n i j p) (row-made L X j to) by-table
 
   in-room : InRoom (limitsOf P) F i n m
   in-room = multicast-room L X i j from to said rest top kind
 
   -- the written step, at the message's room
-  multicast-step : onWire (limitsOf (L .product)) F i j ≡ done (raiseExpected (buffer (unlined F i j) m j i n) j i) 3 1 n (count (headIn S .carts) (passesOver F m j i n)) 0 []
-  unfolding handle onMulticast roomOf
+  multicast-step : onWire (limitsOf (L .product)) F i j ≡ done (raiseExpected (buffer (unlined F i j) local m j i n) j i) 3 1 n (count (headIn S .carts) (passesOver F local m i n)) 0 []
+  unfolding handle onMulticast multicastByRow roomOf
   multicast-step =
       wire-is L X i j from to said rest top
       ∙ ap (λ (r : Record). handle (limitsOf (L .product)) (unlined F i j) i j r) (says-multicast L X i j from to said rest top kind)
@@ -103,24 +110,24 @@ module _ {P : Product} (S S′ C C′ M W W₁ T : List ℕ) (X : Standing (lent
 
   -- the carts, with the next numbers that rise
   abbrev passed : Carts
-  passed = record { place = cartsIn C .place; next = λ c u. cond (eqb u i && passesOver F m j i n c) (suc n) (cartsIn C .next c u) }
+  passed = record { place = cartsIn C .place; next = λ c u. cond (eqb u i && passesOver F local m i n c) (suc n) (cartsIn C .next c u) }
 
   carts : cartsIn C′ ≡ passed
   carts =
       buffered .carts .carts
       ∙ (λ k. record {
         place = cartsIn C .place;
-        next = λ c u. cond (eqb u i && over-has L X m j i n (in-room .held .slot) lj′ (buffered .over) (buffered .passed) c k) (add-one n k) (cartsIn C .next c u);
+        next = λ c u. cond (eqb u i && over-has L X local small m i n (in-room .held .slot) (buffered .over) (buffered .passed) c k) (add-one n k) (cartsIn C .next c u);
       })
 
   -- the station, with the copy, the queue's entry and one more expected
   stations : stationsIn S′
-      ≡ withExpected (withQueue (withCopy (stationsIn S) m j (minus (roomsIn M .named m) (setOf (headIn S .carts) (isStruck F m j i n)))) m j (setOf (headIn S .carts) (isQueued F m j i n)))
+      ≡ withExpected (withQueue (withCopy (stationsIn S) m j (minus (roomsIn M .named m) (setOf (headIn S .carts) (isStruck F local m i n)))) m j (setOf (headIn S .carts) (isQueued F local m i n)))
       j i (suc (stationsIn S .expected j i))
   stations =
       buffered .stations .stations
       ∙ (λ k. withExpected
-      (withQueue (withCopy (stationsIn S) m j (copy-same L X m j i n (in-room .held .slot) lj′ k)) m j (queue-same L X m j i n (in-room .held .slot) lj′ (buffered .over) (buffered .passed) k))
+      (withQueue (withCopy (stationsIn S) m j (copy-same L X local small m i n (in-room .held .slot) k)) m j (queue-same L X local small m i n (in-room .held .slot) (buffered .over) (buffered .passed) k))
       j i (add-one (stationsIn S .expected j i) k))
 
   lines : linesIn W₁ ≡ behead i j (linesIn W)
@@ -138,4 +145,4 @@ module _ {P : Product} (S S′ C C′ M W W₁ T : List ℕ) (X : Standing (lent
   pub multicast-report : onWire (limitsOf (L .product)) F i j .report ≡ record { kind = 3; a = 1; b = n; p = p; w = 0; text = [] }
   multicast-report =
       ap (λ (d : Done). d .report) multicast-step
-      ∙ rw (buffered .count, over-count L X m j i n (in-room .held .slot) lj′ (buffered .over) (buffered .passed)) refl
+      ∙ rw (buffered .count, over-count L X local small m i n (in-room .held .slot) (buffered .over) (buffered .passed)) refl

@@ -1,4 +1,4 @@
--- THE SETS OF A MULTICAST: those that the words have are those that the written step has.
+-- THE SETS OF A MULTICAST: those that the words have are those that the written step has; and the row of local carts.
 use mathlib.Core.Path.{_≡_, refl, sym, ap, ap₂, _∙_}
 use mathlib.Core.Bool.{Bool, true, false, _&&_, not, and-assoc}
 use Prim.Native.Nat.{ℕ, zero, suc, _+_, _-_, _≤_, _<_, _^_}
@@ -8,7 +8,7 @@ use lib.Dec.{eqb, ltb}
 use Rattle.protocol.specs.Folds.{count}
 use Rattle.protocol.specs.CartSets.{has, minus, setOf}
 use Rattle.protocol.specs.Floor.{Floor, Place, localTo, entered, outside, at, leaving, travelling}
-use Rattle.protocol.specs.Wired.{passesOver, isQueued, isStruck}
+use Rattle.protocol.specs.Wired.{localRow, passesOver, isQueued, isStruck}
 use Rattle.protocol.proofs.Tests.{by-test, by-lt, clash}
 use Rattle.protocol.proofs.Counting.{count-ext}
 use Rattle.protocol.proofs.SetLaws.{has-minus, has-setOf, setOf-lt, minus-lt, member-below, same-members}
@@ -53,83 +53,101 @@ struck-test true true true = refl
 struck-test true false true = refl
 struck-test false g true = refl
 
-module _ (L : Lent) (X : Standing L) (m t s n : ℕ) (lm : m < L .product .held) (lt : t < L .product .stations) where
+-- THE ROW: "yes exactly for the local carts", as the words have it and as the written step makes it
+module _ (L : Lent) (X : Standing L) (t : ℕ) (on : t < floorIn L .stations) where
+  abbrev isHere : ℕ → Bool
+  isHere c = localTo (floorIn L .place c) t
+
+  elsewhere : (c : ℕ) → floorIn L .carts ≤ c → isHere c ≡ false
+  elsewhere c l = by-test (isHere c) (λ e. absurd (let z = X .facts .real c (local-entered (floorIn L .place c) t e) in omega arith)) (λ e. e)
+
+  pub row-made : stationsIn (L .stations) .local t ≡ localRow (floorIn L) t
+  row-made =
+      let n = floorIn L .carts in
+      let few = few-carts L X in
+      let low : t < L .product .stations = (let a = X .sized .counts .stations in omega arith) in
+      let small : setOf n isHere < 2 ^ 64 = (let a = setOf-lt n isHere in let b : 2 ^ n ≤ 2 ^ 64 = pow-le-pow-right (omega arith) few in omega arith) in
+      X .laid .local t low
+      ∙ same-members 64 (setOf 64 isHere) (setOf n isHere) (setOf-lt 64 isHere) small
+      (λ c l. has-setOf 64 isHere c l
+      ∙ by-lt c n (λ h. sym (has-setOf n isHere c h)) (λ h. elsewhere c h ∙ sym (not-in n (setOf n isHere) c (setOf-lt n isHere) h)))
+
+  pub row-small : localRow (floorIn L) t < 2 ^ floorIn L .carts
+  row-small = setOf-lt (floorIn L .carts) isHere
+
+-- BY ANY ROW of carts of the floor
+module _ (L : Lent) (X : Standing L) (local : ℕ) (on-floor : local < 2 ^ floorIn L .carts) (m s n : ℕ) (lm : m < L .product .held) where
   abbrev F : Floor
   F = floorIn L
 
   abbrev due : ℕ
-  due = dueAmong (cartsIn (L .carts)) (stationsIn (L .stations) .local t) s n
+  due = dueAmong (cartsIn (L .carts)) local s n
 
   abbrev past : ℕ
-  past = pastAmong (cartsIn (L .carts)) (stationsIn (L .stations) .local t) s n
+  past = pastAmong (cartsIn (L .carts)) local s n
 
   abbrev named : ℕ
   named = roomsIn (L .messages) .named m
 
-  -- carts beyond the floor are not local
-  far : (c : ℕ) → F .carts ≤ c → localTo (F .place c) t ≡ false
-  far c l = by-test (localTo (F .place c) t) (λ e. absurd (let z = X .facts .real c (local-entered (F .place c) t e) in omega arith)) (λ e. e)
+  -- nobody beyond the floor is in it
+  far : (c : ℕ) → F .carts ≤ c → has local c ≡ false
+  far c l = not-in (F .carts) local c on-floor l
 
   few : F .carts ≤ 64
   few = few-carts L X
 
-  local-has : (c : ℕ) → c < 64 → has (stationsIn (L .stations) .local t) c ≡ localTo (F .place c) t
-  local-has c l = ap (λ (x : ℕ). has x c) (X .laid .local t lt) ∙ has-setOf 64 (λ d. localTo (F .place d) t) c l
-
-  -- a test of the local carts
-  among : (f : ℕ → Bool) (c : ℕ) → has (setOf 64 (λ d. has (stationsIn (L .stations) .local t) d && f d)) c ≡ (localTo (F .place c) t && f c)
+  -- a test of its carts
+  among : (f : ℕ → Bool) (c : ℕ) → has (setOf 64 (λ d. has local d && f d)) c ≡ (has local c && f c)
   among f c =
-      let g : ℕ → Bool = λ d. has (stationsIn (L .stations) .local t) d && f d in
-      by-lt c 64
-      (λ l. has-setOf 64 g c l ∙ ap (λ (b : Bool). b && f c) (local-has c l))
-      (λ l. not-in 64 (setOf 64 g) c (setOf-lt 64 g) l ∙ sym (rw (far c (let z = few in omega arith)) refl))
+      let g : ℕ → Bool = λ d. has local d && f d in
+      by-lt c 64 (λ l. has-setOf 64 g c l) (λ l. not-in 64 (setOf 64 g) c (setOf-lt 64 g) l ∙ sym (rw (far c (let z = few in omega arith)) refl))
 
-  due-has : (c : ℕ) → has due c ≡ (localTo (F .place c) t && eqb (F .next c s) n)
+  due-has : (c : ℕ) → has due c ≡ (has local c && eqb (F .next c s) n)
   due-has c = among (λ d. eqb (F .next d s) n) c
 
-  past-has : (c : ℕ) → has past c ≡ (localTo (F .place c) t && ltb n (F .next c s))
+  past-has : (c : ℕ) → has past c ≡ (has local c && ltb n (F .next c s))
   past-has c = among (λ d. ltb n (F .next d s)) c
 
   module _ (over : ℕ) (is-over : over ≡ minus due named) where
     -- "equal and not named, its next number rises"
-    pub over-has : (c : ℕ) → has over c ≡ passesOver F m t s n c
+    pub over-has : (c : ℕ) → has over c ≡ passesOver F local m s n c
     over-has c =
         ap (λ (x : ℕ). has x c) is-over ∙ has-minus due named c ∙ ap (λ (b : Bool). b && not (has named c)) (due-has c)
-        ∙ and-assoc (localTo (F .place c) t) (eqb (F .next c s) n) (not (has named c))
+        ∙ and-assoc (has local c) (eqb (F .next c s) n) (not (has named c))
 
     -- how many
-    pub over-count : size 64 over ≡ count (F .carts) (passesOver F m t s n)
+    pub over-count : size 64 over ≡ count (F .carts) (passesOver F local m s n)
     unfolding size
     over-count =
         let all : F .carts + (64 - F .carts) ≡ 64 = (let z = few in omega arith) in
-        count-ext 64 (has over) (passesOver F m t s n) over-has
-        ∙ ap (λ (k : ℕ). count k (passesOver F m t s n)) (sym all)
-        ∙ count-more (F .carts) (64 - F .carts) (passesOver F m t s n) (λ c l. rw (far c l) refl)
+        count-ext 64 (has over) (passesOver F local m s n) over-has
+        ∙ ap (λ (k : ℕ). count k (passesOver F local m s n)) (sym all)
+        ∙ count-more (F .carts) (64 - F .carts) (passesOver F local m s n) (λ c l. rw (far c l) refl)
 
     -- "equal and cart named, it is queued for that message"
-    pub queue-same : minus due over ≡ setOf (F .carts) (isQueued F m t s n)
+    pub queue-same : minus due over ≡ setOf (F .carts) (isQueued F local m s n)
     queue-same =
-        same-members 64 (minus due over) (setOf (F .carts) (isQueued F m t s n))
-        (minus-lt 64 due over (setOf-lt 64 (λ c. has (stationsIn (L .stations) .local t) c && eqb (F .next c s) n)))
-        (let a = setOf-lt (F .carts) (isQueued F m t s n) in let b : 2 ^ F .carts ≤ 2 ^ 64 = pow-le-pow-right (omega arith) few in omega arith)
+        same-members 64 (minus due over) (setOf (F .carts) (isQueued F local m s n))
+        (minus-lt 64 due over (setOf-lt 64 (λ c. has local c && eqb (F .next c s) n)))
+        (let a = setOf-lt (F .carts) (isQueued F local m s n) in let b : 2 ^ F .carts ≤ 2 ^ 64 = pow-le-pow-right (omega arith) few in omega arith)
         (λ c l. has-minus due over c
         ∙ ap₂ (λ (a b : Bool). a && not b) (due-has c) (over-has c)
-        ∙ queued-test (localTo (F .place c) t) (eqb (F .next c s) n) (has named c)
+        ∙ queued-test (has local c) (eqb (F .next c s) n) (has named c)
         ∙ sym (in-set c))
       where
-        in-set : (c : ℕ) → has (setOf (F .carts) (isQueued F m t s n)) c ≡ isQueued F m t s n c
+        in-set : (c : ℕ) → has (setOf (F .carts) (isQueued F local m s n)) c ≡ isQueued F local m s n c
         in-set c =
             by-lt c (F .carts)
-            (λ l. has-setOf (F .carts) (isQueued F m t s n) c l)
-            (λ l. not-in (F .carts) (setOf (F .carts) (isQueued F m t s n)) c (setOf-lt (F .carts) (isQueued F m t s n)) l ∙ sym (rw (far c l) refl))
+            (λ l. has-setOf (F .carts) (isQueued F local m s n) c l)
+            (λ l. not-in (F .carts) (setOf (F .carts) (isQueued F local m s n)) c (setOf-lt (F .carts) (isQueued F local m s n)) l ∙ sym (rw (far c l) refl))
 
   -- "greater and named, it is struck from the copy"
-  pub copy-same : minus named past ≡ minus named (setOf (F .carts) (isStruck F m t s n))
+  pub copy-same : minus named past ≡ minus named (setOf (F .carts) (isStruck F local m s n))
   copy-same =
-      let struck = setOf (F .carts) (isStruck F m t s n) in
+      let struck = setOf (F .carts) (isStruck F local m s n) in
       let small : named < 2 ^ F .carts = X .sized .messages .named m lm in
       same-members (F .carts) (minus named past) (minus named struck) (minus-lt (F .carts) named past small) (minus-lt (F .carts) named struck small)
       (λ c l. has-minus named past c
       ∙ ap (λ (b : Bool). has named c && not b) (past-has c)
-      ∙ struck-test (localTo (F .place c) t) (ltb n (F .next c s)) (has named c)
-      ∙ sym (has-minus named struck c ∙ ap (λ (b : Bool). has named c && not b) (has-setOf (F .carts) (isStruck F m t s n) c l)))
+      ∙ struck-test (has local c) (ltb n (F .next c s)) (has named c)
+      ∙ sym (has-minus named struck c ∙ ap (λ (b : Bool). has named c && not b) (has-setOf (F .carts) (isStruck F local m s n) c l)))

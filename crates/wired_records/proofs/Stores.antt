@@ -57,18 +57,18 @@ stores S S₁ S₂ S′ m s t copy queue expected e a b d =
       length = d .1 .1 ∙ b .1 .1 ∙ a .1 .1;
     }
 
--- of a multicast, over the parts that it touches: room k and number q that the record says, the carts named and local, those due and past
-pub buffers : (S S′ C C′ M : List ℕ) (m n s t k q named local due past over copy queue p : ℕ) → k ≡ m → q ≡ n
-    → named ≡ roomsIn M .named k → local ≡ stationsIn S .local t → due ≡ dueAmong (cartsIn C) local s q → past ≡ pastAmong (cartsIn C) local s q
+-- of a multicast, over the parts that it touches: room k and number q that the record says, the carts named, those due and past among the row
+pub buffers : (S S′ C C′ M : List ℕ) (local m n s t k q named due past over copy queue p : ℕ) → k ≡ m → q ≡ n
+    → named ≡ roomsIn M .named k → due ≡ dueAmong (cartsIn C) local s q → past ≡ pastAmong (cartsIn C) local s q
     → Raised C C′ (minus due named) s (q + 1) → p ≡ size 64 (minus due named)
     → over ≡ minus due named → copy ≡ minus named past → queue ≡ minus due over → Stored S S′ k s t copy queue
-    → Buffered S S′ C C′ M m n s t p
-buffers S S′ C C′ M m n s t k q named local due past over copy queue p room number set here d g raise count o y z store =
+    → Buffered S S′ C C′ M local m n s t p
+buffers S S′ C C′ M local m n s t k q named due past over copy queue p room number set d g raise count o y z store =
     let named-is : named ≡ roomsIn M .named m = set ∙ ap (roomsIn M .named) room in
-    let due-is : due ≡ dueAmong (cartsIn C) (stationsIn S .local t) s n = d ∙ (λ i. dueAmong (cartsIn C) (here i) s (number i)) in
-    let past-is : past ≡ pastAmong (cartsIn C) (stationsIn S .local t) s n = g ∙ (λ i. pastAmong (cartsIn C) (here i) s (number i)) in
-    let copy-is : copy ≡ minus (roomsIn M .named m) (pastAmong (cartsIn C) (stationsIn S .local t) s n) = y ∙ (λ i. minus (named-is i) (past-is i)) in
-    let queue-is : queue ≡ minus (dueAmong (cartsIn C) (stationsIn S .local t) s n) over = z ∙ (λ i. minus (due-is i) over) in
+    let due-is : due ≡ dueAmong (cartsIn C) local s n = d ∙ ap (dueAmong (cartsIn C) local s) number in
+    let past-is : past ≡ pastAmong (cartsIn C) local s n = g ∙ ap (pastAmong (cartsIn C) local s) number in
+    let copy-is : copy ≡ minus (roomsIn M .named m) (pastAmong (cartsIn C) local s n) = y ∙ (λ i. minus (named-is i) (past-is i)) in
+    let queue-is : queue ≡ minus (dueAmong (cartsIn C) local s n) over = z ∙ (λ i. minus (due-is i) over) in
     record {
       over = over;
       passed = o ∙ (λ i. minus (due-is i) (named-is i));

@@ -39,13 +39,14 @@ pub record Stored (S S′ : List ℕ) (m s t copy queue : ℕ) : Type 0 where
   pub head : headIn S′ ≡ headIn S
   pub length : length S′ ≡ length S
 
--- message n of s, in room m, at station t: of its local carts those due and named are queued, those due and not named are passed over, and those
--- past it are not in the copy; p is how many are passed over
-pub record Buffered (S S′ C C′ M : List ℕ) (m n s t p : ℕ) : Type 0 where
+-- message n of s, in room m, at station t, by the row `local` of those that count as local there: those due and named are queued, those due and not
+-- named are passed over, and those past it are not in the copy; p is how many are passed over. "The rest of the step takes it from that row alone":
+-- nothing else here says who is local
+pub record Buffered (S S′ C C′ M : List ℕ) (local m n s t p : ℕ) : Type 0 where
   pub over : ℕ
-  pub passed : over ≡ minus (dueAmong (cartsIn C) (stationsIn S .local t) s n) (roomsIn M .named m)
+  pub passed : over ≡ minus (dueAmong (cartsIn C) local s n) (roomsIn M .named m)
   pub carts : Raised C C′ over s (n + 1)
-  pub stations : Stored S S′ m s t (minus (roomsIn M .named m) (pastAmong (cartsIn C) (stationsIn S .local t) s n)) (minus (dueAmong (cartsIn C) (stationsIn S .local t) s n) over)
+  pub stations : Stored S S′ m s t (minus (roomsIn M .named m) (pastAmong (cartsIn C) local s n)) (minus (dueAmong (cartsIn C) local s n) over)
   pub count : p ≡ size 64 over
 
 -- A DELETE of the message in room m, at station t: it waits for t no more

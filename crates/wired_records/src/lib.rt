@@ -6,9 +6,13 @@ use lines::Record;
 use reports::Effect;
 ghost use mathlib.Core.Path.{_≡_};
 ghost use mathlib.Core.Bool.{true, cond, not};
+ghost use mathlib.Core.List.{List};
 ghost use Prim.Native.Nat.{ℕ, _+_, _<_, _≤_};
 ghost use Rattle.protocol.specs.CartSets.{has, union, minus};
-ghost use Rattle.stations.specs.View.{initiators, rooms, HasStation, stationsIn};
+ghost use Rattle.protocol.specs.Floor.{Product, limitsOf};
+ghost use Rattle.protocol.specs.Form.{passesForm};
+ghost use Rattle.protocol.specs.Wired.{localRow};
+ghost use Rattle.stations.specs.View.{initiators, rooms, HasStation, headIn, stationsIn};
 ghost use Rattle.carts.specs.Words.{HasRow};
 ghost use Rattle.carts.specs.View.{cartsIn};
 ghost use Rattle.messages.specs.View.{HasRoom, roomsIn};
@@ -18,6 +22,7 @@ ghost use Rattle.lines.specs.Form.{form};
 ghost use Rattle.lines.specs.Lines.{used};
 ghost use Rattle.lines.specs.Words.{capacity};
 ghost use Rattle.view.specs.Records.{indexOf, numberOf};
+ghost use Rattle.view.specs.View.{lent, floorIn};
 ghost use Rattle.wired_records.specs.Handled.{dueAmong, pastAmong, Raised, Stored, Buffered, Deleted, Acknowledged};
 
 // The local carts as a message comes: those whose next number is its number, those whose next number is greater, and how many numbers rise.
@@ -78,31 +83,37 @@ fn store(stations: &mut [u64], m: usize, initiator: Station, to: Station, copy: 
     stations::put_expected(stations, to, initiator, expected + 1);
 }
 
+// "a multicast step shall find out once for each cart whether it is local": the answers are the bits of one word, so one look finds out for each of
+// the sixty-four. On a floor that passes they are "yes exactly for the local carts".
+fn local_row(stations: &[u64], to: Station) -> u64
+    requires { ⌜ HasStation (now stations) (to .0) ⌝ }
+    ensures { λ r. ⌜ r ≡ stationsIn (now (stations .entry)) .local (to .0) ⌝ }
+    ensures { λ r. ⌜ ((P : Product) (C M W T : List ℕ) → passesForm (limitsOf P) (floorIn (lent P (now (stations .entry)) C M W T)) ≡ true → to .0 < headIn (now (stations .entry)) .stations → r ≡ localRow (floorIn (lent P (now (stations .entry)) C M W T)) (to .0)) ⌝ }
+{
+    stations::local_of(stations, to)
+}
+
 // "Multicast: the message is buffered with its own copy of the set. For each local cart: next number equal and cart named, it is queued for that
-// message; equal and not named, its next number rises; greater and named, it is struck from the copy." The numbers that rise are passed over.
-pub fn on_multicast(
+// message; equal and not named, its next number rises; greater and named, it is struck from the copy." The numbers that rise are passed over. Who is
+// local is "from that row alone", whatever the row says: a cart that is elsewhere has the next numbers of its record.
+fn multicast_by_row(
     stations: &mut [u64],
     carts: &mut [u64],
     messages: &[u64],
     said: Record,
     initiator: Station,
     to: Station,
+    local: u64,
 ) -> Effect
     requires { ⌜ HasStation (now stations) (to .0) × (initiator .0 < initiators) × (stationsIn (now stations) .expected (to .0) (initiator .0) < 4294967296) ⌝ }
-    requires { ⌜ ((c : ℕ) → has (stationsIn (now stations) .local (to .0)) c ≡ true → HasRow (now carts) c) × HasRoom (now messages) (indexOf (said .0)) × (indexOf (said .0) < rooms) × (numberOf (said .0) < 4294967296) ⌝ }
-    ensures { λ r. ⌜ Buffered (now (stations .entry)) (now (stations .exit)) (now (carts .entry)) (now (carts .exit)) (now (messages .entry)) (indexOf (said .0)) (numberOf (said .0)) (initiator .0) (to .0) (r .passed) ⌝ }
+    requires { ⌜ ((c : ℕ) → has local c ≡ true → HasRow (now carts) c) × HasRoom (now messages) (indexOf (said .0)) × (indexOf (said .0) < rooms) × (numberOf (said .0) < 4294967296) ⌝ }
+    ensures { λ r. ⌜ Buffered (now (stations .entry)) (now (stations .exit)) (now (carts .entry)) (now (carts .exit)) (now (messages .entry)) local (indexOf (said .0)) (numberOf (said .0)) (initiator .0) (to .0) (r .passed) ⌝ }
     ensures { λ r. ⌜ r ≡ passing (r .passed) ⌝ }
 {
     let m = view::index_of(said) as usize;
     let number = view::number_of(said);
     let named = messages::named_of(messages, m);
-    let sorted = sort_local(
-        carts,
-        stations::local_of(stations, to),
-        named,
-        initiator,
-        number,
-    );
+    let sorted = sort_local(carts, local, named, initiator, number);
     let over = sets::minus(sorted.due, named);
     store(
         stations,
@@ -113,6 +124,25 @@ pub fn on_multicast(
         sets::minus(sorted.due, over),
     );
     reports::passing(sorted.passed)
+}
+
+// "Multicast": the row is made first, and the step changes none of its answers.
+pub fn on_multicast(
+    stations: &mut [u64],
+    carts: &mut [u64],
+    messages: &[u64],
+    said: Record,
+    initiator: Station,
+    to: Station,
+) -> Effect
+    requires { ⌜ HasStation (now stations) (to .0) × (initiator .0 < initiators) × (stationsIn (now stations) .expected (to .0) (initiator .0) < 4294967296) ⌝ }
+    requires { ⌜ ((c : ℕ) → has (stationsIn (now stations) .local (to .0)) c ≡ true → HasRow (now carts) c) × HasRoom (now messages) (indexOf (said .0)) × (indexOf (said .0) < rooms) × (numberOf (said .0) < 4294967296) ⌝ }
+    ensures { λ r. ⌜ Buffered (now (stations .entry)) (now (stations .exit)) (now (carts .entry)) (now (carts .exit)) (now (messages .entry)) (stationsIn (now (stations .entry)) .local (to .0)) (indexOf (said .0)) (numberOf (said .0)) (initiator .0) (to .0) (r .passed) ⌝ }
+    ensures { λ r. ⌜ r ≡ passing (r .passed) ⌝ }
+    ensures { λ _. ⌜ stationsIn (now (stations .exit)) .local ≡ stationsIn (now (stations .entry)) .local ⌝ }
+{
+    let local = local_row(stations, to);
+    multicast_by_row(stations, carts, messages, said, initiator, to, local)
 }
 
 // "Delete: the message leaves this station's buffer."

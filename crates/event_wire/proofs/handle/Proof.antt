@@ -79,7 +79,7 @@ returns-3 c =
     let few = c .before .before .before .before .before .before .before .before .before .before .before .if1 .taken in
     let two = c .before .before .before .before .before .before .before .before .before .if2 .left in
     let three = c .before .before .before .before .before .before .before .before .if3 .left in
-    λ P W T off. meets-multicast P (now (a .stations)) (now (a .carts)) (now (a .messages)) W (now (a .lines)) T (a .from .0) (a .to .0) (a .said) off (is-multicast P (now (a .stations)) (now (a .carts)) (now (a .messages)) W (now (a .lines)) T (a .from .0) (a .to .0) (a .said) off (omega arith) (λ z. two (k ∙ z)) (λ z. three (k ∙ z))) _ _ _ _ (c .before .before .before .before .before .before .before .before .before .before .number-of .ensures) (c .before .before .before .before .on-multicast .ensures .0) (c .before .before .before .before .on-multicast .ensures .1)
+    λ P W T off. meets-multicast P (now (a .stations)) (now (a .carts)) (now (a .messages)) W (now (a .lines)) T (a .from .0) (a .to .0) (a .said) off (is-multicast P (now (a .stations)) (now (a .carts)) (now (a .messages)) W (now (a .lines)) T (a .from .0) (a .to .0) (a .said) off (omega arith) (λ z. two (k ∙ z)) (λ z. three (k ∙ z))) _ _ _ _ (c .before .before .before .before .before .before .before .before .before .before .number-of .ensures) (c .before .before .before .before .on-multicast .ensures .0) (c .before .before .before .before .on-multicast .ensures .1 .0)
 
 index-of-requires : tie.Need-index-of-requires
 index-of-requires c κs = search needs
