@@ -278,17 +278,26 @@ impl Floor {
 
 /// What the records do at the station they arrive at. Each answers p or w, where it has one.
 impl Floor {
-    /// A multicast: the message is buffered, and each local cart is queued for it, passes it over,
-    /// or is struck from the copy since it has it from another station.
+    /// A multicast "shall find out once for each cart whether it is local, before it goes over
+    /// queue and copy. The answers make a row, yes exactly for the local carts".
     #[inline(always)]
     fn multicast(&mut self, at: StationNo, room: Room) -> u32 {
+        let row = self.station[at.at()].local;
+        self.multicast_by(row, at, room)
+    }
+
+    /// The rest of the step "takes it from that row alone", whatever the carts' records say: the
+    /// message is buffered, and each cart of the row is queued for it, passes it over, or is struck
+    /// from the copy since it has it from another station.
+    #[inline(always)]
+    fn multicast_by(&mut self, row: u64, at: StationNo, room: Room) -> u32 {
         let Held { initiator, number, set, .. } = self.held[room.at()];
         let here = &mut self.station[at.at()];
         here.expected[initiator.at()] = number + 1;
         here.buffer |= room.alone();
 
         let (mut copy, mut queued, mut p) = (set, 0, 0);
-        for cart in carts_of(here.local) {
+        for cart in carts_of(row) {
             let next = &mut self.cart[cart.at()].next[initiator.at()];
             let named = set & cart.alone();
             if *next == number {

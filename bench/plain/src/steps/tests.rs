@@ -295,6 +295,27 @@ fn a_full_floor_of_64_carts() {
     assert_eq!(f.held(), 0);
 }
 
+#[test]
+fn a_multicast_goes_by_its_row_alone() {
+    let mut f = floor(2, 5);
+    for (cart, station) in [(0, 0), (1, 0), (2, 1), (4, 1)] {
+        f.enter(s(station), c(cart)).unwrap();
+    }
+    // Cart 4 is travelling, and its record says that it has the message.
+    f.move_cart(c(4), s(0)).unwrap();
+    f.wire(s(0), s(1)).unwrap();
+    f.cart[4].next[0] = 1;
+    f.send(s(0), 0b1_0111, ONE).unwrap();
+    // The row leaves out cart 0, which is local, and has all others, of which cart 1 alone is.
+    let (local, places) = (f.station[0].local, f.cart.map(|cart| cart.place));
+    assert_eq!(f.multicast_by(0b1_1110, s(0), Room(0)), 1);
+    let buffered = f.station[0].buffered[0];
+    assert_eq!(buffered.queued, 0b0_0110);
+    assert_eq!(buffered.copy, 0b0_0111);
+    assert_eq!([0, 1, 2, 3, 4].map(|cart| f.next(c(cart), s(0))), [0, 0, 0, 1, 1]);
+    assert_eq!((f.station[0].local, f.cart.map(|cart| cart.place)), (local, places));
+}
+
 /// The steps again as document 01 words them, one number at a time and with no mask, no cached
 /// head and no closed form, to compare with on random events.
 mod as_worded {
