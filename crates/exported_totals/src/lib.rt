@@ -1,8 +1,8 @@
 // The totals under C names, for tools/totals and for tests in other languages. An enum cannot cross, so what it says crosses as numbers.
 use totals::CartResult;
 use totals::Fraction;
-use totals::Outcome;
 use totals::Tally;
+use totals::Totalled;
 ghost use mathlib.Core.Path.{_≡_};
 ghost use Rattle.totals.specs.Totals.{totalsOf, joined, ratioOf};
 ghost use Rattle.exported_totals.specs.Numbers.{summedOf, termsOf};
@@ -22,16 +22,16 @@ pub struct Terms {
     pub received: u64,
 }
 
-fn numbers_of(outcome: Outcome) -> Summed
+fn numbers_of(outcome: Totalled) -> Summed
     ensures { λ r. ⌜ r ≡ summedOf outcome ⌝ }
 {
     match outcome {
-        Outcome::Refused(refusal) => Summed {
+        Totalled::Refused(refusal) => Summed {
             refusal,
             received: 0,
             passed: 0,
         },
-        Outcome::Of(totals) => Summed {
+        Totalled::Of(totals) => Summed {
             refusal: 0,
             received: totals.received,
             passed: totals.passed,

@@ -22,7 +22,7 @@ ghost use Rattle.frame_run.specs.CanRun.{CanRun};
 ghost use Rattle.frame_run.specs.Dispatched.{dispatchedIn, Within};
 ghost use Rattle.frame_run.specs.Went.{Took, Turned, Went};
 
-// "Sixteen octets", and a text's part of the lent octets.
+// "Sixteen octets".
 const FRAME: usize = 16;
 
 // An event that was dispatched, its line begun: where the line goes on behind its index, what the event answered, and, of a radio step, in which

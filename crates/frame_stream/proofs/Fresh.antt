@@ -12,7 +12,7 @@ use Rattle.stations.specs.View.{headIn}
 use Rattle.view.specs.View.{lent, lengthsIn, floorIn}
 use Rattle.view.proofs.Lengths.{lengths-right}
 use Rattle.frame_run.specs.CanRun.{CanRun, Unstarted}
-use Rattle.frame_stream.specs.declared.Outcome.{Outcome}
+use Rattle.frame_stream.specs.declared.Ending.{Ending}
 use Rattle.frame_stream.specs.Feed.{Finished, Streamed}
 use Rattle.frame_stream.proofs.Stream.{stream-is}
 
@@ -27,5 +27,5 @@ module _ (S C M W T : List ℕ) (s : (length S ≡ 1972) × (headIn S .mark ≡ 
   fresh-ready = record { whole = refl; ready = record { lengths = lengths; passes = λ h. clash (floorIn (lent wholeFloor S C M W T) .started) h (fresh .fresh) } }
 
   -- so what the run over it hands on is the printed run
-  pub streamed : (r : Outcome) → Finished (floorIn (lent wholeFloor S C M W T)) r → Streamed r
+  pub streamed : (r : Ending) → Finished (floorIn (lent wholeFloor S C M W T)) r → Streamed r
   streamed r e = record { floor = floorIn (lent wholeFloor S C M W T); fresh = fresh; finished = e; is = stream-is (floorIn (lent wholeFloor S C M W T)) fresh (e .turns) (e .made) }

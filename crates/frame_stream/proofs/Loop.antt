@@ -11,7 +11,7 @@ use borrow.Author.Tests.{eqb-true, eqb-false, ltb-true, ltb-false, not-true, eq-
 use Rattle.protocol.specs.Floor.{Floor}
 use Rattle.protocol.proofs.Tests.{by-test, and-left, and-right, clash}
 use Rattle.frame_stream.specs.declared.Feed.{Feed}
-use Rattle.frame_stream.specs.declared.Outcome.{Outcome}
+use Rattle.frame_stream.specs.declared.Ending.{Ending}
 use Rattle.frame_stream.specs.Stream.{Stream, begin, Turn, after, May, Turns, streamAfter}
 use Rattle.frame_stream.specs.Feed.{Made, Finished}
 
@@ -76,19 +76,19 @@ goes turns f b e t =
     by-zero k n = omega arith
 
 -- and where it stops
-pub finished : (F : Floor) (S : Stream) (turns : ℕ) (f : Feed) (r : Outcome) (b : Bool) → Came F S turns → S .index ≡ f .index → S .state ≡ f .state
+pub finished : (F : Floor) (S : Stream) (turns : ℕ) (f : Feed) (r : Ending) (b : Bool) → Came F S turns → S .index ≡ f .index → S .state ≡ f .state
     → r ≡ record { frames = f .index; state = f .state } → b ≡ going turns f → b ≡ false → Finished F r
 finished F S turns f r b k index state q e none =
     record {
       turns = k .turns;
       made = k .made;
-      frames = ap (λ (o : Outcome). o .frames) q ∙ sym index ∙ ap (λ (X : Stream). X .index) (k .there);
-      state = ap (λ (o : Outcome). o .state) q ∙ sym state ∙ ap (λ (X : Stream). X .state) (k .there);
+      frames = ap (λ (o : Ending). o .frames) q ∙ sym index ∙ ap (λ (X : Stream). X .index) (k .there);
+      state = ap (λ (o : Ending). o .state) q ∙ sym state ∙ ap (λ (X : Stream). X .state) (k .there);
       stopped = by-test (ltb (f .state) 2)
           (λ low. by-test (ltb (f .index) 9223372036854775808)
           (λ few. by-test (eqb turns 0)
           (λ z. inr (inr (let t = eqb-true turns 0 z in let c = k .counted in omega arith)))
           (λ some. clash (going turns f) (let all : going turns f ≡ true = rw (some, few, low) refl in all) (sym e ∙ none)))
-          (λ many. inr (inl (let m = ltb-false (f .index) 9223372036854775808 many in let w = ap (λ (o : Outcome). o .frames) q in omega arith))))
-          (λ high. inl (let m = ltb-false (f .state) 2 high in let w = ap (λ (o : Outcome). o .state) q in omega arith));
+          (λ many. inr (inl (let m = ltb-false (f .index) 9223372036854775808 many in let w = ap (λ (o : Ending). o .frames) q in omega arith))))
+          (λ high. inl (let m = ltb-false (f .state) 2 high in let w = ap (λ (o : Ending). o .state) q in omega arith));
     }

@@ -15,7 +15,7 @@ use Rattle.frame_run.specs.CanRun.{Unstarted}
 use Rattle.frame_stream.specs.declared.Feed.{Feed}
 use Rattle.frame_stream.specs.declared.Got.{Got}
 use Rattle.frame_stream.specs.declared.Handed.{Handed}
-use Rattle.frame_stream.specs.declared.Outcome.{Outcome}
+use Rattle.frame_stream.specs.declared.Ending.{Ending}
 use Rattle.frame_stream.specs.Stream.{Stream, begin, Turn, stateAfter, after, handed, May, Turns, streamAfter, StreamIs}
 
 -- the feed stands in a piece of n octets; where a read is wanted, what is left is less than a whole frame, so the read has room
@@ -57,7 +57,7 @@ afterRun f p h =
 
 -- THE WHOLE RUN from a floor: the turns that were made, and how it came out. It stopped since nothing was to be done, or since 2^63 frames were run or
 -- 2^64 − 1 turns made, which no input uses up
-pub record Finished (F : Floor) (r : Outcome) : Type 0 where
+pub record Finished (F : Floor) (r : Ending) : Type 0 where
   pub turns : List Turn
   pub made : Turns (begin F) turns
   pub frames : r .frames ≡ streamAfter (begin F) turns .index
@@ -65,7 +65,7 @@ pub record Finished (F : Floor) (r : Outcome) : Type 0 where
   pub stopped : (2 ≤ r .state) ⊎ ((9223372036854775808 ≤ r .frames) ⊎ (length turns ≡ 18446744073709551615))
 
 -- and it prints the printed run
-pub record Streamed (r : Outcome) : Type 0 where
+pub record Streamed (r : Ending) : Type 0 where
   pub floor : Floor
   pub fresh : Unstarted floor
   pub finished : Finished floor r

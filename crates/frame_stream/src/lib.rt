@@ -290,7 +290,7 @@ fn goes_on(turns: u64, f: Feed) -> bool
 }
 
 // How a run came out: how many frames there were, the refused one among them, and whether it is `OVER` or `FAILED`.
-pub struct Outcome {
+pub struct Ending {
     pub frames: u64,
     pub state: u64,
 }
@@ -307,7 +307,7 @@ fn run_all(
     lines: &mut [u64],
     texts: &mut [u8],
     numbers: &[u64],
-) -> Outcome
+) -> Ending
     requires { ⌜ CanRun (lent wholeFloor (now stations) (now carts) (now messages) (now lines) (now texts)) × Tabled (now numbers) × (length (now input) ≡ 65536) × (length (now output) ≡ 65536) ⌝ }
     ensures { λ r. ⌜ Finished (floorIn (lent wholeFloor (now (stations .entry)) (now (carts .entry)) (now (messages .entry)) (now (lines .entry)) (now (texts .entry)))) r ⌝ }
 {
@@ -336,7 +336,7 @@ fn run_all(
             f,
         );
     }
-    Outcome {
+    Ending {
         frames: f.index,
         state: f.state,
     }
@@ -344,7 +344,7 @@ fn run_all(
 
 // THE RUN OF ONE INPUT: frames from one descriptor, lines to the other, over a floor of its own. The reads and runs that it makes are turns of the
 // written stream, and what they hand on is the printed run.
-pub fn run(from: i32, to: i32) -> Outcome
+pub fn run(from: i32, to: i32) -> Ending
     ensures { λ r. ⌜ Streamed r ⌝ }
 {
     let mut input = io::large_buffer();

@@ -8,8 +8,8 @@ use lib.Dec.{ltb}
 use borrow.Author.Tests.{le-ltb, lt-ltb, ltb-false}
 use borrow.Table.Steps.{cases}
 use Rattle.totals.specs.declared.Tally.{Tally}
-use Rattle.totals.specs.declared.Outcome.{Outcome}
-use Rattle.totals.specs.declared.Outcome.the-variants.{Refused, Of}
+use Rattle.totals.specs.declared.Totalled.{Totalled}
+use Rattle.totals.specs.declared.Totalled.the-variants.{Refused, Of}
 use Rattle.totals.specs.Totals.{added, joined, joinedIfBoth, mostTotal, nothing, tooLarge}
 
 same-totals : (a b c d : ℕ) → a ≡ b → c ≡ d → _≡_ {A = Tally} (record { received = a; passed = c }) (record { received = b; passed = d })
@@ -46,7 +46,7 @@ stays-large A B e r p =
 -- THE LAWS
 
 -- the answer where these are the totals together
-abbrev unlessTooLarge : Tally → Outcome
+abbrev unlessTooLarge : Tally → Totalled
 unlessTooLarge A = cond (tooLarge A) (Refused 23) (Of A)
 
 -- "by their totals as counted, never by the reduced fractions"

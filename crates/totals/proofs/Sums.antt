@@ -11,8 +11,8 @@ use borrow.Author.Tests.{le-ltb, lt-ltb, ltb-false}
 use borrow.Table.Steps.{cases}
 use Rattle.totals.specs.declared.CartResult.{CartResult}
 use Rattle.totals.specs.declared.Tally.{Tally}
-use Rattle.totals.specs.declared.Outcome.{Outcome}
-use Rattle.totals.specs.declared.Outcome.the-variants.{Refused, Of}
+use Rattle.totals.specs.declared.Totalled.{Totalled}
+use Rattle.totals.specs.declared.Totalled.the-variants.{Refused, Of}
 use Rattle.totals.specs.Totals.{InRange, added, counted, joined, joinedIfBoth, mostCounted, mostResults, mostTotal, nothing, sumOf, tooLarge, totalsOf}
 use Rattle.totals.proofs.Joins.{added-assoc, added-comm, added-nothing, fits, neither-too-large}
 
@@ -107,7 +107,7 @@ taken-within n t e =
     (λ b. let z : t ≡ n = rw b at e in let h = ltb-false mostResults n b in (omega arith, omega arith))
 
 -- where the walk ends, the answer is the written one
-pub walk-ends : (l : List CartResult) (t : ℕ) (A : Tally) (r : Outcome) → t ≡ cond (ltb mostResults (length l)) 0 (length l) → Walked l t A
+pub walk-ends : (l : List CartResult) (t : ℕ) (A : Tally) (r : Totalled) → t ≡ cond (ltb mostResults (length l)) 0 (length l) → Walked l t A
     → r ≡ cond (ltb mostResults (length l)) (Refused 22) (Of A) → r ≡ totalsOf l
 unfolding totalsOf
 walk-ends l t A r et w er =

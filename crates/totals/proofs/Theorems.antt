@@ -7,7 +7,7 @@ use Prim.Native.Nat.{ℕ, _*_, _<_, _≤_, _∣_}
 use lib.ListN.{length}
 use Rattle.totals.specs.declared.CartResult.{CartResult}
 use Rattle.totals.specs.declared.Tally.{Tally}
-use Rattle.totals.specs.declared.Outcome.the-variants.{Refused, Of}
+use Rattle.totals.specs.declared.Totalled.the-variants.{Refused, Of}
 use Rattle.totals.specs.declared.Fraction.the-variants.{None, Over}
 use Rattle.totals.specs.Totals.{InRange, added, joined, joinedIfBoth, mostResults, nothing, ratioOf, sumOf, tooLarge, totalsOf}
 use Rattle.totals.proofs.Joins.{join-fits, join-too-large, join-with-nothing, joins-associate, joins-commute}

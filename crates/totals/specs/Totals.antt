@@ -1,5 +1,5 @@
 -- PASSED OVER PER RECEIPT: "how many numbers a cart passes over for each correction it receives, over all sites".
--- `CartResult`, `Tally`, `Outcome` and `Fraction` are the types of src/lib.rt; their numbers are natural numbers here, of any size.
+-- `CartResult`, `Tally`, `Totalled` and `Fraction` are the types of src/lib.rt; their numbers are natural numbers here, of any size.
 use mathlib.Core.Bool.{Bool, true, false, cond, _||_}
 use mathlib.Core.List.{List, [], _∷_}
 use Prim.Native.Nat.{ℕ, zero, suc, _+_, _/_, _%_, _≤_}
@@ -7,8 +7,8 @@ use lib.Dec.{eqb, ltb}
 use lib.ListN.{length}
 use Rattle.totals.specs.declared.CartResult.{CartResult}
 use Rattle.totals.specs.declared.Tally.{Tally}
-use Rattle.totals.specs.declared.Outcome.{Outcome}
-use Rattle.totals.specs.declared.Outcome.the-variants.{Refused, Of}
+use Rattle.totals.specs.declared.Totalled.{Totalled}
+use Rattle.totals.specs.declared.Totalled.the-variants.{Refused, Of}
 use Rattle.totals.specs.declared.Fraction.{Fraction}
 use Rattle.totals.specs.declared.Fraction.the-variants.{None, Over}
 
@@ -34,7 +34,7 @@ abbrev pub mostResults : ℕ
 mostResults = 4096
 
 -- "22 a list longer than 4,096, before any adding"
-unfoldable pub totalsOf : List CartResult → Outcome
+unfoldable pub totalsOf : List CartResult → Totalled
 totalsOf l = cond (ltb mostResults (length l)) (Refused 22) (Of (sumOf l))
 
 -- "each with cart, received and passed, both at most 4,294,967,295"
@@ -74,11 +74,11 @@ abbrev pub tooLarge : Tally → Bool
 tooLarge A = ltb mostTotal (A .received) || ltb mostTotal (A .passed)
 
 -- "23 a join whose total exceeds 64 bits": either of the two
-unfoldable pub joined : Tally → Tally → Outcome
+unfoldable pub joined : Tally → Tally → Totalled
 joined A B = cond (tooLarge (added A B)) (Refused 23) (Of (added A B))
 
 -- the same of two answers: a refusal stays
-abbrev pub joinedIfBoth : Outcome → Outcome → Outcome
+abbrev pub joinedIfBoth : Totalled → Totalled → Totalled
 joinedIfBoth (Refused r) x = Refused r
 joinedIfBoth (Of A) (Refused r) = Refused r
 joinedIfBoth (Of A) (Of B) = joined A B

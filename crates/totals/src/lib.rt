@@ -22,7 +22,7 @@ pub struct Tally {
 }
 
 // What a sum or a join answers: the number of a refusal, or the totals.
-pub enum Outcome {
+pub enum Totalled {
     Refused(u64),
     Of(Tally),
 }
@@ -61,18 +61,18 @@ fn add_result(totals: Tally, result: CartResult) -> Tally
 }
 
 // What is answered of a list of so many results, whose totals are these.
-fn sum_answer(count: usize, totals: Tally) -> Outcome
-    ensures { λ r. ⌜ r ≡ cond (ltb mostResults count) (Outcome.Refused 22) (Outcome.Of totals) ⌝ }
+fn sum_answer(count: usize, totals: Tally) -> Totalled
+    ensures { λ r. ⌜ r ≡ cond (ltb mostResults count) (Totalled.Refused 22) (Totalled.Of totals) ⌝ }
 {
     if MOST_RESULTS < count {
-        return Outcome::Refused(22);
+        return Totalled::Refused(22);
     }
-    Outcome::Of(totals)
+    Totalled::Of(totals)
 }
 
 // The totals of a lent list, or "22 a list longer than 4,096, before any adding". A slice of structs is outside what the borrow checker
 // covers, so this is all that is done over one: each element is handed to `add_result`.
-pub fn sum(results: &[CartResult]) -> Outcome
+pub fn sum(results: &[CartResult]) -> Totalled
     ensures { λ r. ⌜ r ≡ totalsOf (now (results .entry)) ⌝ }
 {
     let count = results.len();
@@ -90,18 +90,18 @@ pub fn sum(results: &[CartResult]) -> Outcome
 }
 
 // Two sites' totals joined, or "23 a join whose total exceeds 64 bits".
-pub fn join(a: Tally, b: Tally) -> Outcome
+pub fn join(a: Tally, b: Tally) -> Totalled
     ensures { λ r. ⌜ r ≡ joined a b ⌝ }
 {
     let received = a.received;
     let passed = a.passed;
     if MOST_TOTAL - received < b.received {
-        return Outcome::Refused(23);
+        return Totalled::Refused(23);
     }
     if MOST_TOTAL - passed < b.passed {
-        return Outcome::Refused(23);
+        return Totalled::Refused(23);
     }
-    Outcome::Of(Tally {
+    Totalled::Of(Tally {
         received: received + b.received,
         passed: passed + b.passed,
     })

@@ -2,8 +2,8 @@
 use libc::STDOUT_FILENO;
 use totals::CartResult;
 use totals::Fraction;
-use totals::Outcome;
 use totals::Tally;
+use totals::Totalled;
 ghost use mathlib.Core.Path.{_≡_};
 ghost use Prim.Native.Nat.{_≤_};
 ghost use lib.ListN.{take};
@@ -13,7 +13,7 @@ ghost use Rattle.totals.specs.Totals.{totalsOf};
 const TOO_MANY: usize = 4097;
 
 // The sum of the first so many results. A loan of structs is outside what the borrow checker covers, so it is all that is done here.
-fn sum_front(list: [CartResult; TOO_MANY], count: usize) -> Outcome
+fn sum_front(list: [CartResult; TOO_MANY], count: usize) -> Totalled
     requires { ⌜ count ≤ 4097 ⌝ }
     ensures { λ r. ⌜ r ≡ totalsOf (take count list) ⌝ }
 {
@@ -25,13 +25,13 @@ fn print_number(n: u64) {
     io::print_decimal(STDOUT_FILENO, n);
 }
 
-fn print_outcome(outcome: Outcome) {
+fn print_outcome(outcome: Totalled) {
     match outcome {
-        Outcome::Refused(number) => {
+        Totalled::Refused(number) => {
             io::write_all(STDOUT_FILENO, b" no");
             print_number(number);
         }
-        Outcome::Of(totals) => {
+        Totalled::Of(totals) => {
             print_number(totals.received);
             print_number(totals.passed);
         }

@@ -34,11 +34,11 @@ use denote.Triple.Statement.{Contract, Triple}
 use denote.Triple.Table.{cited, entered}
 use denote.Triple.Walked.{Stays, Walks, ends-at, goes-none-slice, says, stay-none-slice, walk-meets, walkOf, walked}
 use Rattle.totals.specs.declared.CartResult.{CartResult}
-use Rattle.totals.specs.declared.Outcome.{Outcome}
+use Rattle.totals.specs.declared.Totalled.{Totalled}
 use Rattle.totals.specs.Totals.{totalsOf}
 use Rattle.totals.proofs.CartResult as R
-use Rattle.totals.proofs.Outcome as O
-use Rattle.totals.proofs.Outcome.Laws as O′
+use Rattle.totals.proofs.Totalled as O
+use Rattle.totals.proofs.Totalled.Laws as O′
 use Rattle.totals.proofs.sum as sum
 use Rattle.totals.proofs.sum.Symbol as sum-def
 use Rattle.totals.proofs.sum.Symbol.{name as #totals·sum}
@@ -88,17 +88,17 @@ module _ {M : Type 1} (𝓤 : URA M) (H : Heap 𝓤) (A : Atoms 𝓤) (W : Given
       move ! (1 ∷ []) $ fsplit ! $ use1 W (‵ Own ⊛ ‵ Own) (shr-slice-copy 𝓤 H A W (named 0) κ R.the-row .twice s (v ∷ [])) $ split ! $
       move ! (0 ∷ 2 ∷ []) $ fjoin ! $ move ! (2 ∷ 0 ∷ []) $ use2 W (raw (Sums 𝓤 H A mem run .pre to-sum)) (qed W ((‵ (flft κ q) ⊛ ‵ ftrue) ∷ ‵ (owns (ShrSlice (named 0) κ R.the-row ∷ []) (s, tt) (v ∷ [], tt)) ∷ []) ∵ join ! $ frame ! $ done !) $ frame ! $ done !
 
-  sum-said : (r : Outcome) → ent 𝓤 (ensured 𝓤 H A sum.ended (sum.clauses 𝓤 H A mem run) (κ, tt) (s, tt) tt r) (fact 𝓤 (r ≡ totalsOf (now s)))
+  sum-said : (r : Totalled) → ent 𝓤 (ensured 𝓤 H A sum.ended (sum.clauses 𝓤 H A mem run) (κ, tt) (s, tt) tt r) (fact 𝓤 (r ≡ totalsOf (now s)))
   sum-said r = exE 𝓤 _ (λ ws. snd∗ 𝓤 (sem 𝓤 H A (lasts sum.ended (κ, tt) (s, tt) ws)) (fact 𝓤 (r ≡ totalsOf (now s))))
 
   -- the call of `numbers_of`, at the answer r with the machine value u
-  abbrev to-numbers : Outcome → Val → Numbers 𝓤 H A mem run .Ghost
+  abbrev to-numbers : Totalled → Val → Numbers 𝓤 H A mem run .Ghost
   to-numbers r u = ((tt, tt, tt, (r, tt), (u ∷ [], tt)), tt)
 
-  goes-numbers : (r : Outcome) (u : Val) → ent 𝓤 (sem 𝓤 H A (O.the-row .own r (u ∷ []))) (Numbers 𝓤 H A mem run .pre (to-numbers r u))
+  goes-numbers : (r : Totalled) (u : Val) → ent 𝓤 (sem 𝓤 H A (O.the-row .own r (u ∷ []))) (Numbers 𝓤 H A mem run .pre (to-numbers r u))
   goes-numbers r u = qed W (‵ (O.the-row .own r (u ∷ [])) ∷ []) ∵ nothing ! $ move ! (1 ∷ 0 ∷ []) $ fjoin ! $ nothing ! $ join ! $ nothing ! $ move ! (1 ∷ 0 ∷ []) $ done !
 
-  numbers-said : (r : Outcome) (t : Summed) → ent 𝓤 (ensured 𝓤 H A numbers.ended (numbers.clauses 𝓤 H A mem run) tt (r, tt) tt t) (fact 𝓤 (t ≡ summedOf r))
+  numbers-said : (r : Totalled) (t : Summed) → ent 𝓤 (ensured 𝓤 H A numbers.ended (numbers.clauses 𝓤 H A mem run) tt (r, tt) tt t) (fact 𝓤 (t ≡ summedOf r))
   numbers-said r t = exE 𝓤 _ (λ ws. snd∗ 𝓤 (sem 𝓤 H A (lasts numbers.ended tt (r, tt) ws)) (fact 𝓤 (t ≡ summedOf r)))
 
   exits : (t : Summed) (u : Val) → t ≡ summedOf (totalsOf (now s)) → ent 𝓤 (⋆ 𝓤 H A (‵ (S.the-row .own t (u ∷ [])) ∷ (‵ (flft κ q) ⊛ ‵ ftrue) ∷ ‵ Own ∷ [])) (Post u)
@@ -114,7 +114,7 @@ module _ {M : Type 1} (𝓤 : URA M) (H : Heap 𝓤) (A : Atoms 𝓤) (W : Given
         alloc1 ! (λ l₀. alloc1 ! (λ l₁. alloc1 ! (λ l₂. alloc0 ! $ params1 ! $ pass1 ! (init ! 2 refl (shr-slice-lawful 𝓤 H A W (named 0) κ R.the-row .typed s (v ∷ []) p .0)) $ pass0 ! $
         move ! (6 ∷ []) $ use1 W (raw (Sums 𝓤 H A mem run .pre to-sum) ⊛ ‵ Own) goes-sum $ split ! $
         calls-at ! (fmOf 𝓤 H (W .laws) 𝓣) (Sums 𝓤 H A mem run) known-sum to-sum (and-then ! (load ! (from ! (stop !)) (look ! 4 refl)) (no-more !)) (λ u.
-        use1 W (later (some (λ (r : Outcome). ((‵ (flft κ q) ⊛ ‵ ftrue) ⊛ ‵ (O.the-row .own r (u ∷ []))) ⊛ raw (ensured 𝓤 H A sum.ended (sum.clauses 𝓤 H A mem run) (κ, tt) (s, tt) tt r)))) (id⊢ 𝓤 _) $ await ! tt $ pick ! (λ r.
+        use1 W (later (some (λ (r : Totalled). ((‵ (flft κ q) ⊛ ‵ ftrue) ⊛ ‵ (O.the-row .own r (u ∷ []))) ⊛ raw (ensured 𝓤 H A sum.ended (sum.clauses 𝓤 H A mem run) (κ, tt) (s, tt) tt r)))) (id⊢ 𝓤 _) $ await ! tt $ pick ! (λ r.
         split ! $ move ! (1 ∷ []) $ use1 W (raw (fact 𝓤 (r ≡ totalsOf (now s)))) (sum-said r) $ heard ! (r ≡ totalsOf (now s)) (λ e. split ! $ move ! (1 ∷ []) $
         -- [the answer; the token; what s owns; room for _2; …; _1; …; room for _0; …]
         peeks ! O.the-row (Is O.the-row) (shows 𝓤 H A O.the-row) r (u ∷ []) (λ is.

@@ -55,16 +55,16 @@ use denote.Triple.Table.{cited, entered}
 use denote.Triple.Walked.{Stays, Walks, ends-at, goes-none-slice, says, stay-none-slice, walk-meets, walkOf, walked}
 use Rattle.totals.specs.declared.CartResult.{CartResult}
 use Rattle.totals.specs.declared.Tally.{Tally}
-use Rattle.totals.specs.declared.Outcome.{Outcome}
-use Rattle.totals.specs.declared.Outcome.the-variants.{Refused, Of}
+use Rattle.totals.specs.declared.Totalled.{Totalled}
+use Rattle.totals.specs.declared.Totalled.the-variants.{Refused, Of}
 use Rattle.totals.specs.Totals.{added, counted, mostCounted, mostResults, mostTotal, nothing as no-totals, totalsOf}
 use Rattle.totals.proofs.Sums.{Walked, room-for-one, taken-within, walk-begins, walk-ends, walk-goes-on}
 use Rattle.totals.proofs.CartResult as R
 use Rattle.totals.proofs.CartResult.Laws as R′
 use Rattle.totals.proofs.Tally as T
 use Rattle.totals.proofs.Tally.Laws as T′
-use Rattle.totals.proofs.Outcome as O
-use Rattle.totals.proofs.Outcome.Laws as O′
+use Rattle.totals.proofs.Totalled as O
+use Rattle.totals.proofs.Totalled.Laws as O′
 use Rattle.totals.proofs.results_taken as taken
 use Rattle.totals.proofs.results_taken.Symbol as taken-def
 use Rattle.totals.proofs.results_taken.Symbol.{name as #totals·results-taken}
@@ -158,13 +158,13 @@ module _ {M : Type 1} (𝓤 : URA M) (H : Heap 𝓤) (A : Atoms 𝓤) (W : Given
       qed W [] ∵ nothing ! $ nothing ! $ owned ! T.the-row (Is T.the-row) (LL.makes T.the-type T′.the-plain 𝓤 H A) t _ is-t $ fjoin ! $
       owned ! usize (Is usize) (uint-makes 𝓤 H A W w64) n _ (refl, room .0) $ fjoin ! $ nothing ! $ join ! $ done !
 
-  abbrev IsAnswer : Tally → Outcome → Type 0
+  abbrev IsAnswer : Tally → Totalled → Type 0
   IsAnswer t r = r ≡ cond (ltb mostResults n) (Refused 22) (Of t)
 
-  answer-said : (t : Tally) (r : Outcome) → ent 𝓤 (ensured 𝓤 H A answer.ended (answer.clauses 𝓤 H A mem run) tt (n, (t, tt)) tt r) (fact 𝓤 (IsAnswer t r))
+  answer-said : (t : Tally) (r : Totalled) → ent 𝓤 (ensured 𝓤 H A answer.ended (answer.clauses 𝓤 H A mem run) tt (n, (t, tt)) tt r) (fact 𝓤 (IsAnswer t r))
   answer-said t r = exE 𝓤 _ (λ ws. snd∗ 𝓤 (sem 𝓤 H A (lasts answer.ended tt (n, (t, tt)) ws)) (fact 𝓤 (IsAnswer t r)))
 
-  exits : (r : Outcome) (u : Val) → r ≡ totalsOf ys → ent 𝓤 (⋆ 𝓤 H A (‵ (O.the-row .own r (u ∷ [])) ∷ ‵ (flft κ q) ∷ ‵ Own ∷ [])) (Post u)
+  exits : (r : Totalled) (u : Val) → r ≡ totalsOf ys → ent 𝓤 (⋆ 𝓤 H A (‵ (O.the-row .own r (u ∷ [])) ∷ ‵ (flft κ q) ∷ ‵ Own ∷ [])) (Post u)
   exits r u e =
       qed W (‵ (O.the-row .own r (u ∷ [])) ∷ ‵ (flft κ q) ∷ ‵ Own ∷ []) ∵
       suffices ! _ (ends-at 𝓤 H A sum.ended stayed (sum.clauses 𝓤 H A mem run) W (((κ, tt), (q, tt), tt, (x, tt), (v ∷ [], tt)), tt) u r (tt, tt) (tt, tt)) $ says ! e $
@@ -222,7 +222,7 @@ module _ {M : Type 1} (𝓤 : URA M) (H : Heap 𝓤) (A : Atoms 𝓤) (W : Given
         -- [the token; _9; …; _1; …; room for _0; …; what results owns]
         use0 W (raw (Answers 𝓤 H A mem run .pre (to-answer (s .t) (s .u)))) (goes-answer (s .t) (s .u) (s .is)) $
         calls-at ! fm (Answers 𝓤 H A mem run) known-answer (to-answer (s .t) (s .u)) (and-then ! (load ! (from ! (stop !)) (look ! 16 refl)) (and-then ! (load ! (from ! (stop !)) (look ! 12 refl)) (no-more !))) (λ w.
-        use1 W (later (some (λ (r : Outcome). (‵ ftrue ⊛ ‵ (O.the-row .own r (w ∷ []))) ⊛ raw (ensured 𝓤 H A answer.ended (answer.clauses 𝓤 H A mem run) tt (n, (s .t, tt)) tt r)))) (id⊢ 𝓤 _) $ await ! tt $ pick ! (λ r.
+        use1 W (later (some (λ (r : Totalled). (‵ ftrue ⊛ ‵ (O.the-row .own r (w ∷ []))) ⊛ raw (ensured 𝓤 H A answer.ended (answer.clauses 𝓤 H A mem run) tt (n, (s .t, tt)) tt r)))) (id⊢ 𝓤 _) $ await ! tt $ pick ! (λ r.
         split ! $ move ! (1 ∷ []) $ use1 W (raw (fact 𝓤 (IsAnswer (s .t) r))) (answer-said (s .t) r) $ heard ! (IsAnswer (s .t) r) (λ is-answer. split ! $ drop ! $
         peeks ! O.the-row (Is O.the-row) (shows 𝓤 H A O.the-row) r (w ∷ []) (λ is.
         land ! (from ! (stop !)) (init ! 20 refl (EL.lawful O.the-type O′.the-laws 𝓤 H A W tt .typed r _ is .0)) $
@@ -234,7 +234,7 @@ module _ {M : Type 1} (𝓤 : URA M) (H : Heap 𝓤) (A : Atoms 𝓤) (W : Given
         ended : s .i ≡ k
         ended = let l = ltb-false (s .i) k e in let w = s .within in omega arith
 
-        answered : {r : Outcome} → IsAnswer (s .t) r → r ≡ totalsOf ys
+        answered : {r : Totalled} → IsAnswer (s .t) r → r ≡ totalsOf ys
         answered is-answer = walk-ends ys (s .i) (s .t) _ (ended ∙ is-taken) (s .walked) is-answer
 
     goes-on : (s : State) → ltb (s .i) k ≡ true → Sq W (Held s) (runs C Λ En body.turn-1 (anyQ (Turned s)))

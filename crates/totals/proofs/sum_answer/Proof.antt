@@ -1,6 +1,6 @@
 -- `totals::sum_answer` meets its contract.
 use native.Mathlib.Omega.{arith}
-use Rattle.totals.specs.declared.Outcome.the-variants.{Refused, Of}
+use Rattle.totals.specs.declared.Totalled.the-variants.{Refused, Of}
 use Rattle.totals.proofs.Sums.{if-long, if-short}
 use Rattle.totals.proofs.sum_answer.Statement.{statement}
 use Rattle.totals.proofs.sum_answer.Tie as tie

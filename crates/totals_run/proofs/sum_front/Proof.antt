@@ -50,12 +50,12 @@ use denote.Triple.Statement.{Contract, Triple}
 use denote.Triple.Table.{cited, entered}
 use denote.Triple.Walked.{Stays, Walks, ends-at, goes-none, needs, says, stay-none, walk-meets, walkOf, walked}
 use Rattle.totals.specs.declared.CartResult.{CartResult}
-use Rattle.totals.specs.declared.Outcome.{Outcome}
+use Rattle.totals.specs.declared.Totalled.{Totalled}
 use Rattle.totals.specs.Totals.{totalsOf}
 use Rattle.totals.proofs.CartResult as R
 use Rattle.totals.proofs.CartResult.Laws as R′
-use Rattle.totals.proofs.Outcome as O
-use Rattle.totals.proofs.Outcome.Laws as O′
+use Rattle.totals.proofs.Totalled as O
+use Rattle.totals.proofs.Totalled.Laws as O′
 use Rattle.totals.proofs.sum as sum
 use Rattle.totals.proofs.sum.Symbol as sum-def
 use Rattle.totals.proofs.sum.Symbol.{name as #totals·sum}
@@ -127,7 +127,7 @@ module _ {M : Type 1} (𝓤 : URA M) (H : Heap 𝓤) (A : Atoms 𝓤) (W : Given
     goes-sum : ent 𝓤 (sep 𝓤 (sep 𝓤 (A .lft κ fullShare) (sem 𝓤 H A ftrue)) (sem 𝓤 H A (ShrSlice (named 0) κ R.the-row .own s (v-of ∷ [])))) (Sums 𝓤 H A mem run .pre to-sum)
     goes-sum = qed W ((‵ (flft κ fullShare) ⊛ ‵ ftrue) ∷ ‵ (ShrSlice (named 0) κ R.the-row .own s (v-of ∷ [])) ∷ []) ∵ nothing ! $ move ! (2 ∷ 0 ∷ []) $ fjoin ! $ move ! (1 ∷ 0 ∷ []) $ join ! $ frame ! $ done !
 
-    sum-said : (r : Outcome) → ent 𝓤 (ensured 𝓤 H A sum.ended (sum.clauses 𝓤 H A mem run) (κ, tt) (s, tt) tt r) (fact 𝓤 (r ≡ totalsOf (now s)))
+    sum-said : (r : Totalled) → ent 𝓤 (ensured 𝓤 H A sum.ended (sum.clauses 𝓤 H A mem run) (κ, tt) (s, tt) tt r) (fact 𝓤 (r ≡ totalsOf (now s)))
     sum-said r = exE 𝓤 _ (λ ws. snd∗ 𝓤 (sem 𝓤 H A (lasts sum.ended (κ, tt) (s, tt) ws)) (fact 𝓤 (r ≡ totalsOf (now s))))
 
   module _ (xs : List CartResult) (v : Val) (k : ℕ) (k-fits : k < 2 ^ 64) (few : k ≤ N) where
@@ -140,7 +140,7 @@ module _ {M : Type 1} (𝓤 : URA M) (H : Heap 𝓤) (A : Atoms 𝓤) (W : Given
     abbrev Own : Fml
     Own = Many .own xs (v ∷ [])
 
-    exits : (r : Outcome) (u : Val) → r ≡ totalsOf (take k xs) → ent 𝓤 (⋆ 𝓤 H A (‵ (O.the-row .own r (u ∷ [])) ∷ ‵ Own ∷ [])) (Post u)
+    exits : (r : Totalled) (u : Val) → r ≡ totalsOf (take k xs) → ent 𝓤 (⋆ 𝓤 H A (‵ (O.the-row .own r (u ∷ [])) ∷ ‵ Own ∷ [])) (Post u)
     exits r u e =
         qed W (‵ (O.the-row .own r (u ∷ [])) ∷ ‵ Own ∷ []) ∵
         suffices ! _ (ends-at 𝓤 H A front.ended stayed (front.clauses 𝓤 H A mem run) W ((tt, tt, tt, (xs, (k, tt)), vals), tt) u r (tt, (tt, tt)) (tt, (tt, tt))) $ says ! e $
@@ -170,7 +170,7 @@ module _ {M : Type 1} (𝓤 : URA M) (H : Heap 𝓤) (A : Atoms 𝓤) (W : Given
         rewrite ! 6 (λ (m : ℕ). ‵ (fat fullShare slice l₅ 0 (sliceVal (l₃, 0) m))) (sym (length-front k xs few e)) refl $
         nothing ! $ move ! (3 ∷ 0 ∷ []) $ join ! $ use2 W (raw (Sums 𝓤 H A mem run .pre (to-sum (α ∷ []) (record { ptr = (l₃, 0); name = γ; now = take k xs })))) (goes-sum (α ∷ []) (record { ptr = (l₃, 0); name = γ; now = take k xs })) $
         calls-at ! (fmOf 𝓤 H (W .laws) 𝓣) (Sums 𝓤 H A mem run) known-sum (to-sum (α ∷ []) (record { ptr = (l₃, 0); name = γ; now = take k xs })) (and-then ! (load ! (from ! (stop !)) (look ! 5 refl)) (no-more !)) (λ u.
-        use1 W (later (some (λ (r : Outcome). ((‵ (flft (α ∷ []) fullShare) ⊛ ‵ ftrue) ⊛ ‵ (O.the-row .own r (u ∷ []))) ⊛ raw (ensured 𝓤 H A sum.ended (sum.clauses 𝓤 H A mem run) (α ∷ [], tt) (record { ptr = (l₃, 0); name = γ; now = take k xs }, tt) tt r)))) (id⊢ 𝓤 _) $ await ! tt $ pick ! (λ r.
+        use1 W (later (some (λ (r : Totalled). ((‵ (flft (α ∷ []) fullShare) ⊛ ‵ ftrue) ⊛ ‵ (O.the-row .own r (u ∷ []))) ⊛ raw (ensured 𝓤 H A sum.ended (sum.clauses 𝓤 H A mem run) (α ∷ [], tt) (record { ptr = (l₃, 0); name = γ; now = take k xs }, tt) tt r)))) (id⊢ 𝓤 _) $ await ! tt $ pick ! (λ r.
         split ! $ move ! (1 ∷ []) $ use1 W (raw (fact 𝓤 (r ≡ totalsOf (take k xs)))) (sum-said (α ∷ []) (record { ptr = (l₃, 0); name = γ; now = take k xs }) r) $ heard ! (r ≡ totalsOf (take k xs)) (λ e′. split ! $ move ! (1 ∷ []) $
         peeks ! O.the-row (Is O.the-row) (shows 𝓤 H A O.the-row) r (u ∷ []) (λ is.
         land ! (from ! (stop !)) (init ! 15 refl (EL.lawful O.the-type O′.the-laws 𝓤 H A W tt .typed r _ is .0)) $
