@@ -1,5 +1,5 @@
 -- Demand 3: the two-list rule.
-use mathlib.Core.Path.{ap, refl, sym, _∙_, _≡_}
+use mathlib.Core.Path.{ap, refl, subst, sym, _∙_, _≡_}
 use mathlib.Core.Bool.{_&&_, Bool, cond, false, not, true}
 use mathlib.Core.Option.{some}
 use mathlib.Core.List.{_++_, List, [], _∷_}
@@ -13,13 +13,15 @@ use Rattle.protocol.specs.Folds.{count, every, sum, update2}
 use Rattle.protocol.specs.CartSets.{has, union}
 use Rattle.protocol.specs.Floor.{Floor, Limits, Record, ackList, at, delete, deregister, isHeld, justStarted, multicast, register}
 use Rattle.protocol.specs.Events.{Answer, Done, Event, Report, accepted, enter, move, radio, refused, send, start, wire}
-use Rattle.protocol.specs.Handoff.{arrive, entryOf, onDeregister, onEnter, onMove, onRegister, roomOf, struck}
+use Rattle.protocol.specs.Handoff.{arrive, entryOf, onEnter, onMove, onRegister, roomOf, struck}
+use Rattle.protocol.specs.Deregister.{leave}
 use Rattle.protocol.specs.Wired.{buffer, handle, multicastByRow, onAckList, onDelete, onMulticast, withMessage}
 use Rattle.protocol.specs.Wireless.{allAcked, handOver, receive, sendAcks, sendAcksIfAll}
 use Rattle.protocol.specs.Step.{answer, floorAfter, step}
 use Rattle.protocol.specs.TwoLists.{Item, Lists, TwoListRule, item, listsAfter, listsStep, owes}
 use Rattle.protocol.proofs.Tests.{and-intro, and-left, and-right, by-test, clash, eqb-self, every-at, every-fails, on-cond, on-option}
 use Rattle.protocol.proofs.SetLaws.{has-zero}
+use Rattle.protocol.proofs.InOrder.{completed, deregister-is, send-each-is}
 use Rattle.protocol.proofs.Accepted.{by-step, unlined}
 use Rattle.protocol.proofs.Invariant.{Entry, Held, History, Invariant, blank, names, naming}
 use Rattle.protocol.proofs.Updates.{append-nil}
@@ -181,13 +183,14 @@ unfolding struck
 arrived-size M F t c row = rw (arrive-at-once M F t c row) (same-size F)
 
 handled-size : (M : Limits) (F : Floor) (i j : ℕ) (r : Record) → SameSize F (handle M F i j r .floor)
-unfolding handle onMulticast multicastByRow onAckList onDelete onDeregister onRegister buffer
+unfolding handle onMulticast multicastByRow onAckList onDelete leave onRegister buffer
 handled-size M F i j (multicast n) = on-option (λ (d : Done). SameSize F (d .floor)) (roomOf M F i n) (λ e. same-size F) (λ m e. same-size F)
 handled-size M F i j (ackList n set) =
     on-option (λ (d : Done). SameSize F (d .floor)) (roomOf M F j n) (λ e. same-size F)
     (λ m e. on-cond (λ (d : Done). SameSize F (d .floor)) (eqb (union (F .acked m) set) (F .named m)) (λ b. same-size F) (λ b. same-size F))
 handled-size M F i j (delete n) = on-option (λ (d : Done). SameSize F (d .floor)) (roomOf M F i n) (λ e. same-size F) (λ m e. same-size F)
-handled-size M F i j (deregister c) = same-size F
+handled-size M F i j (deregister c) =
+    rw (deregister-is M F i j c) (subst (λ (X : Floor). SameSize F X) (sym (send-each-is (leave F i j c) j (completed M F i j c))) (same-size F))
 handled-size M F i j (register c row) = arrived-size M F j c (entryOf row)
 
 pub step-size : (M : Limits) (F : Floor) → F .started ≡ true → (e : Event) → SameSize F (step M F e)

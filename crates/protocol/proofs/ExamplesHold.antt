@@ -10,17 +10,18 @@ use Rattle.protocol.specs.Folds.{count, every, first, listOf, sum}
 use Rattle.protocol.specs.CartSets.{has, minus, setOf, union, with, without}
 use Rattle.protocol.specs.Floor.{Floor, limits, unstarted}
 use Rattle.protocol.specs.Events.{Answer}
-use Rattle.protocol.specs.Handoff.{arrive, bufferedFor, catchUp, catchUpEach, catchUpStop, climb, onDeregister, onEnter, onMove, onRegister, passedOver, roomOf, struck}
+use Rattle.protocol.specs.Handoff.{arrive, bufferedFor, catchUp, catchUpEach, catchUpStop, climb, onEnter, onMove, onRegister, passedOver, roomOf, struck}
 use Rattle.protocol.specs.Wired.{buffer, freeRoom, handle, multicastByRow, onAckList, onDelete, onMulticast, onSend, onWire, withMessage}
 use Rattle.protocol.specs.Wireless.{allAcked, handOver, headAmong, onRadio, queueHead, receive, sendAcks}
+use Rattle.protocol.specs.Deregister.{bufferedRooms, inOrder, insert, isComplete, leave, listsSent, onDeregister, testEach}
 use Rattle.protocol.specs.Claims.{test}
 use Rattle.protocol.specs.Form.{passesForm}
 use Rattle.protocol.specs.Blank.{BlankBeyond}
 use Rattle.protocol.specs.Refusals.{neverEntered, refusalIf}
-use Rattle.protocol.specs.Step.{accept}
+use Rattle.protocol.specs.Step.{accept, floorAfter}
 use Rattle.protocol.specs.Frames.{bigEndian, fieldsOf, unlisted, eventOf, fieldsRefusal, frameRefusal, frameOf}
 use Rattle.protocol.specs.Printed.{decimal, decimalDigits, hexadecimal, restOf, lineOf, printedRun}
-use Rattle.protocol.specs.Examples.{Given, Row, Shown, after, answered, events, examples, form, frames, framesOn, heldOn, holds, holdsNoText, nearTheLast, outcome, passes, printed}
+use Rattle.protocol.specs.Examples.{Given, Row, Shown, after, answered, events, examples, form, frames, framesOn, heldOn, holds, holdsNoText, nearTheLast, outcome, passes, printed, rollsAway}
 use Rattle.protocol.proofs.Tests.{and-false}
 use Rattle.protocol.proofs.Ready.{Ready, quick-answers, quick-floor, quick-lines, quickAnswer, quickAnswers, quickFloor, quickLines, quickStep, ready-unstarted}
 
@@ -91,7 +92,7 @@ no-text-blank =
     }
 
 computed : map (λ r. quickOutcome (r .given)) examples ≡ map (λ r. r .shown) examples
-unfolding quickOutcome quickLines quickAnswers quickFloor quickStep quickAnswer refusalIf accept frameOf frameRefusal fieldsRefusal fieldsOf bigEndian unlisted eventOf restOf lineOf decimal decimalDigits hexadecimal onEnter onSend onWire onRadio onMove handle onMulticast multicastByRow onAckList onDelete onDeregister onRegister arrive passedOver catchUpEach catchUp catchUpStop climb bufferedFor roomOf freeRoom struck withMessage buffer receive sendAcks allAcked handOver queueHead headAmong neverEntered passesForm test every count sum first listOf has union minus with without setOf
+unfolding quickOutcome quickLines quickAnswers quickFloor quickStep quickAnswer refusalIf accept frameOf frameRefusal fieldsRefusal fieldsOf bigEndian unlisted eventOf restOf lineOf decimal decimalDigits hexadecimal onEnter onSend onWire onRadio onMove handle onMulticast multicastByRow onAckList onDelete onDeregister bufferedRooms inOrder insert isComplete testEach listsSent leave onRegister arrive passedOver catchUpEach catchUp catchUpStop climb bufferedFor roomOf freeRoom struck withMessage buffer receive sendAcks allAcked handOver queueHead headAmong neverEntered passesForm test every count sum first listOf has union minus with without setOf
 computed = refl
 
 near-the-last : Ready limits nearTheLast
@@ -105,3 +106,11 @@ pub table-holds : map (λ r. outcome (r .given)) examples ≡ map (λ r. r .show
 table-holds =
     quick-table examples (tt, (from-unstarted, (from-unstarted, (from-unstarted, (from-unstarted, (from-unstarted, (tt, (near-the-last, (from-unstarted, (from-unstarted, (from-unstarted, (from-unstarted, (tt, (no-text, (no-text, (no-text, tt))))))))))))))))
     ∙ computed
+
+-- THE CART THAT ROLLS AWAY
+rolls-away : heldOn (quickFloor limits unstarted rollsAway) ≡ 0
+unfolding quickFloor quickStep refusalIf accept onEnter onSend onWire onRadio onMove handle onMulticast multicastByRow onAckList onDelete onDeregister bufferedRooms inOrder insert isComplete testEach listsSent leave onRegister arrive passedOver catchUpEach catchUp catchUpStop climb bufferedFor roomOf freeRoom struck withMessage buffer receive sendAcks allAcked handOver queueHead headAmong neverEntered every count sum first listOf has union minus with without setOf
+rolls-away = refl
+
+pub rolled-away : heldOn (floorAfter limits unstarted rollsAway) ≡ 0
+rolled-away = ap (λ (X : Floor). heldOn X) (quick-floor limits unstarted rollsAway from-unstarted) ∙ rolls-away

@@ -1,4 +1,4 @@
--- Enter, register, deregister and move.
+-- Enter, register, the hand-off of a deregister, and move.
 use mathlib.Core.Path.{_≡_, ap, fun-ext, refl, subst, sym, _∙_, _≡_}
 use mathlib.Core.Bool.{_&&_, cond, false, not, true}
 use mathlib.Core.Option.{none}
@@ -10,12 +10,14 @@ use borrow.Author.Tests.{eq-eqb, eqb-true, ne-eqb}
 use Rattle.protocol.specs.Folds.{update}
 use Rattle.protocol.specs.CartSets.{has, without}
 use Rattle.protocol.specs.Floor.{Floor, Limits, Place, Record, at, behead, between, deregister, leaving, localTo, onLines, outside, put, register, setNext, setPlace, setQueue, stationOf, travelling}
-use Rattle.protocol.specs.Handoff.{arrive, entryOf, onDeregister, onMove, rowOf, struck, withRow}
+use Rattle.protocol.specs.Handoff.{arrive, entryOf, onMove, rowOf, struck, withRow}
+use Rattle.protocol.specs.Deregister.{leave}
 use Rattle.protocol.specs.Claims.{All}
 use Rattle.protocol.specs.Form.{HandoffRecord, deregistering, handoffOf, handoffs, multicastNumbers, registering}
 use Rattle.protocol.proofs.Tests.{and-left, and-right, both-equal, by-eq, by-lt, by-test, clash, eqb-self, listOf-at, listOf-past, on-cond, update-at}
 use Rattle.protocol.proofs.SetLaws.{has-without}
 use Rattle.protocol.proofs.FloorLaws.{at-home, outside-is}
+use Rattle.protocol.proofs.InOrder.{handedOff}
 use Rattle.protocol.proofs.Accepted.{MayEnter, MayMove}
 use Rattle.protocol.proofs.Invariant.{History, Invariant, Queued, Sound}
 use Rattle.protocol.proofs.Updates.{handoff-put, handoff-taken, on-beheaded, queue-changed}
@@ -123,9 +125,10 @@ module _ (M : Limits) (F : Floor) (G : History) (i t c : ℕ) (l : List Record) 
       arrived M F G t c (entryOf row) (behead i t (F .lines)) lt lc (y .entries) (λ u. rw is-p) I
       (handoff-gone (register c row) e refl (λ d h. rw (ne-eqb c d (λ q. h (sym q)))) (y .alone) (λ k h q. rw (is-p, q)) (λ u h. clash (localTo (F .place c) u) h (rw is-p)) lc)
 
-  pub deregister-ok : F .lines i t ≡ deregister c ∷ l → Invariant M (onDeregister M (onLines F (behead i t (F .lines))) i t c .floor) G
-  unfolding onDeregister
-  deregister-ok e =
+  -- the cart leaves, and its register goes
+  pub handed-off-ok : F .lines i t ≡ deregister c ∷ l → Invariant M (handedOff M (onLines F (behead i t (F .lines))) i t c) G
+  unfolding leave
+  handed-off-ok e =
       let z : deregistering ∷ handoffs c l ≡ handoffOf (F .place c) i t (rowOf M (F .next c)) = rw (e, eqb-self c) at (I .handoffs-right c i t) in
       let y = deregistering-is (F .place c) i t (rowOf M (F .next c)) (handoffs c l) z in
       let is-p = y .0 in

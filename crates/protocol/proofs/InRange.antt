@@ -9,7 +9,8 @@ use borrow.Author.Tests.{ne-eqb}
 use Rattle.protocol.specs.CartSets.{union}
 use Rattle.protocol.specs.Floor.{Floor, Limits, Record, ackList, at, delete, deregister, multicast, register}
 use Rattle.protocol.specs.Events.{Answer, Done, Event, accepted, refused}
-use Rattle.protocol.specs.Handoff.{entryOf, onDeregister, onEnter, onMove, onRegister, passedOver, roomOf}
+use Rattle.protocol.specs.Handoff.{entryOf, onEnter, onMove, onRegister, passedOver, roomOf}
+use Rattle.protocol.specs.Deregister.{onDeregister}
 use Rattle.protocol.specs.Wired.{buffer, handle, localRow, multicastByRow, onAckList, onDelete, onMulticast, passesOver}
 use Rattle.protocol.specs.Wireless.{allAcked, handOver, receive, sendAcks, sendAcksIfAll}
 use Rattle.protocol.specs.Form.{multicastNumbers}

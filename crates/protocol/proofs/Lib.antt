@@ -1,6 +1,7 @@
 pub mod Tests
 pub mod SetLaws
 pub mod Readings
+pub mod InOrder
 pub mod FloorLaws
 pub mod Accepted
 pub mod Invariant
@@ -10,6 +11,7 @@ pub mod Arrival
 pub mod HandoffSteps
 pub mod WiredSteps
 pub mod RadioStep
+pub mod DeregisterStep
 pub mod SendStep
 pub mod InvariantStep
 pub mod Demand3

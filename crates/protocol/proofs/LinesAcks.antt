@@ -17,7 +17,7 @@ use Rattle.protocol.specs.Wireless.{allAcked}
 use Rattle.protocol.specs.Claims.{All}
 use Rattle.protocol.specs.Form.{ackCount, acksOf, acksTo, bit, countLine, countLines, isAckOf, isDeleteOf, multicastNumbers}
 use Rattle.protocol.proofs.Tests.{and-false, and-intro, and-left, by-test, clash, eqb-self, on-cond, on-option, on-update, update-at}
-use Rattle.protocol.proofs.SetLaws.{has-union, has-without, has-zero}
+use Rattle.protocol.proofs.SetLaws.{has-some, has-union, has-without}
 use Rattle.protocol.proofs.FloorLaws.{on-put}
 use Rattle.protocol.proofs.Invariant.{CountsUp, Held, History, Invariant}
 use Rattle.protocol.proofs.Updates.{all-map, record-taken}
@@ -170,9 +170,6 @@ module _ (M : Limits) (F : Floor) (G : History) (i s n set : ℕ) (l : List Reco
 all-all : (P : ℕ → Record → Type 0) (l : List Record) → ((c : ℕ) → All (P c) l) → All (λ b. (c : ℕ) → P c b) l
 all-all P [] f = tt
 all-all P (b ∷ l) f = ((λ c. f c .0), all-all P l (λ c. f c .1))
-
-has-some : (x c : ℕ) → has x c ≡ true → eqb x 0 ≡ false
-has-some x c e = by-test (eqb x 0) (λ q. let z = eqb-true x 0 q in clash (has 0 c) (rw z at e) (has-zero c)) (λ q. q)
 
 module _ (M : Limits) (F : Floor) (G : History) (s t n : ℕ) (l : List Record) (I : Invariant M F G) (X : LineFacts M F) (ls : s < F .stations) (lt : t < F .stations) (e : F .lines s t ≡ delete n ∷ l) where
   Xd : LineFacts M (onLines F (behead s t (F .lines)))

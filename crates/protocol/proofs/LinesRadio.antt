@@ -1,32 +1,35 @@
 -- The records on the lines after a deregister, a multicast and a radio step.
-use mathlib.Core.Path.{refl, sym, _∙_, _≡_}
+use mathlib.Core.Path.{ap, refl, subst, sym, _∙_, _≡_}
 use mathlib.Core.Bool.{_&&_, cond, false, true}
-use mathlib.Core.List.{List, _∷_}
+use mathlib.Core.List.{List, [], _∷_}
 use Prim.Native.Nat.{_+_, _<_, ℕ, _≤_}
 use native.Mathlib.Omega.{arith}
 use lib.Dec.{eqb, ltb}
-use borrow.Author.Tests.{eqb-false, eqb-true, ltb-false, ltb-true}
+use borrow.Author.Tests.{eqb-false, eqb-true, ltb-false, ltb-true, ne-eqb}
 use Rattle.protocol.specs.Folds.{count, update2}
 use Rattle.protocol.specs.CartSets.{has, with}
 use Rattle.protocol.specs.Floor.{Floor, Limits, Record, ackList, at, behead, between, delete, deregister, multicast, onLines, put, register}
 use Rattle.protocol.specs.Events.{Done}
-use Rattle.protocol.specs.Handoff.{onDeregister, roomOf, rowOf}
+use Rattle.protocol.specs.Handoff.{roomOf, rowOf}
+use Rattle.protocol.specs.Deregister.{leave, onDeregister}
 use Rattle.protocol.specs.Wired.{buffer, multicastByRow, onMulticast}
 use Rattle.protocol.specs.Wireless.{allAcked, handOver, receive, sendAcks, sendAcksIfAll}
 use Rattle.protocol.specs.Form.{ackCount, acksOf, acksTo, bit, countLine, countLines, isAckOf, isDeleteOf}
 use Rattle.protocol.proofs.Tests.{and-false, and-left, and-right, both-equal, by-test, eqb-self, not-both-equal, on-cond, on-option, on-update2, or-cases, or-right, update2-at}
 use Rattle.protocol.proofs.SetLaws.{has-with, has-zero}
 use Rattle.protocol.proofs.FloorLaws.{on-put}
+use Rattle.protocol.proofs.InOrder.{Distinct, EachOf, completed, deregister-splits, each-both, handedOff, send-each-head, send-each-is, sendEach}
 use Rattle.protocol.proofs.Accepted.{MayRadio}
 use Rattle.protocol.proofs.Invariant.{Entry, Held, History, Invariant, Sound}
 use Rattle.protocol.proofs.CatchUp.{one-at-once}
+use Rattle.protocol.proofs.DeregisterStep.{Goes, all-go, completed-distinct}
 use Rattle.protocol.proofs.Counting.{count-at, count-ext, count-mono, count-none, count-off, count-one, countLine-more, countLines-none, countLines-put-one, on-lines-map, on-lines-put}
 use Rattle.protocol.proofs.LineFacts.{DeletesAfter, HeldRecord, LineFacts, deletes-after-quiet, multicast-taken-lines, put-lines, taken-lines}
 
-pub deregister-lines : (M : Limits) (F : Floor) (i t c : ℕ) (l : List Record) → F .lines i t ≡ deregister c ∷ l → c < F .carts → LineFacts M F
-    → LineFacts M (onDeregister M (onLines F (behead i t (F .lines))) i t c .floor)
-unfolding onDeregister
-deregister-lines M F i t c l e lc X =
+pub handed-off-lines : (M : Limits) (F : Floor) (i t c : ℕ) (l : List Record) → F .lines i t ≡ deregister c ∷ l → c < F .carts → LineFacts M F
+    → LineFacts M (handedOff M (onLines F (behead i t (F .lines))) i t c)
+unfolding leave
+handed-off-lines M F i t c l e lc X =
     put-lines M (onLines F (behead i t (F .lines))) t i (register c (rowOf M (F .next c))) refl (λ n. refl) (λ n c. refl) lc (taken-lines M F i t (deregister c) l e (λ k d. d) X)
 
 pub multicast-lines : (M : Limits) (F : Floor) (s t n : ℕ) (l : List Record) → F .lines s t ≡ multicast n ∷ l → LineFacts M F
@@ -174,6 +177,30 @@ module _ (M : Limits) (F : Floor) (m t c : ℕ) (uniq : (m k : ℕ) → Held M (
         within = λ k d h p. let z = acks-moved k d h in X .within k d h (omega arith);
         deleted-acked = X .deleted-acked;
       }
+
+-- the ack lists of several rooms go
+still-goes : (M : Limits) (F : Floor) (t m k : ℕ) → Goes M F t k → (k ≡ m → ⊥) → Goes M (sendAcks F m t) t k
+unfolding sendAcks
+still-goes M F t m k g ne =
+    record { held = g .held; here = g .here; come = g .come; one = g .one; has-one = rw (ne-eqb k m ne) (g .has-one); on-floor = g .on-floor }
+
+pub send-each-lines : (M : Limits) (F : Floor) (t : ℕ) (l : List ℕ)
+    → ((m k : ℕ) → Held M (F .waiting) m → Held M (F .waiting) k → F .initiator m ≡ F .initiator k → F .number m ≡ F .number k → m ≡ k)
+    → t < F .stations → EachOf (Goes M F t) l → Distinct l → LineFacts M F → LineFacts M (sendEach F t l)
+unfolding sendEach sendAcks
+send-each-lines M F t [] uniq lt g d X = X
+send-each-lines M F t (m ∷ l) uniq lt g d X =
+    send-each-lines M (sendAcks F m t) t l uniq lt (each-both l (λ k a ne. still-goes M F t m k a ne) (g .1) (d .0)) (d .1)
+    (acks-sent-lines M F m t (g .0 .one) uniq (g .0 .held) X lt (g .0 .on-floor) (g .0 .has-one))
+
+pub deregister-lines : (M : Limits) (F : Floor) (G : History) (i t c : ℕ) (l : List Record) → F .lines i t ≡ deregister c ∷ l → t < F .stations → c < F .carts → Invariant M F G → LineFacts M F
+    → LineFacts M (onDeregister M (onLines F (behead i t (F .lines))) i t c .floor)
+deregister-lines M F G i t c l e lt lc I X =
+    let rooms = completed M (onLines F (behead i t (F .lines))) i t c in
+    let X1 = send-each-lines M F t rooms (I .one-room) lt (all-go M F G i t c (behead i t (F .lines)) lt I) (completed-distinct M (onLines F (behead i t (F .lines))) i t c) X in
+    let h = send-each-head F t rooms i t (deregister c) l e in
+    let n : sendEach F t rooms .carts ≡ F .carts = ap (λ (Y : Floor). Y .carts) (send-each-is F t rooms) in
+    subst (λ (Y : Floor). LineFacts M Y) (sym (deregister-splits M F i t c l e)) (handed-off-lines M (sendEach F t rooms) i t c (h .0) (h .1) (omega arith) X1)
 
 pub radio-lines : (M : Limits) (F : Floor) (G : History) (m t c : ℕ) → Invariant M F G → LineFacts M F → MayRadio M F t c m → LineFacts M (handOver M F m t c .floor)
 unfolding handOver receive

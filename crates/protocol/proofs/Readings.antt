@@ -1,21 +1,22 @@
-use mathlib.Core.Path.{refl, _∙_, _≡_}
-use mathlib.Core.Bool.{false, true}
+use mathlib.Core.Path.{ap, refl, _∙_, _≡_}
+use mathlib.Core.Bool.{false, not, true}
 use mathlib.Core.Option.{none, some}
-use mathlib.Core.List.{_++_, [], _∷_}
+use mathlib.Core.List.{_++_, List, [], _∷_}
 use Prim.Native.Nat.{_<_, ℕ, _≤_}
 use native.Mathlib.Omega.{arith}
 use lib.Dec.{eqb}
-use borrow.Author.Tests.{eqb-true, le-ltb, ne-eqb}
+use borrow.Author.Tests.{eqb-true, le-ltb, ne-eqb, not-true}
 use Rattle.protocol.specs.CartSets.{has, union}
-use Rattle.protocol.specs.Floor.{Floor, Limits, Place, ackList, at, isLocal, setPlace, setTexts}
+use Rattle.protocol.specs.Floor.{Floor, Limits, Place, ackList, at, isLocal, register, setPlace, setTexts}
 use Rattle.protocol.specs.Events.{Done, send}
-use Rattle.protocol.specs.Handoff.{catchUp, catchUpStop, onDeregister, roomOf}
+use Rattle.protocol.specs.Handoff.{catchUp, catchUpStop, roomOf, rowOf}
 use Rattle.protocol.specs.Wired.{buffer, localRow, multicastByRow, onAckList}
 use Rattle.protocol.specs.Wireless.{allAcked, handOver, receive, sendAcks, sendAcksIfAll, standsBefore}
+use Rattle.protocol.specs.Deregister.{bufferedRooms, isComplete, leave, onDeregister, sendIfComplete, testEach}
 use Rattle.protocol.specs.Claims.{True}
 use Rattle.protocol.specs.Form.{formRule}
 use Rattle.protocol.specs.Refusals.{neverEntered, noStation, refusalIf, strangers}
-use Rattle.protocol.proofs.Tests.{and-false, by-lt, by-option, by-test, clash, eqb-self, on-cond, on-option, or-right}
+use Rattle.protocol.proofs.Tests.{and-false, and-left, and-right, by-lt, by-option, by-test, clash, eqb-self, on-cond, on-option, or-right}
 use Rattle.protocol.proofs.SetLaws.{has-setOf, has-with, has-without}
 
 -- "Readings that lose or double a correction": for each of them, what the written steps do instead.
@@ -35,10 +36,24 @@ deleted-when-all-have-it M F s n carts m e h =
     (λ b. eqb-true (union (F .acked m) carts) (F .named m) b)
     (λ b. absurd (let none : 0 < 0 = rw (e, b) at h in omega arith))
 
+-- "These lists go on the lines before the register": after the cart has left they are tested, and the register is put behind those that go
+pub register-is-last : (M : Limits) (F : Floor) (i t c : ℕ)
+    → onDeregister M F i t c .floor .lines t i ≡ testEach (leave F i t c) t (bufferedRooms M (leave F i t c) t) .lines t i ++ (register c (rowOf M (F .next c)) ∷ [])
+unfolding onDeregister
+register-is-last M F i t c = rw (eqb-self t, eqb-self i)
+
+-- testing the lists changes no queue
+test-keeps-queue : (F : Floor) (t : ℕ) (l : List ℕ) → testEach F t l .queue ≡ F .queue
+unfolding testEach sendAcks
+test-keeps-queue F t [] = refl
+test-keeps-queue F t (m ∷ l) = test-keeps-queue (sendIfComplete F t m) t l ∙ on-cond (λ (X : Floor). X .queue ≡ F .queue) (isComplete F t m) (λ e. refl) (λ e. refl)
+
 -- "Deregister handled as if the cart had left at its greeting: the message queued meanwhile stays behind": no entry here has the cart afterwards
 pub leaves-every-entry : (M : Limits) (F : Floor) (i t c m : ℕ) → has (onDeregister M F i t c .floor .queue m t) c ≡ false
-unfolding onDeregister
-leaves-every-entry M F i t c m = rw (eqb-self t) (has-without (F .queue m t) c c ∙ rw (eqb-self c) (and-false (has (F .queue m t) c)))
+unfolding onDeregister leave
+leaves-every-entry M F i t c m =
+    ap (λ (q : ℕ → ℕ → ℕ). has (q m t) c) (test-keeps-queue (leave F i t c) t (bufferedRooms M (leave F i t c) t))
+    ∙ rw (eqb-self t) (has-without (F .queue m t) c c ∙ rw (eqb-self c) (and-false (has (F .queue m t) c)))
 
 -- "Queue order by initiator first": whoever stands before another has no larger number
 pub smallest-number-first : (F : Floor) (m k : ℕ) → standsBefore F m k ≡ true → F .number m ≤ F .number k
@@ -55,6 +70,12 @@ ack-list-sent F m t = rw (eqb-self t, eqb-self (F .initiator m))
 pub cart-in-ack-list : (F : Floor) (m t c : ℕ) → has (receive F m t c .acks m t) c ≡ true
 unfolding receive
 cart-in-ack-list F m t c = rw (eqb-self m, eqb-self t) (has-with (F .acks m t) c c ∙ or-right (has (F .acks m t) c) (eqb c c) (eqb-self c))
+
+-- nor does a deregister step send one: of the lists that it looks at, one that goes has somebody in it, and everybody that it waits for
+pub complete-is : (F : Floor) (t m : ℕ) → isComplete F t m ≡ true → (eqb (F .acks m t) 0 ≡ false) × (allAcked F m t ≡ true)
+unfolding isComplete
+complete-is F t m e =
+    (not-true (eqb (F .acks m t) 0) (and-left (not (eqb (F .acks m t) 0)) (allAcked F m t) e), and-right (not (eqb (F .acks m t) 0)) (allAcked F m t) e)
 
 -- A CORRECTION WITH NO TEXT: "24 empty text, after 12 and before 13"
 

@@ -7,8 +7,8 @@ use native.Mathlib.Omega.{arith}
 use lib.Dec.{eqb, eqb·suc-suc, eqb·suc-zero, eqb·zero-suc}
 use lib.Arith.{digits-mod, lt-one}
 use lib.Pow.{pow-lt, pow-mono, pow-pos, shr-shr}
-use lib.Bits.{and-le-l, and-shr, and-step, bitAnd, bitOr, bitXor, differ, or-lt, or-shifted-r, or-shr, or-step, xor-lt, xor-shr, xor-step}
-use borrow.Author.Tests.{ne-eqb, not-false, not-true}
+use lib.Bits.{and-le-l, and-le-r, and-shr, and-step, bitAnd, bitOr, bitXor, differ, or-add-and, or-lt, or-shifted-r, or-shr, or-step, xor-lt, xor-shr, xor-step}
+use borrow.Author.Tests.{eqb-false, eqb-true, ne-eqb, not-false, not-true}
 use Rattle.protocol.specs.Folds.{every}
 use Rattle.protocol.specs.CartSets.{digit, has, minus, setOf, union, with, without}
 use Rattle.protocol.specs.Floor.{at}
@@ -103,6 +103,14 @@ has-without x c d = has-minus x (2 ^ c) d ∙ ap (λ (b : Bool). has x d && not 
 pub union-lt : (n x y : ℕ) → x < 2 ^ n → y < 2 ^ n → union x y < 2 ^ n
 unfolding union
 union-lt = or-lt
+
+-- two sets are empty when those in either are nobody
+pub either-empty : (x y : ℕ) → bitOr x y ≡ 0 → (x ≡ 0) × (y ≡ 0)
+either-empty x y e =
+    let sum = or-add-and x y in
+    let a = and-le-l x y in
+    let b = and-le-r x y in
+    (omega (arith, e, sum, a, b), omega (arith, e, sum, a, b))
 
 pub minus-lt : (n x y : ℕ) → x < 2 ^ n → minus x y < 2 ^ n
 unfolding minus
@@ -217,3 +225,16 @@ some-member n x h pos =
     by-test (every n (λ c. not (has x c)))
     (λ e. let z : x ≡ 0 = same-members n x 0 h (zero-below n) (λ c l. not-true (has x c) (every-at n (λ c. not (has x c)) e c l) ∙ sym (has-zero c)) in absurd (omega arith))
     (λ e. let r = every-fails n (λ c. not (has x c)) e in (r .0, r .1, not-false (has x (r .0)) (r .2)))
+
+-- every number is a set below some power
+pub lt-two-pow : (n : ℕ) → n < 2 ^ n
+lt-two-pow zero = omega arith
+lt-two-pow (suc n) = let z = lt-two-pow n in let p = pow-suc 2 n in omega arith
+
+-- so one that is not 0 has a member, of whatever size it is
+pub somebody : (x : ℕ) → eqb x 0 ≡ false → (c : ℕ) × (has x c ≡ true)
+somebody x e = let ne : x ≡ 0 → ⊥ = eqb-false x 0 e in let r = some-member x x (lt-two-pow x) (omega arith) in (r .0, r .2)
+
+-- and one that has a member is not 0
+pub has-some : (x c : ℕ) → has x c ≡ true → eqb x 0 ≡ false
+has-some x c e = by-test (eqb x 0) (λ q. let z = eqb-true x 0 q in clash (has 0 c) (rw z at e) (has-zero c)) (λ q. q)

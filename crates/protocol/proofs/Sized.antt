@@ -1,4 +1,4 @@
-use mathlib.Core.Path.{refl, _≡_}
+use mathlib.Core.Path.{ap, refl, subst, sym, _≡_}
 use mathlib.Core.Bool.{_&&_, Bool, cond, false, true}
 use mathlib.Core.List.{List, [], _∷_}
 use Prim.Native.Nat.{_<_, _^_, suc, ℕ, _≤_}
@@ -11,9 +11,10 @@ use Rattle.protocol.specs.Folds.{update, update2}
 use Rattle.protocol.specs.CartSets.{minus, setOf, union, with, without}
 use Rattle.protocol.specs.Floor.{Floor, Limits, Place, Record, ackList, at, behead, between, cartsThat, delete, deregister, entered, isBuffered, justStarted, leaving, multicast, outside, put, register, stationOf, toEvery, travelling}
 use Rattle.protocol.specs.Events.{Done, Event}
-use Rattle.protocol.specs.Handoff.{arrive, catchUpStop, entryOf, onDeregister, onEnter, onMove, onRegister, roomOf, rowOf, struck, withRow}
+use Rattle.protocol.specs.Handoff.{arrive, catchUpStop, entryOf, onEnter, onMove, onRegister, roomOf, rowOf, struck, withRow}
 use Rattle.protocol.specs.Wired.{buffer, handle, isQueued, isStruck, localRow, multicastByRow, onAckList, onDelete, onMulticast, withMessage}
 use Rattle.protocol.specs.Wireless.{allAcked, handOver, receive, sendAcks, sendAcksIfAll}
+use Rattle.protocol.specs.Deregister.{leave}
 use Rattle.protocol.specs.Claims.{All}
 use Rattle.protocol.specs.Form.{handoffOf, handoffs, registering}
 use Rattle.protocol.specs.Step.{step}
@@ -21,11 +22,13 @@ use Rattle.protocol.specs.Ranges.{PlaceInRange}
 use Rattle.protocol.proofs.Tests.{and-left, and-right, both-equal, clash, eqb-self, on-cond, on-option, on-update, on-update2}
 use Rattle.protocol.proofs.SetLaws.{minus-lt, setOf-lt, union-lt, with-lt, without-lt, zero-below}
 use Rattle.protocol.proofs.FloorLaws.{on-put}
+use Rattle.protocol.proofs.InOrder.{EachOf, completed, deregister-splits, each-map, handedOff, send-each-is, sendEach}
 use Rattle.protocol.proofs.Accepted.{MayMove, MayRadio, MaySend, MayWire, by-step, unlined}
 use Rattle.protocol.proofs.Invariant.{History, Invariant, blank}
 use Rattle.protocol.proofs.Updates.{all-append}
 use Rattle.protocol.proofs.CatchUp.{arrive-at-once, catchUpAtOnce, docked, foundIs, one-at-once}
 use Rattle.protocol.proofs.HandoffSteps.{registering-is}
+use Rattle.protocol.proofs.DeregisterStep.{all-go}
 use Rattle.protocol.proofs.Counting.{all-rest}
 use Rattle.protocol.proofs.SumRun.{initiator-on-floor}
 
@@ -163,6 +166,52 @@ module _ (M : Limits) where
         lines = S .lines;
       }))
 
+  -- the ack list of a room goes
+  sent-acks-sized : (F : Floor) (m t : ℕ) → m < M .held → t < F .stations → F .initiator m < F .stations → Sized M F → Sized M (sendAcks F m t)
+  unfolding sendAcks
+  sent-acks-sized F m t lm lt li S =
+      let lt' : t < M .stations = (let z = S .counts .stations in omega arith) in
+      record {
+        copies = record {
+          copy = set-update M (F .carts) (F .copy) m t (minus (F .copy m t) (F .acks m t)) (λ a b. minus-lt (F .carts) (F .copy m t) (F .acks m t) (S .copies .copy m t a b)) (S .copies .copy);
+          acks = set-update M (F .carts) (F .acks) m t 0 (λ a b. zero-below (F .carts)) (S .copies .acks);
+          queue = S .copies .queue;
+        };
+        lines = put-fits (F .stations) (F .carts) (F .lines) (between t (F .initiator m)) (ackList (F .number m) (F .acks m t)) (S .lines)
+            (to-one (F .stations) (F .carts) t (F .initiator m) (ackList (F .number m) (F .acks m t)) lt li (S .copies .acks m t lm lt'));
+        lengths = S .lengths;
+        words = S .words;
+        counts = S .counts;
+        numbers = S .numbers;
+        places = S .places;
+        messages = S .messages;
+      }
+
+  send-each-sized : (F : Floor) (t : ℕ) (l : List ℕ) → t < F .stations → EachOf (λ m. (m < M .held) × (F .initiator m < F .stations)) l → Sized M F → Sized M (sendEach F t l)
+  unfolding sendEach sendAcks
+  send-each-sized F t [] lt h S = S
+  send-each-sized F t (m ∷ l) lt h S = send-each-sized (sendAcks F m t) t l lt (h .1) (sent-acks-sized F m t (h .0 .0) lt (h .0 .1) S)
+
+  -- a cart is handed off
+  handed-off-sized : (F : Floor) (i j c : ℕ) → i < F .stations → j < F .stations → Sized M F → Sized M (handedOff M (unlined F i j) i j c)
+  unfolding leave
+  handed-off-sized F i j c li lj S =
+      record {
+        places = λ d. on-update (PlaceInRange (F .stations)) (F .place) c (travelling j i) d (λ z. (lj, li)) (λ z. S .places d);
+        copies = record {
+          queue = set-choice M (F .carts) (F .queue) (λ m u. without (F .queue m u) c) (λ m u. eqb u j) (S .copies .queue) (λ m u lm lu. without-lt (F .carts) (F .queue m u) c (S .copies .queue m u lm lu));
+          copy = S .copies .copy;
+          acks = S .copies .acks;
+        };
+        lines = put-fits (F .stations) (F .carts) (behead i j (F .lines)) (between j i) (register c (rowOf M (F .next c))) (behead-fits (F .stations) (F .carts) (F .lines) i j (S .lines))
+            (to-one (F .stations) (F .carts) j i (register c (rowOf M (F .next c))) lj li tt);
+        lengths = S .lengths;
+        words = S .words;
+        counts = S .counts;
+        numbers = S .numbers;
+        messages = S .messages;
+      }
+
   module _ (F : Floor) (G : History) (I : Invariant M F G) (S : Sized M F) where
     popped-sized : (i j : ℕ) → Sized M (unlined F i j)
     popped-sized i j = record {
@@ -180,7 +229,7 @@ module _ (M : Limits) where
     Fits d = Sized M (d .floor)
 
     handled-sized : (i j : ℕ) (r : Record) (l : List Record) → MayWire F i j r l → Fits (handle M (unlined F i j) i j r)
-    unfolding handle onMulticast multicastByRow onAckList onDelete onDeregister onRegister buffer roomOf
+    unfolding handle onMulticast multicastByRow onAckList onDelete onRegister buffer roomOf
     handled-sized i j (multicast n) l may =
         let P = popped-sized i j in
         on-option Fits (roomOf M F i n)
@@ -242,21 +291,13 @@ module _ (M : Limits) where
           lines = P .lines;
         })
     handled-sized i j (deregister c) l may =
-        let P = popped-sized i j in
-        record {
-          places = λ d. on-update (PlaceInRange (F .stations)) (F .place) c (travelling j i) d (λ z. (may .to, may .from)) (λ z. S .places d);
-          copies = record {
-            queue = set-choice M (F .carts) (F .queue) (λ m u. without (F .queue m u) c) (λ m u. eqb u j) (S .copies .queue) (λ m u lm lu. without-lt (F .carts) (F .queue m u) c (S .copies .queue m u lm lu));
-            copy = S .copies .copy;
-            acks = S .copies .acks;
-          };
-          lines = put-fits (F .stations) (F .carts) (behead i j (F .lines)) (between j i) (register c (rowOf M (F .next c))) (P .lines) (to-one (F .stations) (F .carts) j i (register c (rowOf M (F .next c))) (may .to) (may .from) tt);
-          lengths = P .lengths;
-          words = P .words;
-          counts = P .counts;
-          numbers = P .numbers;
-          messages = P .messages;
-        }
+        let rooms = completed M (unlined F i j) i j c in
+        let g = all-go M F G i j c (behead i j (F .lines)) (may .to) I in
+        let S1 = send-each-sized F j rooms (may .to) (each-map rooms (λ m k. (k .held .slot, initiator-on-floor M F G I m (k .held))) g) S in
+        let n : sendEach F j rooms .stations ≡ F .stations = ap (λ (X : Floor). X .stations) (send-each-is F j rooms) in
+        let li = may .from in
+        let lj = may .to in
+        subst (λ (X : Floor). Sized M X) (sym (deregister-splits M F i j c l (may .line))) (handed-off-sized (sendEach F j rooms) i j c (omega arith) (omega arith) S1)
     handled-sized i j (register c row) l may =
         let z : registering row ∷ handoffs c l ≡ handoffOf (F .place c) i j (rowOf M (F .next c)) = rw (may .line, eqb-self c) at (I .handoffs-right c i j) in
         let y = registering-is (F .place c) i j (rowOf M (F .next c)) row (handoffs c l) z in
@@ -279,26 +320,6 @@ module _ (M : Limits) where
       messages = S .messages;
       lines = S .lines;
     }
-
-  sent-acks-sized : (F : Floor) (m t : ℕ) → m < M .held → t < F .stations → F .initiator m < F .stations → Sized M F → Sized M (sendAcks F m t)
-  unfolding sendAcks
-  sent-acks-sized F m t lm lt li S =
-      let lt' : t < M .stations = (let z = S .counts .stations in omega arith) in
-      record {
-        copies = record {
-          copy = set-update M (F .carts) (F .copy) m t (minus (F .copy m t) (F .acks m t)) (λ a b. minus-lt (F .carts) (F .copy m t) (F .acks m t) (S .copies .copy m t a b)) (S .copies .copy);
-          acks = set-update M (F .carts) (F .acks) m t 0 (λ a b. zero-below (F .carts)) (S .copies .acks);
-          queue = S .copies .queue;
-        };
-        lines = put-fits (F .stations) (F .carts) (F .lines) (between t (F .initiator m)) (ackList (F .number m) (F .acks m t)) (S .lines)
-            (to-one (F .stations) (F .carts) t (F .initiator m) (ackList (F .number m) (F .acks m t)) lt li (S .copies .acks m t lm lt'));
-        lengths = S .lengths;
-        words = S .words;
-        counts = S .counts;
-        numbers = S .numbers;
-        places = S .places;
-        messages = S .messages;
-      }
 
   radio-sized : (F : Floor) (G : History) (m t c : ℕ) → Invariant M F G → Sized M F → MayRadio M F t c m → Sized M (handOver M F m t c .floor)
   unfolding handOver receive sendAcks

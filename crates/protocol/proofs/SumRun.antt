@@ -1,5 +1,5 @@
 -- The sum rule over a run.
-use mathlib.Core.Path.{ap, sym, _∙_, _≡_}
+use mathlib.Core.Path.{ap, subst, sym, _∙_, _≡_}
 use mathlib.Core.List.{List, [], _∷_}
 use Prim.Native.Nat.{_+_, _<_, ℕ}
 use native.Mathlib.Omega.{arith}
@@ -8,13 +8,15 @@ use Rattle.protocol.specs.Folds.{sum}
 use Rattle.protocol.specs.CartSets.{union}
 use Rattle.protocol.specs.Floor.{Floor, Limits, Record, ackList, at, delete, deregister, justStarted, multicast, register}
 use Rattle.protocol.specs.Events.{Done, Event, accepted, wire}
-use Rattle.protocol.specs.Handoff.{entryOf, onDeregister, onEnter, onMove, onRegister, roomOf, rowOf}
+use Rattle.protocol.specs.Handoff.{entryOf, onEnter, onMove, onRegister, roomOf, rowOf}
+use Rattle.protocol.specs.Deregister.{leave, onDeregister}
 use Rattle.protocol.specs.Wired.{buffer, handle, localRow, multicastByRow, onAckList, onDelete, onMulticast, withMessage}
 use Rattle.protocol.specs.Form.{handoffOf, handoffs, registering}
 use Rattle.protocol.specs.Step.{answer, floorAfter, step}
 use Rattle.protocol.specs.SumRule.{gain, gains, total}
 use Rattle.protocol.proofs.Tests.{eqb-self, on-cond, on-option}
 use Rattle.protocol.proofs.FloorLaws.{outside-is}
+use Rattle.protocol.proofs.InOrder.{completed, deregister-is, send-each-is}
 use Rattle.protocol.proofs.Accepted.{MayWire, by-step, unlined}
 use Rattle.protocol.proofs.Invariant.{Held, History, Invariant}
 use Rattle.protocol.proofs.HandoffSteps.{registering-is, row-is-next}
@@ -34,13 +36,15 @@ module _ (M : Limits) (F : Floor) (G : History) (I : Invariant M F G) where
   idle n = omega arith
 
   handle-sum : (i j : ℕ) (r : Record) (l : List Record) → MayWire F i j r l → Gains (wire i j) (handle M (unlined F i j) i j r)
-  unfolding handle onMulticast multicastByRow onAckList onDelete onDeregister onRegister roomOf total
+  unfolding handle onMulticast multicastByRow onAckList onDelete onDeregister leave onRegister roomOf total
   handle-sum i j (multicast n) l may = on-option (Gains (wire i j)) (roomOf M F i n) (λ q. idle (total F)) (λ m q. by-p _ _ _ (multicast-sum M (unlined F i j) (localRow F j) m i j n (may .from)))
   handle-sum i j (ackList n set) l may =
       on-option (Gains (wire i j)) (roomOf M F j n) (λ q. idle (total F))
       (λ m q. on-cond (Gains (wire i j)) (eqb (union (F .acked m) set) (F .named m)) (λ b. idle (total F)) (λ b. idle (total F)))
   handle-sum i j (delete n) l may = on-option (Gains (wire i j)) (roomOf M F i n) (λ q. idle (total F)) (λ m q. idle (total F))
-  handle-sum i j (deregister c) l may = idle (total F)
+  handle-sum i j (deregister c) l may =
+      ap total (deregister-is M (unlined F i j) i j c)
+      ∙ subst (λ (X : Floor). total X ≡ total F + 0) (sym (send-each-is (leave (unlined F i j) i j c) j (completed M (unlined F i j) i j c))) (idle (total F))
   handle-sum i j (register c row) l may =
       let z : registering row ∷ handoffs c l ≡ handoffOf (F .place c) i j (rowOf M (F .next c)) = rw (may .line, eqb-self c) at (I .handoffs-right c i j) in
       let y = registering-is (F .place c) i j (rowOf M (F .next c)) row (handoffs c l) z in

@@ -102,6 +102,12 @@ pub if-of : (a b : Bool) → (a ≡ true → b ≡ true) → not a || b ≡ true
 if-of true b f = f refl
 if-of false b f = refl
 
+pub or-swap : (a b c : Bool) → a || (b || c) ≡ b || (a || c)
+or-swap true true c = refl
+or-swap true false c = refl
+or-swap false true c = refl
+or-swap false false c = refl
+
 -- two tests that imply one another are the same
 pub same-test : (a b : Bool) → (a ≡ true → b ≡ true) → (b ≡ true → a ≡ true) → a ≡ b
 same-test true b f g = by-test b (λ e. rw e) (λ e. clash b (f refl) e)

@@ -1,5 +1,5 @@
 -- "no run from a start holds one now": every held message has a text that is not empty; kept by every event.
-use mathlib.Core.Path.{_∙_, _≡_}
+use mathlib.Core.Path.{subst, sym, _∙_, _≡_}
 use mathlib.Core.Bool.{false, true}
 use mathlib.Core.List.{List, [], _∷_}
 use Prim.Native.Nat.{ℕ}
@@ -10,12 +10,14 @@ use Rattle.protocol.specs.Folds.{isEmpty, update}
 use Rattle.protocol.specs.CartSets.{union, without}
 use Rattle.protocol.specs.Floor.{Floor, Limits, Record, ackList, delete, deregister, multicast, register}
 use Rattle.protocol.specs.Events.{Done, Event}
-use Rattle.protocol.specs.Handoff.{arrive, entryOf, onDeregister, onEnter, onMove, onRegister, roomOf, struck}
+use Rattle.protocol.specs.Handoff.{arrive, entryOf, onEnter, onMove, onRegister, roomOf, struck}
 use Rattle.protocol.specs.Wired.{buffer, handle, multicastByRow, onAckList, onDelete, onMulticast, withMessage}
 use Rattle.protocol.specs.Wireless.{allAcked, handOver, receive, sendAcks, sendAcksIfAll}
+use Rattle.protocol.specs.Deregister.{leave}
 use Rattle.protocol.specs.Step.{floorAfter, step}
 use Rattle.protocol.proofs.Tests.{by-eq, by-test, clash, on-cond, on-option}
 use Rattle.protocol.proofs.SetLaws.{without-lt}
+use Rattle.protocol.proofs.InOrder.{completed, deregister-is, send-each-is}
 use Rattle.protocol.proofs.Accepted.{MaySend, by-step, unlined}
 use Rattle.protocol.proofs.CatchUp.{arrive-at-once, one-at-once}
 use Rattle.protocol.proofs.Demand3.{step-size}
@@ -51,12 +53,13 @@ module _ (M : Limits) (F : Floor) (T : AllTexts F) where
   HasTexts d = AllTexts (d .floor)
 
   handled-text : (i j : ℕ) (r : Record) → HasTexts (handle M F i j r)
-  unfolding handle onMulticast multicastByRow onAckList onDelete onDeregister onRegister buffer
+  unfolding handle onMulticast multicastByRow onAckList onDelete leave onRegister buffer
   handled-text i j (multicast n) = on-option HasTexts (roomOf M F i n) (λ e. T) (λ m e. T)
   handled-text i j (ackList n set) =
       on-option HasTexts (roomOf M F j n) (λ e. T) (λ m e. on-cond HasTexts (eqb (union (F .acked m) set) (F .named m)) (λ b. T) (λ b. T))
   handled-text i j (delete n) = on-option HasTexts (roomOf M F i n) (λ e. T) (λ m e. deleted-text m j)
-  handled-text i j (deregister c) = T
+  handled-text i j (deregister c) =
+      rw (deregister-is M F i j c) (subst (λ (X : Floor). AllTexts X) (sym (send-each-is (leave F i j c) j (completed M F i j c))) T)
   handled-text i j (register c row) = arrived-text j c (entryOf row)
 
 -- every event keeps it

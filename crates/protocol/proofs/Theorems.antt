@@ -1,20 +1,21 @@
 use mathlib.Core.Path.{_≡_, ap, refl, subst, sym}
-use mathlib.Core.Bool.{false, not, true}
+use mathlib.Core.Bool.{_&&_, cond, false, not, true}
 use mathlib.Core.Option.{some}
-use mathlib.Core.List.{List, [], map, _∷_}
+use mathlib.Core.List.{_++_, List, [], map, _∷_}
 use Prim.Native.Nat.{_*_, _+_, _-_, _<_, _^_, max, suc, ℕ, _≤_}
 use native.Mathlib.Nat.{mul-le-mul-left, mul-le-mul-right}
 use native.Mathlib.Omega.{arith}
-use lib.Dec.{eqb}
-use lib.ListN.{length}
+use lib.Dec.{eqb, ltb}
+use lib.ListN.{getD, length}
 use borrow.Author.Tests.{ne-eqb, not-true}
 use Rattle.protocol.specs.Folds.{count, isEmpty, sum}
 use Rattle.protocol.specs.CartSets.{has}
-use Rattle.protocol.specs.Floor.{Floor, Limits, Place, Record, ackList, at, behead, delete, isHeld, isLocal, justStarted, kit, limits, limitsOf, mostRecords, multicast, onLines, onTheLines, register, setPlace, setTexts, stationOf}
+use Rattle.protocol.specs.Floor.{Floor, Limits, Place, Record, ackList, at, behead, delete, isBuffered, isHeld, isLocal, justStarted, kit, limits, limitsOf, mostRecords, multicast, onLines, onTheLines, register, setPlace, setTexts, stationOf, unstarted}
 use Rattle.protocol.specs.Events.{Event, Report, accepted, move, radio, refused, send, start, wire}
-use Rattle.protocol.specs.Handoff.{entryOf, onRegister, roomOf}
+use Rattle.protocol.specs.Handoff.{entryOf, onRegister, roomOf, rowOf}
 use Rattle.protocol.specs.Wired.{freeRoom, handle, localRow, multicastByRow, onMulticast, onWire}
 use Rattle.protocol.specs.Wireless.{queueHead}
+use Rattle.protocol.specs.Deregister.{bufferedRooms, isComplete, leave, onDeregister, testEach, timesIn}
 use Rattle.protocol.specs.Form.{formRule, passesForm}
 use Rattle.protocol.specs.Blank.{BlankBeyond}
 use Rattle.protocol.specs.Refusals.{neverEntered, noStation, refusal, refusalIf, strangers, wrongSize}
@@ -22,9 +23,10 @@ use Rattle.protocol.specs.Step.{accept, answer, floorAfter, step}
 use Rattle.protocol.specs.TwoLists.{TwoListRule, bothEmpty, listsAfter, owes}
 use Rattle.protocol.specs.SumRule.{gains, total}
 use Rattle.protocol.specs.Ranges.{InRange, NumbersBelow, Wide}
-use Rattle.protocol.specs.Examples.{examples, outcome}
+use Rattle.protocol.specs.Examples.{examples, heldOn, outcome, rollsAway}
 use Rattle.protocol.proofs.Tests.{by-eq, clash, on-cond}
-use Rattle.protocol.proofs.Readings.{form-without-texts, never-entered-is-12, no-text-is-24, places-not-asked, row-kept, row-of-local}
+use Rattle.protocol.proofs.InOrder.{deregister-counts, none-stays, tested-once}
+use Rattle.protocol.proofs.Readings.{form-without-texts, never-entered-is-12, no-text-is-24, places-not-asked, register-is-last, row-kept, row-of-local}
 use Rattle.protocol.proofs.Accepted.{MayWire, accepted-passes, accepted-report, may-move, may-radio, may-send, may-wire, passed-check}
 use Rattle.protocol.proofs.Demand3.{nothing, rule-after, started-ok}
 use Rattle.protocol.proofs.Counting.{sum-ext, sum-term}
@@ -39,9 +41,9 @@ use Rattle.protocol.proofs.FormTest.{clauses-of, form-of, sized-of}
 use Rattle.protocol.proofs.FormRule.{form-bound, form-kept, form-started}
 use Rattle.protocol.proofs.Ready.{ready-run, ready-unstarted, right-size, started-after, unstarted-fails}
 use Rattle.protocol.proofs.Width.{numbers-below}
-use Rattle.protocol.proofs.ExamplesHold.{table-holds}
+use Rattle.protocol.proofs.ExamplesHold.{rolled-away, table-holds}
 use Rattle.protocol.proofs.InRange.{in-range, step-most}
-use Rattle.protocol.proofs.QueueOrder.{head-first}
+use Rattle.protocol.proofs.QueueOrder.{head-first, tested-in-order}
 use Rattle.protocol.proofs.Found.{ack-list-room, delete-room, multicast-room}
 use Rattle.protocol.proofs.Texts.{texts-after}
 
@@ -305,6 +307,37 @@ row-alone M F elsewhere local s t n = places-not-asked M F elsewhere local s t n
 -- and changes no answer, by whatever row it goes
 pub any-row-kept : (M : Limits) (F : Floor) (local s t n u : ℕ) → localRow (multicastByRow M F local s t n .floor) u ≡ localRow F u
 any-row-kept M F local s t n u = row-kept M F local s t n u
+
+-- A MESSAGE THAT WAS NEVER DELETED: "a deregister step, after the cart has left the local list, tests every buffered message here in queue order"
+
+-- the rooms that it tests are those of the buffered messages, and each is tested once
+pub tests-every-buffered : (M : Limits) (F : Floor) (t m : ℕ) → timesIn m (bufferedRooms M F t) ≡ cond (ltb m (M .held) && isBuffered F m t) 1 0
+tests-every-buffered M F t m = tested-once M F t m
+
+-- "smallest number, then higher initiator": the room tested at place p of the list, and one at a later place q
+pub tests-in-queue-order : (M : Limits) (F : Floor) (t p q : ℕ) → p < q → q < length (bufferedRooms M F t)
+    → (F .number (getD (bufferedRooms M F t) p 0) ≤ F .number (getD (bufferedRooms M F t) q 0))
+    × (F .number (getD (bufferedRooms M F t) p 0) ≡ F .number (getD (bufferedRooms M F t) q 0)
+    → F .initiator (getD (bufferedRooms M F t) q 0) ≤ F .initiator (getD (bufferedRooms M F t) p 0))
+tests-in-queue-order M F t p q h b = let z = tested-in-order M F t p q h b in (z .smallest, z .higher)
+
+-- "if its ack list is not empty and holds every local cart in the copy, the list is sent, struck and emptied": afterwards no buffered message
+-- here has such a list, whether this step made it complete or not
+pub no-complete-list-stays : (M : Limits) (F : Floor) (i t c m : ℕ) → m < M .held → isBuffered F m t ≡ true → isComplete (onDeregister M F i t c .floor) t m ≡ false
+no-complete-list-stays M F i t c m l b = none-stays M F i t c m l b
+
+-- "These lists go on the lines before the register"
+pub register-behind-lists : (M : Limits) (F : Floor) (i t c : ℕ)
+    → onDeregister M F i t c .floor .lines t i ≡ testEach (leave F i t c) t (bufferedRooms M (leave F i t c) t) .lines t i ++ (register c (rowOf M (F .next c)) ∷ [])
+register-behind-lists M F i t c = register-is-last M F i t c
+
+-- "and w counts them": the lists that are complete once the cart has left, and the register
+pub deregister-w : (M : Limits) (F : Floor) (i t c : ℕ) → onDeregister M F i t c .report .w ≡ suc (count (M .held) (λ m. isBuffered F m t && isComplete (leave F i t c) t m))
+deregister-w M F i t c = deregister-counts M F i t c
+
+-- "Two carts are local and named. One receives; the other rolls away before it does": in the end nothing is held
+pub rolls-away-deleted : heldOn (floorAfter limits unstarted rollsAway) ≡ 0
+rolls-away-deleted = rolled-away
 
 -- THE EXAMPLES: "The starred examples are gathered as rows of a single proved table over the written steps"
 pub examples-hold : map (λ r. outcome (r .given)) examples ≡ map (λ r. r .shown) examples

@@ -214,3 +214,10 @@ abbrev pub examples : List Row
 examples =
     K1 ∷ K2 ∷ K3 ∷ K4 (wire 0 0) (wire 1 0) ∷ K4 (wire 1 0) (wire 0 0) ∷ K5 ∷ K6form ∷ K6 ∷ K7 ∷ K8 ∷ K9 ∷ K10
     ∷ noTextForm ∷ noText ∷ noTextHeld ∷ noTextGone ∷ []
+
+-- A RUN OF WHICH A THEOREM SPEAKS: "Two carts are local and named. One receives; the other rolls away before it does." Its deregister sends the
+-- first cart's acknowledgement on; it receives at its new station, and every record is handled
+abbrev pub rollsAway : List Event
+rollsAway =
+    start 2 2 ∷ enter 0 0 ∷ enter 0 1 ∷ send 0 3 (0xa1 ∷ []) ∷ wire 0 0 ∷ wire 0 1 ∷ radio 0 0 32 ∷ move 1 1 ∷ wire 1 0 ∷ wire 0 0 ∷ wire 0 1
+    ∷ radio 1 1 32 ∷ wire 1 0 ∷ wire 0 0 ∷ wire 0 1 ∷ []

@@ -1,4 +1,4 @@
--- THE HAND-OFF MODULE (document 001, 3.5): catch-up, and a cart's way: enter, move, deregister, register.
+-- THE HAND-OFF MODULE (document 001, 3.5): catch-up, and a cart's way: enter, move, register. Deregister is in a file of its own.
 use mathlib.Core.Bool.{cond, _&&_}
 use mathlib.Core.Option.{Option, none, some}
 use mathlib.Core.List.{List, []}
@@ -7,7 +7,7 @@ use lib.Dec.{eqb, ltb}
 use lib.ListN.{getD}
 use Rattle.protocol.specs.Folds.{sum, first, listOf, update, update2, byOption}
 use Rattle.protocol.specs.CartSets.{has, with, without}
-use Rattle.protocol.specs.Floor.{Limits, at, leaving, travelling, deregister, register, Floor, setPlace, setNext, setCopy, setQueue, between, push, stationOf, isBuffered, isMessage}
+use Rattle.protocol.specs.Floor.{Limits, at, leaving, deregister, Floor, setPlace, setNext, setCopy, setQueue, between, push, stationOf, isBuffered, isMessage}
 use Rattle.protocol.specs.Events.{Done, done}
 
 -- where a catch-up stops: the cart's next number there, and the room of the message that it is queued for, if any
@@ -86,14 +86,6 @@ module _ (M : Limits) where
   -- "the cart's whole row of next numbers": one for each station that a floor may have
   abbrev pub rowOf : (ℕ → ℕ) → List ℕ
   rowOf next = listOf (M .columns) next
-
-  -- "Deregister: the cart leaves every queue entry here (emptied entries go) and the local list. A register goes to the new station": of
-  -- cart c, come from station i, handled at t
-  unfoldable pub onDeregister : Floor → ℕ → ℕ → ℕ → Done
-  onDeregister F i t c =
-      let unqueued = setQueue F (λ m u. cond (eqb u t) (without (F .queue m u) c) (F .queue m u)) in
-      let left = setPlace unqueued (update (F .place) c (travelling t i)) in
-      done (push left (between t i) (register c (rowOf (F .next c)))) 3 4 c 0 1 []
 
   -- "Register": of cart c, handled at t
   unfoldable pub onRegister : Floor → ℕ → ℕ → List ℕ → Done

@@ -8,7 +8,8 @@ use Rattle.protocol.specs.Folds.{count, first, update, update2, byOption
 use Rattle.protocol.specs.CartSets.{has, union, minus, without, setOf}
 use Rattle.protocol.specs.Floor.{Limits, Record, multicast, ackList, delete, deregister, register, Floor, onStations, onMessages, onCopies, onLines, setExpected, setNext, setAcked, setWaiting, setCopy, setQueue, behead, toEvery, push, isLocal, cartsThat}
 use Rattle.protocol.specs.Events.{Done, done}
-use Rattle.protocol.specs.Handoff.{roomOf, onDeregister, onRegister}
+use Rattle.protocol.specs.Handoff.{roomOf, onRegister}
+use Rattle.protocol.specs.Deregister.{onDeregister}
 
 -- SEND
 
