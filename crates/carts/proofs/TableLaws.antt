@@ -4,7 +4,7 @@ use mathlib.Core.Bool.{Bool, true, cond, _&&_}
 use mathlib.Core.List.{List}
 use Prim.Native.Nat.{ℕ, zero, suc, _+_, _*_, _≤_, _<_}
 use native.Mathlib.Omega.{arith}
-use lib.Bits.{bitOr, or-add-and, and-le-l, and-le-r}
+use lib.Bits.{bitOr}
 use lib.Dec.{eqb, ltb}
 use lib.ListN.{length, getD, set, length-set, List·getD-eq-default}
 use borrow.Author.Tests.{lt-ltb, le-ltb, eq-eqb, ne-eqb, eqb-true}
@@ -12,6 +12,7 @@ use Rattle.protocol.specs.Folds.{update, update2}
 use Rattle.protocol.specs.Floor.{outside, Carts}
 use Rattle.protocol.specs.Handoff.{entryOf}
 use Rattle.protocol.proofs.Tests.{by-test, by-lt, by-eq, same-test, and-intro, and-second-false, both-equal}
+use Rattle.protocol.proofs.SetLaws.{either-empty}
 use Rattle.rows.specs.Rows.{cell}
 use Rattle.carts.specs.Words.{width, HasRow, placeIn, canonical}
 use Rattle.carts.specs.View.{cartsIn, canonicalIn, noCarts, withPlace, withNext, withRow}
@@ -109,11 +110,8 @@ moving-canonical (suc (suc (suc (suc kind)))) s t h₀ h₁ = le-ltb (suc (suc (
 pub no-digit : (s t : ℕ) → eqb (bitOr s t) 0 ≡ (eqb s 0 && eqb t 0)
 no-digit s t =
     same-test (eqb (bitOr s t) 0) (eqb s 0 && eqb t 0)
-    (λ e. let z = eqb-true (bitOr s t) 0 e in
-    let sum = or-add-and s t in
-    let l = and-le-l s t in
-    let r = and-le-r s t in
-    and-intro (eqb s 0) (eqb t 0) (eq-eqb s 0 (omega arith)) (eq-eqb t 0 (omega arith)))
+    (λ e. let z = either-empty s t (eqb-true (bitOr s t) 0 e) in
+    and-intro (eqb s 0) (eqb t 0) (eq-eqb s 0 (z .0)) (eq-eqb t 0 (z .1)))
     (λ e. eq-eqb (bitOr s t) 0 (let z = both-equal s 0 t 0 e in ap₂ bitOr (z .0) (z .1)))
 
 -- three words at the front of row c

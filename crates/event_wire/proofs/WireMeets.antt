@@ -33,7 +33,8 @@ use Rattle.wired_records.proofs.Asks as asks
 use Rattle.wired_records.proofs.MulticastIs.{multicast-is, multicast-report}
 use Rattle.wired_records.proofs.AckListIs.{ack-list-is, ack-list-report}
 use Rattle.wired_records.proofs.DeleteIs.{delete-is, delete-report}
-use Rattle.handoff.specs.Left.{Left}
+use Rattle.handoff.specs.Forwarded.{HeldRooms}
+use Rattle.handoff.specs.Left.{listsGoing, Left}
 use Rattle.handoff.specs.Arrived.{Arrived}
 use Rattle.handoff.proofs.DeregisterIs.{deregister-ready, register-has-room, deregister-is, deregister-reports}
 use Rattle.handoff.proofs.RegisterIs.{register-ready, register-fits, register-rooms, register-is, register-reports}
@@ -137,14 +138,15 @@ module _ (P : Product) (S C M W W₁ T : List ℕ) (i j : ℕ) (said : word.Reco
     may-deregister k = record { from = off .from; to = off .to; line = on-line ∙ ap (λ (r : Record). r ∷ left) (says-deregister k) }
 
     pub deregister-asks : kindOf (said .0) ≡ 4
-        → (HasStation S j × HasRow C x × (x < 64) × (cartsIn C .place x ≡ leaving j i)) × ((form W₁ ≡ true) × (used W₁ < capacity W₁) × (j < 16) × (i < 16))
-    deregister-asks k = (deregister-ready L X x i j left (may-deregister k), register-has-room L X x i j left (may-deregister k) W₁ (i * 16 + j) (off .popped))
+        → (HasStation S j × HasRow C x × (x < 64) × (cartsIn C .place x ≡ leaving j i) × HeldRooms M) × ((form W₁ ≡ true) × (used W₁ + listsGoing S M j x < capacity W₁) × (j < 16) × (i < 16))
+    deregister-asks k = (deregister-ready L X x i j left (may-deregister k), register-has-room L X x i j left (may-deregister k) W₁ (off .popped))
 
-    pub meets-deregister : kindOf (said .0) ≡ 4 → (S′ C′ W′ : List ℕ) (f : Effect) → Left S S′ C C′ W₁ W′ x j i → f ≡ putting 1
+    pub meets-deregister : kindOf (said .0) ≡ 4 → (S′ C′ W′ : List ℕ) (f : Effect) → Left S S′ C C′ M W₁ W′ x j i (f .records) → f ≡ putting (f .records)
         → Met L (lent P S′ C′ M W′ T) (wire i j) (says 3 4 x f)
     meets-deregister k S′ C′ W′ f b counted =
-        meets (lent P S′ C′ M W′ T) 4 x f (putting 1) refl counted (deregister-is S S′ C C′ M W W₁ W′ T x i j left X (may-deregister k) (off .popped) b)
-        (deregister-reports S S′ C C′ M W W₁ W′ T x i j left X (may-deregister k) (off .popped) b)
+        meets (lent P S′ C′ M W′ T) 4 x f (putting (f .records)) refl counted
+        (deregister-is S S′ C C′ M W W₁ W′ T x i j (f .records) left X (may-deregister k) (off .popped) b)
+        (deregister-reports S S′ C C′ M W W₁ W′ T x i j (f .records) left X (may-deregister k) (off .popped) b)
 
     -- A REGISTER: what is none of the other four
     module _ (n1 : kindOf (said .0) ≡ 1 → ⊥) (n2 : kindOf (said .0) ≡ 2 → ⊥) (n3 : kindOf (said .0) ≡ 3 → ⊥) (n4 : kindOf (said .0) ≡ 4 → ⊥) where

@@ -71,7 +71,7 @@ fn handle(
     }
     let cart = CartNumber(view::index_of(said));
     if kind == view::DEREGISTER {
-        let effect = handoff::on_deregister(stations, carts, lines, cart, to, from);
+        let effect = handoff::on_deregister(stations, carts, messages, lines, cart, to, from);
         return Answer::Accepted(Outcome::Deregistered(cart), effect);
     }
     let row = lines::register_of(lines, cart.0 as usize);

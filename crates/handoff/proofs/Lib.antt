@@ -2,6 +2,8 @@ pub mod RoomByRoom
 pub mod PassedLaws
 pub mod LeaveLaws
 pub mod RiseLaws
+pub mod ForwardLaws
+pub mod ListsView
 pub mod MoveIs
 pub mod DeregisterIs
 pub mod ArriveIs

@@ -1,4 +1,5 @@
 pub mod Moved
+pub mod Forwarded
 pub mod Left
 pub mod Struck
 pub mod Arrived

@@ -4,10 +4,11 @@ use ids::Station;
 use reports::Effect;
 ghost use mathlib.Core.Path.{_≡_};
 ghost use mathlib.Core.Bool.{true};
-ghost use Prim.Native.Nat.{ℕ, _<_, _≤_};
-ghost use Rattle.protocol.specs.CartSets.{has};
+ghost use Prim.Native.Nat.{ℕ, _+_, _<_, _≤_};
+ghost use lib.ListN.{length};
+ghost use Rattle.protocol.specs.CartSets.{has, setOf};
 ghost use Rattle.protocol.specs.Floor.{at, leaving};
-ghost use Rattle.stations.specs.View.{initiators, HasStation, stationsIn, namingIn, Leaves};
+ghost use Rattle.stations.specs.View.{initiators, rooms, HasStation, stationsIn, namingIn, Leaves};
 ghost use Rattle.carts.specs.View.{cartsIn};
 ghost use Rattle.carts.specs.Words.{HasRow};
 ghost use Rattle.messages.specs.View.{roomsIn};
@@ -15,11 +16,13 @@ ghost use Rattle.lines.specs.Form.{form};
 ghost use Rattle.lines.specs.Lines.{used};
 ghost use Rattle.lines.specs.Words.{capacity};
 ghost use Rattle.queue.specs.Rooms.{roomCount, HasRooms};
+ghost use Rattle.queue.specs.Keys.{KeyedRooms};
 ghost use Rattle.reports.specs.Effects.{passing, putting};
 ghost use Rattle.catchup.specs.Naming.{Covers};
 ghost use Rattle.catchup.specs.Arrival.{OwnRooms};
 ghost use Rattle.handoff.specs.Moved.{Moved};
-ghost use Rattle.handoff.specs.Left.{unqueued, left, Left};
+ghost use Rattle.handoff.specs.Forwarded.{HeldRooms, goes, orderedRooms, ListsGone};
+ghost use Rattle.handoff.specs.Left.{unqueued, left, listsGoing, Left};
 ghost use Rattle.handoff.specs.Struck.{isBelow, struckIn, struckFrom};
 ghost use Rattle.handoff.specs.Arrived.{allZero, joined, Docked, Arrived};
 
@@ -77,22 +80,103 @@ fn leave(stations: &mut [u64], number: CartNumber, station: Station)
     stations::put_local(stations, station, local);
 }
 
+// Does the ack list of the message in room m go: is that buffered at the station, and "its ack list is not empty and holds every local cart in the
+// copy"? A room that the messages' table does not have holds none.
+fn is_complete(stations: &[u64], messages: &[u64], station: Station, m: usize) -> bool
+    requires { ⌜ HasStation (now stations) (station .0) × HeldRooms (now messages) × (station .0 < 16) × (m < rooms) ⌝ }
+    ensures { λ r. ⌜ r ≡ goes (stationsIn (now (stations .entry))) (roomsIn (now (messages .entry))) (station .0) m ⌝ }
+{
+    if messages.len() < m * 6 + 6 {
+        return false;
+    }
+    if !sets::has(messages::waiting_of(messages, m), station.0) {
+        return false;
+    }
+    let initiator = messages::initiator_of(messages, m);
+    let number = messages::number_of(messages, m);
+    if stations::expected_of(stations, station, initiator) <= number.0 {
+        return false;
+    }
+    if stations::acks_of(stations, m, station) == 0 {
+        return false;
+    }
+    queue::all_acked(stations, m, station)
+}
+
+// The rooms whose ack lists go from the station. Only rooms with a list are looked at, and mostly there is none.
+fn complete_rooms(stations: &[u64], messages: &[u64], station: Station) -> u64
+    requires { ⌜ HasStation (now stations) (station .0) × HeldRooms (now messages) × (station .0 < 16) ⌝ }
+    ensures { λ r. ⌜ r ≡ setOf 32 (goes (stationsIn (now (stations .entry))) (roomsIn (now (messages .entry))) (station .0)) ⌝ }
+{
+    let mut complete: u64 = 0;
+    let mut left = stations::rooms_listing(stations, station);
+    while 0 < left {
+        let m = sets::first(left);
+        left = sets::without_first(left);
+        complete = sets::with_if(
+            complete,
+            m,
+            is_complete(stations, messages, station, m as usize),
+        );
+    }
+    complete
+}
+
+// "the list is sent, struck and emptied": those of these rooms, the one that stands first in a queue before the others. Answers how many.
+fn send_each(
+    stations: &mut [u64],
+    messages: &[u64],
+    lines: &mut [u64],
+    station: Station,
+    among: u64,
+) -> u64
+    requires { ⌜ HasStation (now stations) (station .0) × (station .0 < 16) × KeyedRooms (now messages) among ⌝ }
+    requires { ⌜ (form (now lines) ≡ true) × (used (now lines) + length (orderedRooms (now messages) (has among)) ≤ capacity (now lines)) ⌝ }
+    ensures { λ r. ⌜ ListsGone (now (stations .entry)) (now (stations .exit)) (now (messages .entry)) (now (lines .entry)) (now (lines .exit)) (station .0) (has among) r ⌝ }
+{
+    let mut sent: u64 = 0;
+    let mut left = among;
+    while 0 < left {
+        let m = queue::first_among(messages, left);
+        left = sets::without_member(left, m as u64);
+        let initiator = messages::initiator_of(messages, m);
+        let number = messages::number_of(messages, m);
+        wireless::send_acks(stations, lines, m, initiator, number, station);
+        sent += 1;
+    }
+    sent
+}
+
+// "tests every buffered message here in queue order (smallest number, then higher initiator): if its ack list is not empty and holds every local cart
+// in the copy, the list is sent, struck and emptied." Sending one makes no other complete, so all are tested first. Answers how many went.
+fn forward(stations: &mut [u64], messages: &[u64], lines: &mut [u64], station: Station) -> u64
+    requires { ⌜ HasStation (now stations) (station .0) × (station .0 < 16) × HeldRooms (now messages) ⌝ }
+    requires { ⌜ (form (now lines) ≡ true) × (used (now lines) + length (orderedRooms (now messages) (goes (stationsIn (now stations)) (roomsIn (now messages)) (station .0))) ≤ capacity (now lines)) ⌝ }
+    ensures { λ r. ⌜ ListsGone (now (stations .entry)) (now (stations .exit)) (now (messages .entry)) (now (lines .entry)) (now (lines .exit)) (station .0) (goes (stationsIn (now (stations .entry))) (roomsIn (now (messages .entry))) (station .0)) r ⌝ }
+{
+    let complete = complete_rooms(stations, messages, station);
+    send_each(stations, messages, lines, station, complete)
+}
+
 // "Deregister: the cart leaves every queue entry here (emptied entries go) and the local list. A register goes to the new station; the
-// register record carries the cart's whole row of next numbers": come from the new station, handled at the old one.
+// register record carries the cart's whole row of next numbers": come from the new station, handled at the old one. After the cart has left, the
+// ack lists that are complete go, and "These lists go on the lines before the register, and w counts them".
 pub fn on_deregister(
     stations: &mut [u64],
     carts: &mut [u64],
+    messages: &[u64],
     lines: &mut [u64],
     number: CartNumber,
     station: Station,
     from: Station,
 ) -> Effect
-    requires { ⌜ HasStation (now stations) (station .0) × HasRow (now carts) (number .0) × (number .0 < 64) × (cartsIn (now carts) .place (number .0) ≡ leaving (station .0) (from .0)) ⌝ }
-    requires { ⌜ (form (now lines) ≡ true) × (used (now lines) < capacity (now lines)) × (station .0 < 16) × (from .0 < 16) ⌝ }
-    ensures { λ _. ⌜ Left (now (stations .entry)) (now (stations .exit)) (now (carts .entry)) (now (carts .exit)) (now (lines .entry)) (now (lines .exit)) (number .0) (station .0) (from .0) ⌝ }
-    ensures { λ r. ⌜ r ≡ putting 1 ⌝ }
+    requires { ⌜ HasStation (now stations) (station .0) × HasRow (now carts) (number .0) × (number .0 < 64) × (cartsIn (now carts) .place (number .0) ≡ leaving (station .0) (from .0)) × HeldRooms (now messages) ⌝ }
+    requires { ⌜ (form (now lines) ≡ true) × (used (now lines) + listsGoing (now stations) (now messages) (station .0) (number .0) < capacity (now lines)) × (station .0 < 16) × (from .0 < 16) ⌝ }
+    ensures { λ r. ⌜ Left (now (stations .entry)) (now (stations .exit)) (now (carts .entry)) (now (carts .exit)) (now (messages .entry)) (now (lines .entry)) (now (lines .exit)) (number .0) (station .0) (from .0) (r .records) ⌝ }
+    ensures { λ r. ⌜ r ≡ putting (r .records) ⌝ }
 {
     leave(stations, number, station);
+    let sent = forward(stations, messages, lines, station);
     let cart = carts::cart_at(carts, number);
     let row = cart.next;
     carts::put_cart(carts, number, cart.depart());
@@ -103,7 +187,7 @@ pub fn on_deregister(
         from.0 as usize,
         view::register(number),
     );
-    reports::putting(1)
+    reports::putting(sent + 1)
 }
 
 // Is the message in room m, of that initiator, buffered at the station, "with a number below the cart's next number"?

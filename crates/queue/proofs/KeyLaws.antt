@@ -1,19 +1,19 @@
--- The head of a queue, by the keys of its messages.
+-- The first of several rooms in queue order, by the keys of their messages.
 use mathlib.Core.Path.{_≡_, refl, sym, ap, _∙_}
-use mathlib.Core.Bool.{Bool, true, false, cond}
+use mathlib.Core.Bool.{Bool, true, false, cond, not}
 use mathlib.Core.Option.{Option, none, some}
 use Prim.Native.Nat.{ℕ, zero, suc, _+_, _<_, _≤_}
 use native.Mathlib.Numerals.{add-one}
 use native.Mathlib.Omega.{arith}
 use lib.Dec.{eqb, ltb}
-use borrow.Author.Tests.{lt-ltb, le-ltb, eq-eqb, ne-eqb, eqb-false}
+use borrow.Author.Tests.{lt-ltb, le-ltb, eq-eqb, ne-eqb, eqb-false, not-true}
 use Rattle.protocol.specs.Floor.{Floor}
-use Rattle.protocol.specs.Wireless.{standsBefore, headWith, headAmong}
-use Rattle.protocol.proofs.Tests.{by-lt, by-eq, on-cond}
+use Rattle.protocol.specs.Wireless.{standsBefore}
+use Rattle.protocol.proofs.Tests.{by-lt, by-eq, by-test, on-cond}
 use Rattle.queue.specs.declared.Best.{Best}
 use Rattle.queue.specs.Rooms.{roomCode}
-use Rattle.queue.specs.Keys.{InKey, keyOf, Keyed, firstOf, bestWith}
-use Rattle.queue.proofs.HeadLaws.{head-empty}
+use Rattle.queue.specs.Keys.{InKey, keyOf, Keyed, hasEntry, firstWith, firstAmong, firstOf, bestWith}
+use Rattle.queue.proofs.HeadLaws.{first-out}
 
 -- OF TWO ROOMS, the one with the smaller key
 module _ (best : Best) (m key h : ℕ) where
@@ -23,13 +23,21 @@ module _ (best : Best) (m key h : ℕ) where
   pub stays-first : best .key ≤ key → h ≡ best .head → _≡_ {A = Best} (record { head = h; key = best .key }) (firstOf best m key)
   stays-first l e = rw (le-ltb key (best .key) l, e)
 
--- ROOM BY ROOM
+-- a room that is picked
+pub picked : (F : Floor) (pick : ℕ → Bool) (m : ℕ) (best : Best) (key : ℕ) (r : Best) → pick m ≡ true → key ≡ keyOf (F .number m) (F .initiator m) → r ≡ firstOf best m key → r ≡ bestWith F pick m best
+picked F pick m best key r e k f = rw (e, sym k) f
+
+-- ROOM BY ROOM, in a queue
 module _ (F : Floor) (t m : ℕ) (best : Best) where
-  pub empty-entry : (q : ℕ) → q ≡ F .queue m t → q ≡ 0 → best ≡ bestWith F t m best
+  pub empty-entry : (q : ℕ) → q ≡ F .queue m t → q ≡ 0 → best ≡ bestWith F (hasEntry F t) m best
   empty-entry q e z = rw (eq-eqb (F .queue m t) 0 (sym e ∙ z))
 
-  pub looked-at : (q key : ℕ) (r : Best) → q ≡ F .queue m t → (q ≡ 0 → ⊥) → key ≡ keyOf (F .number m) (F .initiator m) → r ≡ firstOf best m key → r ≡ bestWith F t m best
-  looked-at q key r e d k f = rw (ne-eqb (F .queue m t) 0 (λ z. d (e ∙ z)), sym k) f
+  pub looked-at : (q key : ℕ) (r : Best) → q ≡ F .queue m t → (q ≡ 0 → ⊥) → key ≡ keyOf (F .number m) (F .initiator m) → r ≡ firstOf best m key → r ≡ bestWith F (hasEntry F t) m best
+  looked-at q key r e d k f = picked F (hasEntry F t) m best key r (ap not (ne-eqb (F .queue m t) 0 (λ z. d (e ∙ z)))) k f
+
+  -- what has an entry has a key
+  pub entry-keyed : Keyed F t → m < 32 → hasEntry F t m ≡ true → InKey (F .number m) (F .initiator m)
+  entry-keyed keyed l e = keyed m l (eqb-false (F .queue m t) 0 (not-true (eqb (F .queue m t) 0) e))
 
 module _ (F : Floor) where
   -- the message in room m has a key, and which
@@ -69,40 +77,38 @@ module _ (F : Floor) where
   OfKey (some m) = HasKey m
 
   -- THE WALK starts with none
-  pub best-none : (t : ℕ) → _≡_ {A = Best} (record { head = 32; key = 18446744073709551615 }) (bestOf (headAmong F t 0))
-  unfolding headAmong
-  best-none t = refl
+  pub best-none : (pick : ℕ → Bool) → _≡_ {A = Best} (record { head = 32; key = 18446744073709551615 }) (bestOf (firstAmong F pick 0))
+  unfolding firstAmong
+  best-none pick = refl
 
-  module _ (t : ℕ) (keyed : Keyed F t) where
-    of-key-more : (m : ℕ) (o : Option ℕ) → m < 32 → OfKey o → OfKey (headWith F t m o)
-    of-key-more m none l h = on-cond OfKey (eqb (F .queue m t) 0) (λ e. omega arith) (λ e. keyed m l (eqb-false (F .queue m t) 0 e))
-    of-key-more m (some k) l h =
-        on-cond OfKey (eqb (F .queue m t) 0) (λ e. h)
-        (λ e. on-cond OfKey (standsBefore F m k) (λ b. keyed m l (eqb-false (F .queue m t) 0 e)) (λ b. h))
+  module _ (pick : ℕ → Bool) (keyed : (m : ℕ) → m < 32 → pick m ≡ true → HasKey m) where
+    of-key-more : (m : ℕ) (o : Option ℕ) → m < 32 → OfKey o → OfKey (firstWith F pick m o)
+    of-key-more m none l h = on-cond OfKey (pick m) (λ e. keyed m l e) (λ e. omega arith)
+    of-key-more m (some k) l h = on-cond OfKey (pick m) (λ e. on-cond OfKey (standsBefore F m k) (λ b. keyed m l e) (λ b. h)) (λ e. h)
 
-    of-key : (n : ℕ) → n ≤ 32 → OfKey (headAmong F t n)
-    unfolding headAmong
+    of-key : (n : ℕ) → n ≤ 32 → OfKey (firstAmong F pick n)
+    unfolding firstAmong
     of-key zero l = omega arith
-    of-key (suc n) l = of-key-more n (headAmong F t n) (omega arith) (of-key n (omega arith))
+    of-key (suc n) l = of-key-more n (firstAmong F pick n) (omega arith) (of-key n (omega arith))
 
-    -- with an entry
-    looked : (m : ℕ) (o : Option ℕ) → HasKey m → (F .queue m t ≡ 0 → ⊥) → OfKey o → firstOf (bestOf o) m (keyIn m) ≡ bestOf (headWith F t m o)
-    looked m none h d _ = rw (ne-eqb (F .queue m t) 0 d, lt-ltb (keyIn m) 18446744073709551615 (omega arith))
-    looked m (some k) h d g = rw (ne-eqb (F .queue m t) 0 d, key-order m k h g) (chosen (standsBefore F m k) m k)
+    -- picked
+    looked : (m : ℕ) (o : Option ℕ) → HasKey m → pick m ≡ true → OfKey o → firstOf (bestOf o) m (keyIn m) ≡ bestOf (firstWith F pick m o)
+    looked m none h e _ = rw (e, lt-ltb (keyIn m) 18446744073709551615 (omega arith))
+    looked m (some k) h e g = rw (e, key-order m k h g) (chosen (standsBefore F m k) m k)
 
-    best-more : (m : ℕ) (o : Option ℕ) → m < 32 → OfKey o → bestWith F t m (bestOf o) ≡ bestOf (headWith F t m o)
+    best-more : (m : ℕ) (o : Option ℕ) → m < 32 → OfKey o → bestWith F pick m (bestOf o) ≡ bestOf (firstWith F pick m o)
     best-more m o l h =
-        by-eq (F .queue m t) 0
-        (λ e. sym (empty-entry F t m (bestOf o) (F .queue m t) refl e) ∙ ap bestOf (sym (head-empty F t m o e)))
-        (λ d. rw (ne-eqb (F .queue m t) 0 d) (looked m o (keyed m l d) d h))
+        by-test (pick m)
+        (λ e. ap (λ (b : Bool). cond b (firstOf (bestOf o) m (keyIn m)) (bestOf o)) e ∙ looked m o (keyed m l e) e h)
+        (λ e. ap (λ (b : Bool). cond b (firstOf (bestOf o) m (keyIn m)) (bestOf o)) e ∙ ap bestOf (sym (first-out F pick m o e)))
 
     -- a turn at room m finds what the rooms passed since k left
-    pub best-again : (k m : ℕ) (best r : Best) → m < 32 → headAmong F t m ≡ headAmong F t k → best ≡ bestOf (headAmong F t k) → r ≡ bestWith F t m best → r ≡ bestOf (headAmong F t (m + 1))
-    unfolding headAmong
+    pub best-again : (k m : ℕ) (best r : Best) → m < 32 → firstAmong F pick m ≡ firstAmong F pick k → best ≡ bestOf (firstAmong F pick k) → r ≡ bestWith F pick m best → r ≡ bestOf (firstAmong F pick (m + 1))
+    unfolding firstAmong
     best-again k m best r l skipped e f =
-        rw (add-one, headAmong)
-        (f ∙ ap (bestWith F t m) (e ∙ ap bestOf (sym skipped)) ∙ best-more m (headAmong F t m) l (of-key m (omega arith)))
+        rw (add-one, firstAmong)
+        (f ∙ ap (bestWith F pick m) (e ∙ ap bestOf (sym skipped)) ∙ best-more m (firstAmong F pick m) l (of-key m (omega arith)))
 
-  -- and the last has found the head
-  pub best-all : (t k : ℕ) (best : Best) → headAmong F t 32 ≡ headAmong F t k → best ≡ bestOf (headAmong F t k) → best .head ≡ roomCode (headAmong F t 32)
-  best-all t k best skipped e = ap (λ (b : Best). b .head) (e ∙ ap bestOf (sym skipped)) ∙ best-head (headAmong F t 32)
+  -- and the last has found the first
+  pub best-all : (pick : ℕ → Bool) (k : ℕ) (best : Best) → firstAmong F pick 32 ≡ firstAmong F pick k → best ≡ bestOf (firstAmong F pick k) → best .head ≡ roomCode (firstAmong F pick 32)
+  best-all pick k best skipped e = ap (λ (b : Best). b .head) (e ∙ ap bestOf (sym skipped)) ∙ best-head (firstAmong F pick 32)

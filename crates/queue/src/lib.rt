@@ -1,14 +1,15 @@
-// The queue of a station: which message is its head, and whether "every local cart in the copy is in the ack list".
+// The queue of a station: which message is its head, which of several stands first, and whether "every local cart in the copy is in the ack list".
 use ids::Station;
 ghost use mathlib.Core.Path.{_≡_};
+ghost use mathlib.Core.List.{[]};
 ghost use Prim.Native.Nat.{_<_};
-ghost use Rattle.protocol.specs.CartSets.{minus};
+ghost use Rattle.protocol.specs.CartSets.{has, minus};
 ghost use Rattle.protocol.specs.Wireless.{headAmong};
 ghost use Rattle.sets.specs.Masks.{disjoint};
 ghost use Rattle.stations.specs.View.{rooms, HasStation, stationsIn};
 ghost use Rattle.messages.specs.View.{HasRoom, roomsIn};
 ghost use Rattle.queue.specs.Rooms.{tablesFloor, QueueRooms, roomCode};
-ghost use Rattle.queue.specs.Keys.{InKey, keyOf, Keyed, firstOf, bestWith};
+ghost use Rattle.queue.specs.Keys.{InKey, keyOf, Keyed, KeyedRooms, hasEntry, firstAmong, firstOf, bestWith};
 
 // The word for no room.
 pub const NONE: usize = 32;
@@ -42,7 +43,7 @@ fn first_of(best: Best, m: usize, key: u64) -> Best
 // The first once room m is looked at too. "A queue has one entry per message": an empty entry is none.
 fn best_with(stations: &[u64], messages: &[u64], station: Station, m: usize, best: Best) -> Best
     requires { ⌜ HasStation (now stations) (station .0) × QueueRooms (now stations) (now messages) (station .0) × (m < rooms) × Keyed (tablesFloor (now stations) (now messages)) (station .0) ⌝ }
-    ensures { λ r. ⌜ r ≡ bestWith (tablesFloor (now (stations .entry)) (now (messages .entry))) (station .0) m best ⌝ }
+    ensures { λ r. ⌜ r ≡ bestWith (tablesFloor (now (stations .entry)) (now (messages .entry))) (hasEntry (tablesFloor (now (stations .entry)) (now (messages .entry))) (station .0)) m best ⌝ }
 {
     if stations::queue_of(stations, m, station) == 0 {
         return best;
@@ -64,6 +65,24 @@ pub fn head(stations: &[u64], messages: &[u64], station: Station) -> usize
         let m = sets::first(left) as usize;
         left = sets::without_first(left);
         best = best_with(stations, messages, station, m, best);
+    }
+    best.head
+}
+
+// Of the messages in these rooms, the one that stands first in a queue: its room, or none.
+pub fn first_among(messages: &[u64], among: u64) -> usize
+    requires { ⌜ KeyedRooms (now messages) among ⌝ }
+    ensures { λ r. ⌜ r ≡ roomCode (firstAmong (tablesFloor [] (now (messages .entry))) (has among) 32) ⌝ }
+{
+    let mut best = Best {
+        head: NONE,
+        key: u64::MAX,
+    };
+    let mut left = among;
+    while 0 < left {
+        let m = sets::first(left) as usize;
+        left = sets::without_first(left);
+        best = first_of(best, m, key_of(messages, m));
     }
     best.head
 }

@@ -30,6 +30,7 @@ pub record Ahead (n set left k : ℕ) : Type 0 where
 -- a turn of the walk, from k on: m is the next member, and left′ is left behind it
 pub record Turn (n set left k m left′ : ℕ) : Type 0 where
   pub next : k ≤ m
+  pub member : has set m ≡ true
   pub inside : m < n
   pub skips : (c : ℕ) → k ≤ c → c < m → has set c ≡ false
   pub ahead : Ahead n set left′ (m + 1)
@@ -57,8 +58,11 @@ module _ (n set : ℕ) where
     pub ahead-next : k ≤ m
     ahead-next = by-lt m k (λ h. clash (has left m) (lowest .member) (A .before m h)) (λ h. h)
 
+    pub ahead-member : has set m ≡ true
+    ahead-member = sym (A .after m ahead-next) ∙ lowest .member
+
     pub ahead-inside : m < n
-    ahead-inside = A .inside m (sym (A .after m ahead-next) ∙ lowest .member)
+    ahead-inside = A .inside m ahead-member
 
     pub ahead-skips : (c : ℕ) → k ≤ c → c < m → has set c ≡ false
     ahead-skips c h l = sym (A .after c h) ∙ lowest .before c l
@@ -90,6 +94,7 @@ module _ (n set : ℕ) where
     pub ahead-turn : (left′ : ℕ) → left′ ≡ without left m → Turn n set left k m left′
     ahead-turn left′ q = record {
       next = ahead-next;
+      member = ahead-member;
       inside = ahead-inside;
       skips = ahead-skips;
       ahead = ahead-step left′ q;

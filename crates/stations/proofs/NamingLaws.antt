@@ -1,4 +1,4 @@
--- THE ROOMS WHOSE COPIES NAME A CART: their words from the last one down, and those of them that count.
+-- THE ROOMS WHOSE WORDS PASS A TEST: looked at from the last one down, and those of them that count.
 use mathlib.Core.Path.{_≡_, refl, sym, ap, ap₂, _∙_, fun-ext}
 use mathlib.Core.Bool.{Bool, true, false, cond, _&&_}
 use mathlib.Core.List.{List}
@@ -11,7 +11,8 @@ use Rattle.protocol.proofs.Tests.{by-test, by-lt, and-false}
 use Rattle.protocol.proofs.SetLaws.{has-zero, has-setOf, setOf-lt, no-member, same-members}
 use Rattle.sets.proofs.MaskLaws.{digit-is, setOf-low, has-and}
 use Rattle.rows.proofs.ColumnLaws.{column-read}
-use Rattle.stations.specs.View.{rooms, copyAt, copiesAt, stationWord, stationsIn, wordNames, namingIn}
+use Rattle.rows.specs.Rows.{column}
+use Rattle.stations.specs.View.{rooms, copyAt, copiesAt, counted, stationWord, wordNames}
 
 -- of the first n rooms, those from m on that pass, counted from m
 module _ (n : ℕ) (f : ℕ → Bool) where
@@ -55,41 +56,46 @@ module _ (n : ℕ) (f : ℕ → Bool) where
       one-more : suc (n - m) ≡ n - (m - 1)
       one-more = omega arith
 
-module _ (l : List ℕ) (t c : ℕ) where
-  pub word-digit : (m w : ℕ) → w ≡ stationWord l t (copyAt m) → digit w c ≡ cond (wordNames l t c m) 1 0
-  word-digit m w e = ap (λ (x : ℕ). digit x c) e ∙ digit-is (stationWord l t (copyAt m)) c
+-- the digit of a copy's word for a cart
+pub word-digit : (l : List ℕ) (t c m w : ℕ) → w ≡ stationWord l t (copyAt m) → digit w c ≡ cond (wordNames l t c m) 1 0
+word-digit l t c m w e = ap (λ (x : ℕ). digit x c) e ∙ digit-is (stationWord l t (copyAt m)) c
 
-  -- those of the first n that count, where no other room counts
-  pub naming-counts : (n x y : ℕ) → n ≤ rooms → x ≡ setOf n (wordNames l t c) → y ≡ stationWord l t copiesAt
-      → ((k : ℕ) → n ≤ k → k < rooms → has y k ≡ false) → bitAnd x y ≡ namingIn (stationsIn l) t c
-  unfolding stationsIn
-  naming-counts n x y few ex ey none =
-      same-members rooms (bitAnd x y) (namingIn (stationsIn l) t c)
-      (let z = setOf-lt n (wordNames l t c) in let b = pow-mono few in let a = and-le-l x y in omega arith)
-      (setOf-lt rooms (λ k. has (stationsIn l .copy k t) c))
+-- the rooms whose words count and pass, where no empty word passes
+module _ (l : List ℕ) (t : ℕ) (pos : ℕ → ℕ) (p : ℕ → Bool) (empty : p 0 ≡ false) where
+  abbrev pub wordPasses : ℕ → Bool
+  wordPasses m = p (stationWord l t (pos m))
+
+  abbrev pub countPasses : ℕ → Bool
+  countPasses m = p (counted (stationWord l t copiesAt) m (column rooms pos (stationWord l) t m))
+
+  counts : (b : Bool) (word : ℕ) → (p word && b) ≡ p (cond b word 0)
+  counts true word = by-test (p word) (λ e. rw e) (λ e. rw e)
+  counts false word = and-false (p word) ∙ sym empty
+
+  -- those of the first n, where no other room counts
+  counting : (n x y : ℕ) → n ≤ rooms → x ≡ setOf n wordPasses → y ≡ stationWord l t copiesAt
+      → ((k : ℕ) → n ≤ k → k < rooms → has y k ≡ false) → bitAnd x y ≡ setOf rooms countPasses
+  counting n x y few ex ey none =
+      same-members rooms (bitAnd x y) (setOf rooms countPasses)
+      (let z = setOf-lt n wordPasses in let b = pow-mono few in let a = and-le-l x y in omega arith)
+      (setOf-lt rooms countPasses)
       (λ k h. has-and x y k
       ∙ by-lt k n
-      (λ b. ap (λ (z : Bool). z && has y k) (ap (λ (s : ℕ). has s k) ex ∙ has-setOf n (wordNames l t c) k b))
-      (λ b. ap (λ (z : Bool). has x k && z) (none k b h) ∙ and-false (has x k) ∙ sym (and-false (wordNames l t c k)) ∙ ap (λ (z : Bool). wordNames l t c k && z) (sym (none k b h)))
-      ∙ ap (λ (s : ℕ). wordNames l t c k && has s k) ey
-      ∙ counts (has (stationWord l t copiesAt) k) (stationWord l t (copyAt k))
-      ∙ ap (λ (s : ℕ). has (cond (has (stationWord l t copiesAt) k) s 0) c) (column-read rooms copyAt (stationWord l) t k h)
-      ∙ sym (has-setOf rooms (λ k. has (stationsIn l .copy k t) c) k h))
-    where
-      counts : (b : Bool) (word : ℕ) → (has word c && b) ≡ has (cond b word 0) c
-      counts true word = by-test (has word c) (λ e. rw e) (λ e. rw e)
-      counts false word = and-false (has word c) ∙ sym (has-zero c)
+      (λ b. ap (λ (z : Bool). z && has y k) (ap (λ (s : ℕ). has s k) ex ∙ has-setOf n wordPasses k b))
+      (λ b. ap (λ (z : Bool). has x k && z) (none k b h) ∙ and-false (has x k) ∙ sym (and-false (wordPasses k)) ∙ ap (λ (z : Bool). wordPasses k && z) (sym (none k b h)))
+      ∙ ap (λ (s : ℕ). wordPasses k && has s k) ey
+      ∙ counts (has (stationWord l t copiesAt) k) (stationWord l t (pos k))
+      ∙ ap (λ (s : ℕ). p (cond (has (stationWord l t copiesAt) k) s 0)) (column-read rooms pos (stationWord l) t k h)
+      ∙ sym (has-setOf rooms countPasses k h))
 
   -- where none counts, where only rooms of the first half do, and where any may
-  pub naming-none : (y : ℕ) → y ≡ stationWord l t copiesAt → y ≡ 0 → 0 ≡ namingIn (stationsIn l) t c
-  naming-none y e z =
-      let x = setOf rooms (wordNames l t c) in
-      sym (and-zero-r x) ∙ naming-counts rooms x 0 (omega arith) refl (sym z ∙ e) (λ k a b. has-zero k)
+  pub counting-none : (y : ℕ) → y ≡ stationWord l t copiesAt → y ≡ 0 → 0 ≡ setOf rooms countPasses
+  counting-none y e z =
+      let x = setOf rooms wordPasses in
+      sym (and-zero-r x) ∙ counting rooms x 0 (omega arith) refl (sym z ∙ e) (λ k a b. has-zero k)
 
-  pub naming-half : (x y : ℕ) → x ≡ setOf 16 (wordNames l t c) → y ≡ stationWord l t copiesAt → y < 2 ^ 16 → bitAnd x y ≡ namingIn (stationsIn l) t c
-  naming-half x y ex ey low =
-      naming-counts 16 x y (omega arith) ex ey
-      (λ k a b. no-member 16 y k low a)
+  pub counting-half : (x y : ℕ) → x ≡ setOf 16 wordPasses → y ≡ stationWord l t copiesAt → y < 2 ^ 16 → bitAnd x y ≡ setOf rooms countPasses
+  counting-half x y ex ey low = counting 16 x y (omega arith) ex ey (λ k a b. no-member 16 y k low a)
 
-  pub naming-all : (x y : ℕ) → x ≡ setOf rooms (wordNames l t c) → y ≡ stationWord l t copiesAt → bitAnd x y ≡ namingIn (stationsIn l) t c
-  naming-all x y ex ey = naming-counts rooms x y (omega arith) ex ey (λ k a b. absurd (omega arith))
+  pub counting-all : (x y : ℕ) → x ≡ setOf rooms wordPasses → y ≡ stationWord l t copiesAt → bitAnd x y ≡ setOf rooms countPasses
+  counting-all x y ex ey = counting rooms x y (omega arith) ex ey (λ k a b. absurd (omega arith))

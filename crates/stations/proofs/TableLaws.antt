@@ -2,20 +2,21 @@
 use mathlib.Core.Path.{_≡_, refl, sym, ap, subst, fun-ext, _∙_}
 use mathlib.Core.Bool.{Bool, true, false, not, cond, _&&_}
 use mathlib.Core.List.{List}
-use Prim.Native.Nat.{ℕ, _+_, _*_, _^_, _≤_, _<_}
+use Prim.Native.Nat.{ℕ, _+_, _*_, _/_, _%_, _^_, _≤_, _<_}
 use native.Mathlib.Omega.{arith}
 use lib.Dec.{eqb}
 use lib.ListN.{length, getD}
-use borrow.Author.Tests.{eq-eqb, eqb-true, ne-eqb, not-true, not-false}
+use lib.Bits.{bitOr}
+use borrow.Author.Tests.{eq-eqb, eqb-true, eqb-false, ne-eqb, not-true, not-false}
 use Rattle.protocol.specs.Folds.{update2}
 use Rattle.protocol.specs.CartSets.{has, minus, setOf}
-use Rattle.protocol.proofs.Tests.{same-test, by-test, by-lt, clash}
-use Rattle.protocol.proofs.SetLaws.{has-zero, has-minus, has-setOf, setOf-lt, setOf-beyond, minus-lt, member-below, same-members}
+use Rattle.protocol.proofs.Tests.{same-test, by-test, by-lt}
+use Rattle.protocol.proofs.SetLaws.{has-zero, has-minus, has-setOf, setOf-lt, setOf-beyond, minus-lt, member-below, same-members, either-empty}
 use Rattle.sets.proofs.MaskLaws.{with-here, with-other, without-other}
 use Rattle.rows.specs.Rows.{cell, column}
 use Rattle.rows.proofs.RowLaws.{cell-zero, cell-past, update2-column}
 use Rattle.rows.proofs.ColumnLaws.{word-put, column-read, column-put, column-put-turned, column-stays, column-beyond, column-zero}
-use Rattle.stations.specs.View.{width, initiators, rooms, headOf, head, stationsOf, expectedAt, copyAt, acksAt, queueAt, headIn, stationsIn, stationWord, noStations, withSent, withExpected, withLocal, withCopy, withAcks, withQueue, copiesAt, entriesAt, counted, countedWith, entriesIn}
+use Rattle.stations.specs.View.{width, initiators, rooms, headOf, head, stationsOf, expectedAt, copyAt, acksAt, queueAt, headIn, stationsIn, stationWord, noStations, withSent, withExpected, withLocal, withCopy, withAcks, withRoom, withQueue, copiesAt, entriesAt, counted, countedWith, entriesIn, someIn, listingIn, Stations}
 
 -- A STATION'S ROW AND THE FLOOR'S OWN
 
@@ -60,75 +61,61 @@ head-put l l₁ l₂ l₃ x y z p q r =
     ∙ ap (λ (W : ℕ → ℕ → ℕ). headOf (update2 W 0 2 z 0)) q
     ∙ ap (λ (W : ℕ → ℕ → ℕ). headOf (update2 (update2 W 0 1 y) 0 2 z 0)) p
 
--- THE ROOMS THAT COUNT
+-- THE WORDS THAT COUNT
 
--- no room counts; an empty word
-counted-none : (m v : ℕ) → counted 0 m v ≡ 0
-counted-none m v = ap (λ (b : Bool). cond b v 0) (has-zero m)
+-- none counts; an empty word
+counted-none : (bit v : ℕ) → counted 0 bit v ≡ 0
+counted-none bit v = ap (λ (b : Bool). cond b v 0) (has-zero bit)
 
-counted-zero : (among m : ℕ) → counted among m 0 ≡ 0
-counted-zero among m = by-test (has among m) (λ h. rw h) (λ h. rw h)
+counted-zero : (among bit : ℕ) → counted among bit 0 ≡ 0
+counted-zero among bit = by-test (has among bit) (λ h. rw h) (λ h. rw h)
 
 -- the rooms of a word
-rooms-word : (word : ℕ) → setOf rooms (has word) < 2 ^ 64
-rooms-word word = let z = setOf-lt rooms (has word) in omega arith
+rooms-word : (pick : ℕ → Bool) → setOf rooms pick < 2 ^ 64
+rooms-word pick = let z = setOf-lt rooms pick in omega arith
 
 pub among-rooms : (word a b : ℕ) → word < 2 ^ 64 → a ≡ minus word (setOf rooms (λ c. true)) → b ≡ minus word a → b ≡ setOf rooms (has word)
 among-rooms word a b small p q =
-    same-members 64 b (setOf rooms (has word)) (rw q (minus-lt 64 word a small)) (rooms-word word)
+    same-members 64 b (setOf rooms (has word)) (rw q (minus-lt 64 word a small)) (rooms-word (has word))
     (λ c h. rw (q, has-minus word a c, p, has-minus word (setOf rooms (λ c. true)) c)
     (by-lt c rooms
     (λ l. rw (has-setOf rooms (λ c. true) c l, has-setOf rooms (has word) c l) (by-test (has word c) (λ e. rw e) (λ e. rw e)))
     (λ l. rw (setOf-beyond rooms (λ c. true) c l, setOf-beyond rooms (has word) c l) (by-test (has word c) (λ e. rw e) (λ e. rw e)))))
 
--- once a room has a word, that word is what counts, and for the other rooms nothing changed
-counted-same : (among m v : ℕ) → counted (countedWith among m v) m v ≡ v
-counted-same among m v =
-    by-test (eqb v 0)
-    (λ z. let e = eqb-true v 0 z in by-test (has (countedWith among m v) m) (λ h. rw h) (λ h. rw h (sym e)))
-    (λ z. rw (z, with-here among m))
+-- a word counts once its bit is put by a word that is empty only where this one is, and for the other bits nothing changed
+counted-kept : (among bit y v : ℕ) → (y ≡ 0 → v ≡ 0) → counted (countedWith among bit y) bit v ≡ v
+counted-kept among bit y v empty =
+    by-test (eqb y 0)
+    (λ z. let e = empty (eqb-true y 0 z) in rw (e, counted-zero (countedWith among bit y) bit))
+    (λ z. rw (z, with-here among bit))
 
-counted-other : (among m n v : ℕ) → eqb n m ≡ false → has (countedWith among m v) n ≡ has among n
-counted-other among m n v d =
-    let other : m ≡ n → ⊥ = λ e. clash (eqb n m) (eq-eqb n m (sym e)) d in
-    by-test (eqb v 0) (λ z. rw z (without-other among m n other)) (λ z. rw z (with-other among m n other))
+counted-other : (among bit n v : ℕ) → (n ≡ bit → ⊥) → has (countedWith among bit v) n ≡ has among n
+counted-other among bit n v d =
+    by-test (eqb v 0) (λ z. rw z (without-other among bit n (λ e. d (sym e)))) (λ z. rw z (with-other among bit n (λ e. d (sym e))))
 
--- what is read of room m: whether it counts, then its word
-module _ (pos : ℕ → ℕ) (k : ℕ) (W : ℕ → ℕ → ℕ) (t m x : ℕ) (b : Bool) where
-  pub is-not-counted : x ≡ W t k → b ≡ has x m → not b ≡ true → 0 ≡ counted (W t k) m (column rooms pos W t m)
+-- what is read of room m: whether its bit counts, then its word
+module _ (pos : ℕ → ℕ) (k : ℕ) (W : ℕ → ℕ → ℕ) (t m bit x : ℕ) (b : Bool) where
+  pub is-not-counted : x ≡ W t k → b ≡ has x bit → not b ≡ true → 0 ≡ counted (W t k) bit (column rooms pos W t m)
   is-not-counted e f z = rw (sym e, sym f ∙ not-true b z) refl
 
-  pub is-counted : (y : ℕ) → m < rooms → x ≡ W t k → b ≡ has x m → not b ≡ false → y ≡ W t (pos m) → y ≡ counted (W t k) m (column rooms pos W t m)
+  pub is-counted : (y : ℕ) → m < rooms → x ≡ W t k → b ≡ has x bit → not b ≡ false → y ≡ W t (pos m) → y ≡ counted (W t k) bit (column rooms pos W t m)
   is-counted y h e f z g = rw (sym e, sym f ∙ not-false b z) (g ∙ column-read rooms pos W t m h)
 
 -- A WORD OF A STATION'S ROW
 
--- a room's word and the rooms that count, both put: that room's entry of the column is changed
-module _ (pos : ℕ → ℕ) (k : ℕ) (W : ℕ → ℕ → ℕ) (t v m : ℕ) (inside : m < rooms) (apart : (j : ℕ) → j < rooms → pos j ≡ pos m → j ≡ m) (other : (j : ℕ) → j < rooms → pos j ≡ k → ⊥) where
-  abbrev among : ℕ
-  among = countedWith (W t k) m v
-
-  abbrev both : ℕ → ℕ → ℕ
-  both = update2 (update2 W t k among) t (pos m) v
-
-  rooms-put : (u : ℕ) → both u k ≡ cond (eqb u t) among (W u k)
-  rooms-put u = update2-column (update2 W t k among) t (pos m) v u k (λ e. other m inside (sym e)) ∙ word-put W t k among u
-
-  words-put : (n u : ℕ) → column rooms pos both u n ≡ cond (eqb n m && eqb u t) v (column rooms pos W u n)
-  words-put n u =
-      column-put-turned rooms pos (update2 W t k among) t v m inside apart n u
-      ∙ ap (λ (x : ℕ). cond (eqb n m && eqb u t) v x) (column-stays rooms pos W t among k other u n)
-
-  merged : (n u x : ℕ) → counted (cond (eqb u t) among (W u k)) n (cond (eqb n m && eqb u t) v x) ≡ cond (eqb n m && eqb u t) v (counted (W u k) n x)
-  merged n u x =
+-- of a table in which room m at t has another word, and word k there says that it counts, and of the other rooms what it said
+module _ (pos : ℕ → ℕ) (k : ℕ) (W W′ : ℕ → ℕ → ℕ) (t m x v : ℕ) (words : (n u : ℕ) → column rooms pos W′ u n ≡ cond (eqb n m && eqb u t) v (column rooms pos W u n))
+    (bits : (u : ℕ) → W′ u k ≡ cond (eqb u t) x (W u k)) (kept : counted x m v ≡ v) (others : (n : ℕ) → (n ≡ m → ⊥) → has x n ≡ has (W t k) n) where
+  merged : (n u y : ℕ) → counted (cond (eqb u t) x (W u k)) n (cond (eqb n m && eqb u t) v y) ≡ cond (eqb n m && eqb u t) v (counted (W u k) n y)
+  merged n u y =
       by-test (eqb u t)
       (λ p. by-test (eqb n m)
-      (λ q. rw (p, q) (subst (λ (j : ℕ). counted (countedWith (W t k) m v) j v ≡ v) (sym (eqb-true n m q)) (counted-same (W t k) m v)))
-      (λ q. rw (p, q, counted-other (W t k) m n v q, eqb-true u t p)))
+      (λ q. rw (p, q) (subst (λ (j : ℕ). counted x j v ≡ v) (sym (eqb-true n m q)) kept))
+      (λ q. rw (p, q, others n (eqb-false n m q), eqb-true u t p)))
       (λ p. by-test (eqb n m) (λ q. rw (p, q)) (λ q. rw (p, q)))
 
-  counted-put : (n u : ℕ) → counted (both u k) n (column rooms pos both u n) ≡ update2 (λ j r. counted (W r k) j (column rooms pos W r j)) m t v n u
-  counted-put n u = rw (rooms-put u, words-put n u) (merged n u (column rooms pos W u n))
+  counted-put : (n u : ℕ) → counted (W′ u k) n (column rooms pos W′ u n) ≡ update2 (λ j r. counted (W r k) j (column rooms pos W r j)) m t v n u
+  counted-put n u = rw (bits u, words n u) (merged n u (column rooms pos W u n))
 
 -- a word changes what stands there, and nothing else: the other positions are others
 module _ (W : ℕ → ℕ → ℕ) (t v : ℕ) where
@@ -138,7 +125,7 @@ module _ (W : ℕ → ℕ → ℕ) (t v : ℕ) where
     expected = λ u s. column-stays initiators expectedAt W t v 0 (λ j l e. omega arith) u s i;
     local = λ u. update2-column W t 0 v u 17 (omega arith) i;
     copy = λ n u. counted (update2-column W t 0 v u copiesAt (omega arith) i) n (column-stays rooms copyAt W t v 0 (λ j l e. omega arith) u n i);
-    acks = λ n u. column-stays rooms acksAt W t v 0 (λ j l e. omega arith) u n i;
+    acks = λ n u. counted (update2-column W t 0 v u copiesAt (omega arith) i) n (column-stays rooms acksAt W t v 0 (λ j l e. omega arith) u n i);
     queue = λ n u. counted (update2-column W t 0 v u entriesAt (omega arith) i) n (column-stays rooms queueAt W t v 0 (λ j l e. omega arith) u n i);
   }
 
@@ -148,7 +135,7 @@ module _ (W : ℕ → ℕ → ℕ) (t v : ℕ) where
     expected = λ u s. column-stays initiators expectedAt W t v 17 (λ j l e. omega arith) u s i;
     local = λ u. word-put W t 17 v u i;
     copy = λ n u. counted (update2-column W t 17 v u copiesAt (omega arith) i) n (column-stays rooms copyAt W t v 17 (λ j l e. omega arith) u n i);
-    acks = λ n u. column-stays rooms acksAt W t v 17 (λ j l e. omega arith) u n i;
+    acks = λ n u. counted (update2-column W t 17 v u copiesAt (omega arith) i) n (column-stays rooms acksAt W t v 17 (λ j l e. omega arith) u n i);
     queue = λ n u. counted (update2-column W t 17 v u entriesAt (omega arith) i) n (column-stays rooms queueAt W t v 17 (λ j l e. omega arith) u n i);
   }
 
@@ -158,43 +145,108 @@ module _ (W : ℕ → ℕ → ℕ) (t v : ℕ) where
     expected = λ u r. column-put initiators expectedAt W t v s h (λ j l e. omega arith) u r i;
     local = λ u. update2-column W t (expectedAt s) v u 17 (omega arith) i;
     copy = λ n u. counted (update2-column W t (expectedAt s) v u copiesAt (omega arith) i) n (column-stays rooms copyAt W t v (expectedAt s) (λ j l e. omega arith) u n i);
-    acks = λ n u. column-stays rooms acksAt W t v (expectedAt s) (λ j l e. omega arith) u n i;
+    acks = λ n u. counted (update2-column W t (expectedAt s) v u copiesAt (omega arith) i) n (column-stays rooms acksAt W t v (expectedAt s) (λ j l e. omega arith) u n i);
     queue = λ n u. counted (update2-column W t (expectedAt s) v u entriesAt (omega arith) i) n (column-stays rooms queueAt W t v (expectedAt s) (λ j l e. omega arith) u n i);
   }
 
-  pub acks-put : (m : ℕ) → m < rooms → stationsOf (update2 W t (acksAt m) v) ≡ withAcks (stationsOf W) m t v
-  acks-put m h = λ i. record {
-    sent = λ u. update2-column W t (acksAt m) v u 0 (omega arith) i;
-    expected = λ u s. column-stays initiators expectedAt W t v (acksAt m) (λ j l e. omega arith) u s i;
-    local = λ u. update2-column W t (acksAt m) v u 17 (omega arith) i;
-    copy = λ n u. counted (update2-column W t (acksAt m) v u copiesAt (omega arith) i) n (column-stays rooms copyAt W t v (acksAt m) (λ j l e. omega arith) u n i);
-    acks = λ n u. column-put-turned rooms acksAt W t v m h (λ j l e. omega arith) n u i;
-    queue = λ n u. counted (update2-column W t (acksAt m) v u entriesAt (omega arith) i) n (column-stays rooms queueAt W t v (acksAt m) (λ j l e. omega arith) u n i);
+-- a room's entry of the queue: its bit says that it counts
+module _ (W : ℕ → ℕ → ℕ) (t m v : ℕ) (inside : m < rooms) where
+  abbrev entries : ℕ
+  entries = countedWith (W t entriesAt) m v
+
+  abbrev marked : ℕ → ℕ → ℕ
+  marked = update2 W t entriesAt entries
+
+  abbrev queued : ℕ → ℕ → ℕ
+  queued = update2 marked t (queueAt m) v
+
+  queue-word : (u k : ℕ) → (k ≡ entriesAt → ⊥) → (k ≡ queueAt m → ⊥) → queued u k ≡ W u k
+  queue-word u k a b = update2-column marked t (queueAt m) v u k b ∙ update2-column W t entriesAt entries u k a
+
+  queue-column : (n : ℕ) (pos : ℕ → ℕ) → ((j : ℕ) → j < n → pos j ≡ entriesAt → ⊥) → ((j : ℕ) → j < n → pos j ≡ queueAt m → ⊥) → (u j : ℕ) → column n pos queued u j ≡ column n pos W u j
+  queue-column n pos a b u j = column-stays n pos marked t v (queueAt m) b u j ∙ column-stays n pos W t entries entriesAt a u j
+
+  entries-put : (u : ℕ) → queued u entriesAt ≡ cond (eqb u t) entries (W u entriesAt)
+  entries-put u = update2-column marked t (queueAt m) v u entriesAt (omega arith) ∙ word-put W t entriesAt entries u
+
+  entry-put : (n u : ℕ) → column rooms queueAt queued u n ≡ cond (eqb n m && eqb u t) v (column rooms queueAt W u n)
+  entry-put n u =
+      column-put-turned rooms queueAt marked t v m inside (λ j l e. omega arith) n u
+      ∙ ap (λ (y : ℕ). cond (eqb n m && eqb u t) v y) (column-stays rooms queueAt W t entries entriesAt (λ j l e. omega arith) u n)
+
+  pub queue-put : stationsOf queued ≡ withQueue (stationsOf W) m t v
+  queue-put = λ i. record {
+    sent = λ u. queue-word u 0 (omega arith) (omega arith) i;
+    expected = λ u s. queue-column initiators expectedAt (λ j l e. omega arith) (λ j l e. omega arith) u s i;
+    local = λ u. queue-word u 17 (omega arith) (omega arith) i;
+    copy = λ n u. counted (queue-word u copiesAt (omega arith) (omega arith) i) n (queue-column rooms copyAt (λ j l e. omega arith) (λ j l e. omega arith) u n i);
+    acks = λ n u. counted (queue-word u copiesAt (omega arith) (omega arith) i) n (queue-column rooms acksAt (λ j l e. omega arith) (λ j l e. omega arith) u n i);
+    queue = λ n u. counted-put queueAt entriesAt W queued t m entries v entry-put entries-put (counted-kept (W t entriesAt) m v v (λ e. e)) (λ n d. counted-other (W t entriesAt) m n v d) n u i;
   }
 
-  pub copy-put : (m : ℕ) → m < rooms → stationsOf (update2 (update2 W t copiesAt (countedWith (W t copiesAt) m v)) t (copyAt m) v) ≡ withCopy (stationsOf W) m t v
-  copy-put m h =
-      let x = countedWith (W t copiesAt) m v in
-      λ i. record {
-        sent = λ u. (update2-column (update2 W t copiesAt x) t (copyAt m) v u 0 (omega arith) ∙ update2-column W t copiesAt x u 0 (omega arith)) i;
-        expected = λ u s. (column-stays initiators expectedAt (update2 W t copiesAt x) t v (copyAt m) (λ j l e. omega arith) u s ∙ column-stays initiators expectedAt W t x copiesAt (λ j l e. omega arith) u s) i;
-        local = λ u. (update2-column (update2 W t copiesAt x) t (copyAt m) v u 17 (omega arith) ∙ update2-column W t copiesAt x u 17 (omega arith)) i;
-        copy = λ n u. counted-put copyAt copiesAt W t v m h (λ j l e. omega arith) (λ j l e. omega arith) n u i;
-        acks = λ n u. (column-stays rooms acksAt (update2 W t copiesAt x) t v (copyAt m) (λ j l e. omega arith) u n ∙ column-stays rooms acksAt W t x copiesAt (λ j l e. omega arith) u n) i;
-        queue = λ n u. counted ((update2-column (update2 W t copiesAt x) t (copyAt m) v u entriesAt (omega arith) ∙ update2-column W t copiesAt x u entriesAt (omega arith)) i) n ((column-stays rooms queueAt (update2 W t copiesAt x) t v (copyAt m) (λ j l e. omega arith) u n ∙ column-stays rooms queueAt W t x copiesAt (λ j l e. omega arith) u n) i);
-      }
+-- a room's copy and ack list: one bit says that both count
+module _ (W : ℕ → ℕ → ℕ) (t m copy acks : ℕ) (inside : m < rooms) where
+  abbrev copies : ℕ
+  copies = countedWith (W t copiesAt) m (bitOr copy acks)
 
-  pub queue-put : (m : ℕ) → m < rooms → stationsOf (update2 (update2 W t entriesAt (countedWith (W t entriesAt) m v)) t (queueAt m) v) ≡ withQueue (stationsOf W) m t v
-  queue-put m h =
-      let x = countedWith (W t entriesAt) m v in
-      λ i. record {
-        sent = λ u. (update2-column (update2 W t entriesAt x) t (queueAt m) v u 0 (omega arith) ∙ update2-column W t entriesAt x u 0 (omega arith)) i;
-        expected = λ u s. (column-stays initiators expectedAt (update2 W t entriesAt x) t v (queueAt m) (λ j l e. omega arith) u s ∙ column-stays initiators expectedAt W t x entriesAt (λ j l e. omega arith) u s) i;
-        local = λ u. (update2-column (update2 W t entriesAt x) t (queueAt m) v u 17 (omega arith) ∙ update2-column W t entriesAt x u 17 (omega arith)) i;
-        copy = λ n u. counted ((update2-column (update2 W t entriesAt x) t (queueAt m) v u copiesAt (omega arith) ∙ update2-column W t entriesAt x u copiesAt (omega arith)) i) n ((column-stays rooms copyAt (update2 W t entriesAt x) t v (queueAt m) (λ j l e. omega arith) u n ∙ column-stays rooms copyAt W t x entriesAt (λ j l e. omega arith) u n) i);
-        acks = λ n u. (column-stays rooms acksAt (update2 W t entriesAt x) t v (queueAt m) (λ j l e. omega arith) u n ∙ column-stays rooms acksAt W t x entriesAt (λ j l e. omega arith) u n) i;
-        queue = λ n u. counted-put queueAt entriesAt W t v m h (λ j l e. omega arith) (λ j l e. omega arith) n u i;
-      }
+  abbrev noted : ℕ → ℕ → ℕ
+  noted = update2 W t copiesAt copies
+
+  abbrev copied : ℕ → ℕ → ℕ
+  copied = update2 noted t (copyAt m) copy
+
+  abbrev listed : ℕ → ℕ → ℕ
+  listed = update2 copied t (acksAt m) acks
+
+  room-word : (u k : ℕ) → (k ≡ copiesAt → ⊥) → (k ≡ copyAt m → ⊥) → (k ≡ acksAt m → ⊥) → listed u k ≡ W u k
+  room-word u k a b c = update2-column copied t (acksAt m) acks u k c ∙ update2-column noted t (copyAt m) copy u k b ∙ update2-column W t copiesAt copies u k a
+
+  room-column : (n : ℕ) (pos : ℕ → ℕ) → ((j : ℕ) → j < n → pos j ≡ copiesAt → ⊥) → ((j : ℕ) → j < n → pos j ≡ copyAt m → ⊥) → ((j : ℕ) → j < n → pos j ≡ acksAt m → ⊥)
+      → (u j : ℕ) → column n pos listed u j ≡ column n pos W u j
+  room-column n pos a b c u j = column-stays n pos copied t acks (acksAt m) c u j ∙ column-stays n pos noted t copy (copyAt m) b u j ∙ column-stays n pos W t copies copiesAt a u j
+
+  copies-put : (u : ℕ) → listed u copiesAt ≡ cond (eqb u t) copies (W u copiesAt)
+  copies-put u = update2-column copied t (acksAt m) acks u copiesAt (omega arith) ∙ update2-column noted t (copyAt m) copy u copiesAt (omega arith) ∙ word-put W t copiesAt copies u
+
+  others : (n : ℕ) → (n ≡ m → ⊥) → has copies n ≡ has (W t copiesAt) n
+  others n d = counted-other (W t copiesAt) m n (bitOr copy acks) d
+
+  copy-put : (n u : ℕ) → column rooms copyAt listed u n ≡ cond (eqb n m && eqb u t) copy (column rooms copyAt W u n)
+  copy-put n u =
+      column-stays rooms copyAt copied t acks (acksAt m) (λ j l e. omega arith) u n
+      ∙ column-put-turned rooms copyAt noted t copy m inside (λ j l e. omega arith) n u
+      ∙ ap (λ (y : ℕ). cond (eqb n m && eqb u t) copy y) (column-stays rooms copyAt W t copies copiesAt (λ j l e. omega arith) u n)
+
+  list-put : (n u : ℕ) → column rooms acksAt listed u n ≡ cond (eqb n m && eqb u t) acks (column rooms acksAt W u n)
+  list-put n u =
+      column-put-turned rooms acksAt copied t acks m inside (λ j l e. omega arith) n u
+      ∙ ap (λ (y : ℕ). cond (eqb n m && eqb u t) acks y)
+      (column-stays rooms acksAt noted t copy (copyAt m) (λ j l e. omega arith) u n ∙ column-stays rooms acksAt W t copies copiesAt (λ j l e. omega arith) u n)
+
+  pub room-put : stationsOf listed ≡ withRoom (stationsOf W) m t copy acks
+  room-put = λ i. record {
+    sent = λ u. room-word u 0 (omega arith) (omega arith) (omega arith) i;
+    expected = λ u s. room-column initiators expectedAt (λ j l e. omega arith) (λ j l e. omega arith) (λ j l e. omega arith) u s i;
+    local = λ u. room-word u 17 (omega arith) (omega arith) (omega arith) i;
+    copy = λ n u. counted-put copyAt copiesAt W listed t m copies copy copy-put copies-put (counted-kept (W t copiesAt) m (bitOr copy acks) copy (λ e. either-empty copy acks e .0)) others n u i;
+    acks = λ n u. counted-put acksAt copiesAt W listed t m copies acks list-put copies-put (counted-kept (W t copiesAt) m (bitOr copy acks) acks (λ e. either-empty copy acks e .1)) others n u i;
+    queue = λ n u. counted (room-word u entriesAt (omega arith) (omega arith) (omega arith) i) n (room-column rooms queueAt (λ j l e. omega arith) (λ j l e. omega arith) (λ j l e. omega arith) u n i);
+  }
+
+-- what stood there, put again, changes nothing
+same-put : (F : ℕ → ℕ → ℕ) (m t : ℕ) → update2 F m t (F m t) ≡ F
+same-put F m t =
+    fun-ext (λ n. fun-ext (λ u.
+    by-test (eqb n m)
+    (λ p. by-test (eqb u t) (λ q. rw (p, q, eqb-true n m p, eqb-true u t q)) (λ q. rw (p, q)))
+    (λ p. rw p)))
+
+module _ (S : Stations) (m t carts : ℕ) where
+  pub acks-stay : withRoom S m t carts (S .acks m t) ≡ withCopy S m t carts
+  acks-stay = ap (λ (F : ℕ → ℕ → ℕ). record { sent = S .sent; expected = S .expected; local = S .local; copy = update2 (S .copy) m t carts; acks = F; queue = S .queue }) (same-put (S .acks) m t)
+
+  pub copy-stays : withRoom S m t (S .copy m t) carts ≡ withAcks S m t carts
+  copy-stays = ap (λ (F : ℕ → ℕ → ℕ). record { sent = S .sent; expected = S .expected; local = S .local; copy = F; acks = update2 (S .acks) m t carts; queue = S .queue }) (same-put (S .copy) m t)
 
 -- A CLEARED TABLE
 
@@ -204,7 +256,7 @@ no-words = λ i. record {
   expected = λ t s. column-zero initiators expectedAt (λ u k. 0) t s (λ k. refl) i;
   local = λ t. 0;
   copy = λ m t. counted-none m (column rooms copyAt (λ u k. 0) t m) i;
-  acks = λ m t. column-zero rooms acksAt (λ u k. 0) t m (λ k. refl) i;
+  acks = λ m t. counted-none m (column rooms acksAt (λ u k. 0) t m) i;
   queue = λ m t. counted-none m (column rooms queueAt (λ u k. 0) t m) i;
 }
 
@@ -227,20 +279,20 @@ module _ (l : List ℕ) (t : ℕ) (past : length l ≤ (1 + t) * width) where
   unfolding stationsIn
   sent-past = no-word 0
 
-  counted-past : (pos : ℕ → ℕ) (k m : ℕ) → counted (stationWord l t k) m (column rooms pos (stationWord l) t m) ≡ 0
-  counted-past pos k m = ap (λ (among : ℕ). counted among m (column rooms pos (stationWord l) t m)) (no-word k) ∙ counted-none m _
+  counted-past : (pos : ℕ → ℕ) (k bit m : ℕ) → counted (stationWord l t k) bit (column rooms pos (stationWord l) t m) ≡ 0
+  counted-past pos k bit m = ap (λ (among : ℕ). counted among bit (column rooms pos (stationWord l) t m)) (no-word k) ∙ counted-none bit _
 
   pub copy-past : (m : ℕ) → stationsIn l .copy m t ≡ 0
   unfolding stationsIn
-  copy-past m = counted-past copyAt copiesAt m
+  copy-past m = counted-past copyAt copiesAt m m
 
   pub acks-past : (m : ℕ) → stationsIn l .acks m t ≡ 0
   unfolding stationsIn
-  acks-past m = column-zero rooms acksAt (stationWord l) t m no-word
+  acks-past m = counted-past acksAt copiesAt m m
 
   pub queue-past : (m : ℕ) → stationsIn l .queue m t ≡ 0
   unfolding stationsIn
-  queue-past m = counted-past queueAt entriesAt m
+  queue-past m = counted-past queueAt entriesAt m m
 
   pub expected-past : (s : ℕ) → stationsIn l .expected t s ≡ 0
   unfolding stationsIn
@@ -252,33 +304,47 @@ unfolding stationsIn
 expected-beyond l t s h = column-beyond initiators expectedAt (stationWord l) t s h
 
 module _ (l : List ℕ) (m t : ℕ) where
-  counted-beyond : (pos : ℕ → ℕ) (k : ℕ) → rooms ≤ m → counted (stationWord l t k) m (column rooms pos (stationWord l) t m) ≡ 0
-  counted-beyond pos k h = ap (counted (stationWord l t k) m) (column-beyond rooms pos (stationWord l) t m h) ∙ counted-zero (stationWord l t k) m
+  counted-beyond : (pos : ℕ → ℕ) (k bit : ℕ) → rooms ≤ m → counted (stationWord l t k) bit (column rooms pos (stationWord l) t m) ≡ 0
+  counted-beyond pos k bit h = ap (counted (stationWord l t k) bit) (column-beyond rooms pos (stationWord l) t m h) ∙ counted-zero (stationWord l t k) bit
 
   pub copy-beyond : rooms ≤ m → stationsIn l .copy m t ≡ 0
   unfolding stationsIn
-  copy-beyond h = counted-beyond copyAt copiesAt h
+  copy-beyond h = counted-beyond copyAt copiesAt m h
+
+  pub acks-beyond : rooms ≤ m → stationsIn l .acks m t ≡ 0
+  unfolding stationsIn
+  acks-beyond h = counted-beyond acksAt copiesAt m h
 
   pub queue-beyond : rooms ≤ m → stationsIn l .queue m t ≡ 0
   unfolding stationsIn
-  queue-beyond h = counted-beyond queueAt entriesAt h
+  queue-beyond h = counted-beyond queueAt entriesAt m h
 
-  -- WHERE A SEARCH NEED NOT LOOK: at a room that is not among those that count
-  not-among : (pos : ℕ → ℕ) (k : ℕ) → has (setOf rooms (has (stationWord l t k))) m ≡ false
-      → counted (stationWord l t k) m (column rooms pos (stationWord l) t m) ≡ 0
-  not-among pos k out =
-      by-lt m rooms
-      (λ h. ap (λ (b : Bool). cond b (column rooms pos (stationWord l) t m) 0) (sym (has-setOf rooms (has (stationWord l t k)) m h) ∙ out))
-      (λ h. counted-beyond pos k h)
-
+  -- WHERE A SEARCH NEED NOT LOOK: at a room whose entry does not count, at one with no ack list
   pub not-in-entries : has (entriesIn l t) m ≡ false → stationsIn l .queue m t ≡ 0
   unfolding stationsIn
-  not-in-entries out = not-among queueAt entriesAt out
+  not-in-entries out =
+      by-lt m rooms
+      (λ h. ap (λ (b : Bool). cond b (column rooms queueAt (stationWord l) t m) 0) (sym (has-setOf rooms (has (stationWord l t entriesAt)) m h) ∙ out))
+      queue-beyond
+
+  pub not-listing : has (listingIn (stationsIn l) t) m ≡ false → stationsIn l .acks m t ≡ 0
+  not-listing out =
+      by-lt m rooms
+      (λ h. eqb-true (stationsIn l .acks m t) 0 (not-false (eqb (stationsIn l .acks m t) 0) (sym (has-setOf rooms (λ n. someIn (stationsIn l .acks n t)) m h) ∙ out)))
+      acks-beyond
 
 -- the rooms that count, as sets to walk over
 module _ (l : List ℕ) (t : ℕ) where
   pub entries-word : entriesIn l t < 2 ^ 64
-  entries-word = rooms-word (stationWord l t entriesAt)
+  entries-word = rooms-word (has (stationWord l t entriesAt))
 
   pub entries-inside : (m : ℕ) → has (entriesIn l t) m ≡ true → m < rooms
   entries-inside m e = member-below rooms (entriesIn l t) m (setOf-lt rooms (has (stationWord l t entriesAt))) e
+
+-- the rooms with an ack list
+module _ (S : Stations) (t : ℕ) where
+  pub listing-word : listingIn S t < 2 ^ 64
+  listing-word = rooms-word (λ m. someIn (S .acks m t))
+
+  pub listing-inside : (m : ℕ) → has (listingIn S t) m ≡ true → m < rooms
+  listing-inside m e = member-below rooms (listingIn S t) m (setOf-lt rooms (λ n. someIn (S .acks n t))) e

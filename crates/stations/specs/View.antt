@@ -1,6 +1,6 @@
 -- THE STATIONS THAT A LENT TABLE HOLDS, and the stations with one entry changed.
 use mathlib.Core.Path.{_≡_}
-use mathlib.Core.Bool.{Bool, cond}
+use mathlib.Core.Bool.{Bool, not, cond}
 use mathlib.Core.List.{List}
 use Prim.Native.Nat.{ℕ, _+_, _*_}
 use lib.Dec.{eqb}
@@ -10,8 +10,8 @@ use Rattle.protocol.specs.Folds.{update, update2}
 use Rattle.rows.specs.Rows.{cell, column, RowIn}
 
 -- THE WORDS: row 0 is the floor's own, with the mark, how many stations, how many carts. Row 1 + t is station t's: word 0 says how many
--- messages it has sent, words 1 to 16 the numbers that it expects, word 17 its local carts; then each room has three words; words 114 and 115
--- say which rooms' copies and which rooms' queue entries count: where a room is not among them, there is none, whatever its word says.
+-- messages it has sent, words 1 to 16 the numbers that it expects, word 17 its local carts; then each room has three words; word 114 says which
+-- rooms' copies and ack lists count, and word 115 which rooms' queue entries: where a room is not among them, there is none, whatever its words say.
 
 -- the words of a row
 abbrev pub width : ℕ
@@ -89,20 +89,20 @@ acksAt m = 19 + 3 * m
 abbrev pub queueAt : ℕ → ℕ
 queueAt m = 20 + 3 * m
 
--- where it stands which rooms' copies count, and which rooms' entries
+-- where it stands which rooms' copies and ack lists count, and which rooms' entries
 abbrev pub copiesAt : ℕ
 copiesAt = 114
 
 abbrev pub entriesAt : ℕ
 entriesAt = 115
 
--- the word of room m counts where the room is among those
+-- a word counts where its bit is among those
 abbrev pub counted : ℕ → ℕ → ℕ → ℕ
-counted among m word = cond (has among m) word 0
+counted among bit word = cond (has among bit) word 0
 
--- the rooms that count once room m has that word: an empty one need not
+-- the bits that count once the one has that word: an empty one need not
 abbrev pub countedWith : ℕ → ℕ → ℕ → ℕ
-countedWith among m word = cond (eqb word 0) (without among m) (with among m)
+countedWith among bit word = cond (eqb word 0) (without among bit) (with among bit)
 
 -- by the words of each row
 abbrev pub stationsOf : (ℕ → ℕ → ℕ) → Stations
@@ -112,7 +112,7 @@ stationsOf W =
       expected = λ t s. column initiators expectedAt W t s;
       local = λ t. W t 17;
       copy = λ m t. counted (W t copiesAt) m (column rooms copyAt W t m);
-      acks = λ m t. column rooms acksAt W t m;
+      acks = λ m t. counted (W t copiesAt) m (column rooms acksAt W t m);
       queue = λ m t. counted (W t entriesAt) m (column rooms queueAt W t m);
     }
 
@@ -128,9 +128,20 @@ entriesIn words t = setOf rooms (has (stationWord words t entriesAt))
 abbrev pub wordNames : List ℕ → ℕ → ℕ → ℕ → Bool
 wordNames l t c m = has (stationWord l t (copyAt m)) c
 
+-- is there a cart in a word; and in that of room m's ack list at t, whether it counts or not
+abbrev pub someIn : ℕ → Bool
+someIn word = not (eqb word 0)
+
+abbrev pub wordLists : List ℕ → ℕ → ℕ → Bool
+wordLists l t m = someIn (stationWord l t (acksAt m))
+
 -- the rooms whose copies at t name cart c
 abbrev pub namingIn : Stations → ℕ → ℕ → ℕ
 namingIn S t c = setOf rooms (λ m. has (S .copy m t) c)
+
+-- the rooms with an ack list at t
+abbrev pub listingIn : Stations → ℕ → ℕ
+listingIn S t = setOf rooms (λ m. someIn (S .acks m t))
 
 -- nothing at any station
 abbrev pub noStations : Stations
@@ -166,6 +177,10 @@ withCopy S m t carts =
 abbrev pub withAcks : Stations → ℕ → ℕ → ℕ → Stations
 withAcks S m t carts =
     record { sent = S .sent; expected = S .expected; local = S .local; copy = S .copy; acks = update2 (S .acks) m t carts; queue = S .queue }
+
+-- another copy and another ack list
+abbrev pub withRoom : Stations → ℕ → ℕ → ℕ → ℕ → Stations
+withRoom S m t copy acks = withAcks (withCopy S m t copy) m t acks
 
 -- another entry of the queue
 abbrev pub withQueue : Stations → ℕ → ℕ → ℕ → Stations

@@ -3,11 +3,12 @@ use ids::CartNumber;
 use ids::Station;
 ghost use mathlib.Core.Path.{_≡_};
 ghost use Prim.Native.Nat.{ℕ, _<_, _≤_};
+ghost use mathlib.Core.Bool.{cond};
 ghost use lib.Dec.{eqb};
 ghost use lib.ListN.{length, getD};
 ghost use Rattle.protocol.specs.CartSets.{has, setOf};
 ghost use Rattle.protocol.specs.Folds.{update2};
-ghost use Rattle.stations.specs.View.{width, initiators, rooms, HasHead, HasStation, countedWith, entriesIn, wordNames, namingIn, stationWord, head, headIn, stationsIn, noStations, withSent, withExpected, withLocal, withCopy, withAcks, withQueue, Leaves};
+ghost use Rattle.stations.specs.View.{width, initiators, rooms, HasHead, HasStation, countedWith, entriesIn, wordNames, wordLists, namingIn, listingIn, someIn, stationWord, head, headIn, stationsIn, noStations, withSent, withExpected, withLocal, withCopy, withAcks, withRoom, withQueue, Leaves};
 
 // A row of the table has this many words. Row 0 is the floor's own, row 1 + t is station t's.
 const WIDTH: usize = 116;
@@ -23,7 +24,8 @@ const STATIONS: usize = 1;
 const CARTS: usize = 2;
 
 // A station's row: how many messages it has sent; what it expects of each of sixteen initiators; its local carts; three words for each of
-// thirty-two rooms: the copy, the ack list, the queue's entry; and which rooms' copies and entries count, so that a search looks at no other.
+// thirty-two rooms: the copy, the ack list, the queue's entry; and which rooms' copies and ack lists count, and which rooms' entries, so that a search
+// looks at no other.
 const SENT: usize = 0;
 
 const EXPECTED: usize = 1;
@@ -167,15 +169,15 @@ fn rooms_among(word: u64) -> u64
     )
 }
 
-// The rooms that count once room m has that word.
-fn counted_with(among: u64, m: usize, word: u64) -> u64
-    requires { ⌜ m < rooms ⌝ }
-    ensures { λ r. ⌜ r ≡ countedWith among m word ⌝ }
+// The bits that count once the one has that word.
+fn counted_with(among: u64, bit: u64, word: u64) -> u64
+    requires { ⌜ bit < 64 ⌝ }
+    ensures { λ r. ⌜ r ≡ countedWith among bit word ⌝ }
 {
     if word == 0 {
-        sets::without_member(among, m as u64)
+        sets::without_member(among, bit)
     } else {
-        sets::with_member(among, m as u64)
+        sets::with_member(among, bit)
     }
 }
 
@@ -228,30 +230,83 @@ pub fn rooms_naming(stations: &[u64], station: Station, cart: CartNumber) -> u64
     words_naming(stations, station, cart, products::ROOMS) & copies
 }
 
-// The station has another copy.
-pub fn put_copy(stations: &mut [u64], m: usize, station: Station, carts: u64)
-    requires { ⌜ HasStation (now stations) (station .0) × (m < rooms) ⌝ }
-    ensures { λ _. ⌜ Leaves (now (stations .entry)) (now (stations .exit)) (withCopy (stationsIn (now (stations .entry))) m (station .0) carts) ⌝ }
+// 1 where the word is not empty.
+fn one_if_any(word: u64) -> u64
+    ensures { λ r. ⌜ r ≡ cond (someIn word) 1 0 ⌝ }
 {
-    let among = counted_with(word_of(stations, station, COPIES), m, carts);
-    put_word(stations, station, COPIES, among);
-    put_word(stations, station, COPY + ROOM * m, carts);
+    if word != 0 { 1 } else { 0 }
 }
 
-// "the station's ack list for the message" in room m.
+// The first rooms, so many, whose words for an ack list are not empty, whether these count or not.
+fn words_listing(stations: &[u64], station: Station, n: usize) -> u64
+    requires { ⌜ HasStation (now stations) (station .0) × (n ≤ rooms) ⌝ }
+    ensures { λ r. ⌜ r ≡ setOf n (wordLists (now (stations .entry)) (station .0)) ⌝ }
+{
+    let mut listing: u64 = 0;
+    let mut m = n;
+    while 0 < m {
+        m -= 1;
+        listing = listing * 2 + one_if_any(word_of(stations, station, ACKS + ROOM * m));
+    }
+    listing
+}
+
+// The rooms with an ack list at the station, looked for as those are whose copies name a cart.
+pub fn rooms_listing(stations: &[u64], station: Station) -> u64
+    requires { ⌜ HasStation (now stations) (station .0) ⌝ }
+    ensures { λ r. ⌜ r ≡ listingIn (stationsIn (now (stations .entry))) (station .0) ⌝ }
+{
+    let counted = word_of(stations, station, COPIES);
+    if counted == 0 {
+        return 0;
+    }
+    if counted < PAST_HALF {
+        return words_listing(stations, station, HALF) & counted;
+    }
+    words_listing(stations, station, products::ROOMS) & counted
+}
+
+// "the station's ack list for the message" in room m. Whether there is one yet cannot be guessed: its word is read first, and then chosen without a
+// branch.
 pub fn acks_of(stations: &[u64], m: usize, station: Station) -> u64
     requires { ⌜ HasStation (now stations) (station .0) × (m < rooms) ⌝ }
     ensures { λ r. ⌜ r ≡ stationsIn (now (stations .entry)) .acks m (station .0) ⌝ }
 {
-    word_of(stations, station, ACKS + ROOM * m)
+    let word = word_of(stations, station, ACKS + ROOM * m);
+    if sets::has(word_of(stations, station, COPIES), m as u64) {
+        word
+    } else {
+        0
+    }
 }
 
-// The station has another ack list for it.
+// The station has another copy and another ack list of room m: both count where one of them is not empty.
+pub fn put_room(stations: &mut [u64], m: usize, station: Station, copy: u64, acks: u64)
+    requires { ⌜ HasStation (now stations) (station .0) × (m < rooms) ⌝ }
+    ensures { λ _. ⌜ Leaves (now (stations .entry)) (now (stations .exit)) (withRoom (stationsIn (now (stations .entry))) m (station .0) copy acks) ⌝ }
+{
+    let among = counted_with(word_of(stations, station, COPIES), m as u64, copy | acks);
+    put_word(stations, station, COPIES, among);
+    put_word(stations, station, COPY + ROOM * m, copy);
+    put_word(stations, station, ACKS + ROOM * m, acks);
+}
+
+// The station has another copy; its ack list stays.
+pub fn put_copy(stations: &mut [u64], m: usize, station: Station, carts: u64)
+    requires { ⌜ HasStation (now stations) (station .0) × (m < rooms) ⌝ }
+    ensures { λ _. ⌜ Leaves (now (stations .entry)) (now (stations .exit)) (withCopy (stationsIn (now (stations .entry))) m (station .0) carts) ⌝ }
+{
+    let acks = acks_of(stations, m, station);
+    put_room(stations, m, station, carts, acks);
+}
+
+// The station has another ack list; its copy stays.
 pub fn put_acks(stations: &mut [u64], m: usize, station: Station, carts: u64)
     requires { ⌜ HasStation (now stations) (station .0) × (m < rooms) ⌝ }
     ensures { λ _. ⌜ Leaves (now (stations .entry)) (now (stations .exit)) (withAcks (stationsIn (now (stations .entry))) m (station .0) carts) ⌝ }
 {
-    put_word(stations, station, ACKS + ROOM * m, carts);
+    let copy = copy_of(stations, m, station);
+    put_room(stations, m, station, copy, carts);
 }
 
 // The carts queued at the station for the message in room m.
@@ -270,7 +325,7 @@ pub fn put_queue(stations: &mut [u64], m: usize, station: Station, carts: u64)
     requires { ⌜ HasStation (now stations) (station .0) × (m < rooms) ⌝ }
     ensures { λ _. ⌜ Leaves (now (stations .entry)) (now (stations .exit)) (withQueue (stationsIn (now (stations .entry))) m (station .0) carts) ⌝ }
 {
-    let among = counted_with(word_of(stations, station, ENTRIES), m, carts);
+    let among = counted_with(word_of(stations, station, ENTRIES), m as u64, carts);
     put_word(stations, station, ENTRIES, among);
     put_word(stations, station, QUEUE + ROOM * m, carts);
 }

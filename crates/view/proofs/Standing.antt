@@ -1,17 +1,17 @@
 -- A FLOOR IN LENT PARTS THAT PASSES THE FORM RULE: what follows for its words and its numbers, and that there is room on the lines.
 use mathlib.Core.Path.{_≡_, refl, sym, ap, _∙_}
-use mathlib.Core.Bool.{Bool, true}
+use mathlib.Core.Bool.{Bool, true, _&&_}
 use mathlib.Core.List.{List, [], _∷_}
-use Prim.Native.Nat.{ℕ, _+_, _-_, _≤_, _<_}
+use Prim.Native.Nat.{ℕ, _+_, _-_, _*_, _≤_, _<_}
 use native.Mathlib.Omega.{arith}
 use lib.Dec.{eqb}
 use Rattle.protocol.specs.Folds.{sum}
-use Rattle.protocol.specs.Floor.{Limits, limitsOf, mostRecords, Floor, Record, put, between, onTheLines}
+use Rattle.protocol.specs.Floor.{Limits, limitsOf, mostRecords, Floor, Record, behead, put, between, onTheLines}
 use Rattle.protocol.specs.Events.{Event}
 use Rattle.protocol.specs.Claims.{All}
 use Rattle.protocol.specs.Form.{passesForm, bit}
 use Rattle.protocol.specs.Step.{step}
-use Rattle.protocol.proofs.Tests.{and-intro, eqb-self}
+use Rattle.protocol.proofs.Tests.{and-intro, by-test, eqb-self}
 use Rattle.protocol.proofs.Counting.{sum-term}
 use Rattle.protocol.proofs.FormFacts.{FormFacts}
 use Rattle.protocol.proofs.FormTest.{clauses-of, form-of, sized-of}
@@ -19,9 +19,11 @@ use Rattle.protocol.proofs.Sized.{Sized, OnFloor}
 use Rattle.protocol.proofs.Theorems.{form-closed, record-bound}
 use Rattle.lines.specs.Lines.{used}
 use Rattle.lines.specs.Words.{capacity}
+use Rattle.lines.specs.Post.{Popped}
 use Rattle.view.specs.View.{Lent, floorIn}
 use Rattle.view.proofs.Lengths.{Lengths, lengths-of, nothing-beyond}
 use Rattle.view.proofs.Laid.{Laid, laid-of}
+use Rattle.view.proofs.LinesView.{pop-view}
 use Rattle.view.proofs.Room.{used-view, put-counts, fewer-stations}
 
 pub record Standing (L : Lent) : Type 0 where
@@ -58,6 +60,10 @@ empty-of : (P : Record → Type 0) (l : List Record) → All P l → ((r : Recor
 empty-of P [] h never = refl
 empty-of P (r ∷ l) h never = absurd (never r (h .0))
 
+-- and have none without a head
+behead-none : (i j : ℕ) (lines : ℕ → ℕ → List Record) (a b : ℕ) → lines a b ≡ [] → behead i j lines a b ≡ []
+behead-none i j lines a b e = by-test (eqb i a && eqb j b) (λ q. rw (q, e)) (λ q. rw (q, e))
+
 module _ (L : Lent) (X : Standing L) where
   abbrev F : Floor
   F = floorIn L
@@ -81,17 +87,35 @@ module _ (L : Lent) (X : Standing L) where
       ∙ ap (λ (n : ℕ). onTheLines n (F .lines)) (sym all)
       ∙ fewer-stations (F .stations) (16 - F .stations) (F .lines) no-line-from no-line-to
 
-  -- as many as an event puts on the lines have room: the floor that it leaves passes again, so it has no more than there may be
-  pub room-after : (e : Event) (on : ℕ → ℕ → Bool) (r : Record) → step N F e .stations ≡ F .stations → step N F e .lines ≡ put on r (F .lines)
-      → used (L .lines) + sum (F .stations) (λ i. sum (F .stations) (λ j. bit (on i j))) ≤ capacity (L .lines)
-  room-after e on r same after =
+  -- and once the head of one is taken off, those that are left there
+  pub used-popped : (W₁ : List ℕ) (i j : ℕ) → i < 16 → j < 16 → Popped (L .lines) W₁ (i * 16 + j) → used W₁ ≡ onTheLines (F .stations) (behead i j (F .lines))
+  used-popped W₁ i j li lj popped =
+      let few = X .sized .counts .stations in
+      let most = L .product .stations-fit in
+      let all : F .stations + (16 - F .stations) ≡ 16 = omega arith in
+      used-view W₁
+      ∙ ap (λ (f : ℕ → ℕ → List Record). onTheLines 16 f) (pop-view (L .lines) W₁ i j li lj popped)
+      ∙ ap (λ (n : ℕ). onTheLines n (behead i j (F .lines))) (sym all)
+      ∙ fewer-stations (F .stations) (16 - F .stations) (behead i j (F .lines))
+      (λ a b l. behead-none i j (F .lines) a b (no-line-from a b l)) (λ a b l. behead-none i j (F .lines) a b (no-line-to a b l))
+
+  -- the floor that an event leaves passes again, so it has no more records than the lines have room for
+  pub fits-after : (e : Event) → step N F e .stations ≡ F .stations → onTheLines (F .stations) (step N F e .lines) ≤ capacity (L .lines)
+  fits-after e same =
       let B = nothing-beyond L (X .lengths) (X .laid) in
       let next = form-closed N F e B (X .passes) in
       let bound = record-bound N (step N F e) (next .0) (next .1) in
-      let bound' : onTheLines (F .stations) (put on r (F .lines)) ≤ mostRecords N = rw (same, after) at bound in
+      let bound' : onTheLines (F .stations) (step N F e .lines) ≤ mostRecords N = rw same at bound in
+      let b = rooms-in-pool L (X .lengths) in
+      omega arith
+
+  -- as many as an event puts on the lines have room
+  pub room-after : (e : Event) (on : ℕ → ℕ → Bool) (r : Record) → step N F e .stations ≡ F .stations → step N F e .lines ≡ put on r (F .lines)
+      → used (L .lines) + sum (F .stations) (λ i. sum (F .stations) (λ j. bit (on i j))) ≤ capacity (L .lines)
+  room-after e on r same after =
+      let bound : onTheLines (F .stations) (put on r (F .lines)) ≤ capacity (L .lines) = rw after at (fits-after e same) in
       let counts = put-counts (F .stations) on r (F .lines) in
       let a = used-on-floor in
-      let b = rooms-in-pool L (X .lengths) in
       omega arith
 
 -- one line picked is one

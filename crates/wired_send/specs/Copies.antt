@@ -2,11 +2,11 @@
 use mathlib.Core.Bool.{cond}
 use Prim.Native.Nat.{ℕ}
 use lib.Dec.{eqb}
-use Rattle.stations.specs.View.{Stations, withCopy, withAcks, withQueue}
+use Rattle.stations.specs.View.{Stations, withRoom, withQueue}
 
 -- of the message in room m, at station t
 abbrev pub withoutCopy : Stations → ℕ → ℕ → Stations
-withoutCopy S m t = withQueue (withAcks (withCopy S m t 0) m t 0) m t 0
+withoutCopy S m t = withQueue (withRoom S m t 0 0) m t 0
 
 -- at every station
 abbrev pub withoutCopies : Stations → ℕ → Stations

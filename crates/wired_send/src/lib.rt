@@ -38,8 +38,7 @@ fn clear_copy(stations: &mut [u64], m: usize, station: Station)
     requires { ⌜ HasStation (now stations) (station .0) × (m < rooms) ⌝ }
     ensures { λ _. ⌜ Leaves (now (stations .entry)) (now (stations .exit)) (withoutCopy (stationsIn (now (stations .entry))) m (station .0)) ⌝ }
 {
-    stations::put_copy(stations, m, station, 0);
-    stations::put_acks(stations, m, station, 0);
+    stations::put_room(stations, m, station, 0, 0);
     stations::put_queue(stations, m, station, 0);
 }
 

@@ -11,7 +11,7 @@ use Rattle.protocol.specs.CartSets.{has, minus, with, without}
 use Rattle.protocol.specs.Floor.{Floor}
 use Rattle.protocol.proofs.SetLaws.{has-zero, has-setOf}
 use Rattle.protocol.proofs.Tests.{and-right, by-lt, by-test, clash, on-update2}
-use Rattle.stations.specs.View.{Stations, stationsIn, namingIn, withCopy, withAcks, withQueue}
+use Rattle.stations.specs.View.{Stations, stationsIn, namingIn, withCopy, withAcks, withRoom, withQueue}
 use Rattle.queue.specs.Rooms.{roomCode, roomIn}
 use Rattle.catchup.specs.Nearest.{nearestAmong, stopBy}
 use Rattle.catchup.specs.Arrival.{isFound, queuedFor}
@@ -51,10 +51,10 @@ received-stations X X₁ X₂ m t c q q′ a a′ e₁ e₂ e₃ e₄ e₅ e₆ 
     entry : X₁ ≡ withQueue X m t (without (X .queue m t) c)
     entry = e₃ ∙ ap (withQueue X m t) (e₂ ∙ ap (λ (x : ℕ). without x c) e₁)
 
--- the copy, then the ack list
-pub sent-stations : (X X₁ X₂ : Stations) (m t a k d : ℕ) → a ≡ X .acks m t → k ≡ X .copy m t → d ≡ minus k a → X₁ ≡ withCopy X m t d → X₂ ≡ withAcks X₁ m t 0
-    → X₂ ≡ withAcks (withCopy X m t (minus (X .copy m t) (X .acks m t))) m t 0
-sent-stations X X₁ X₂ m t a k d e₁ e₂ e₃ e₄ e₅ = e₅ ∙ ap (λ (Y : Stations). withAcks Y m t 0) (e₄ ∙ ap (withCopy X m t) (e₃ ∙ ap₂ minus e₂ e₁))
+-- the list's carts are struck from the copy
+pub sent-stations : (X X₁ : Stations) (m t a k d : ℕ) → a ≡ X .acks m t → k ≡ X .copy m t → d ≡ minus k a → X₁ ≡ withRoom X m t d 0
+    → X₁ ≡ withRoom X m t (minus (X .copy m t) (X .acks m t)) 0
+sent-stations X X₁ m t a k d e₁ e₂ e₃ e₄ = e₄ ∙ ap (λ (x : ℕ). withRoom X m t x 0) (e₃ ∙ ap₂ minus e₂ e₁)
 
 module _ (F : Floor) (t c s x : ℕ) where
   -- what was found, from its word

@@ -8,7 +8,7 @@ use lib.ListN.{length}
 use Rattle.protocol.specs.CartSets.{minus, with, without}
 use Rattle.protocol.specs.Floor.{Floor}
 use Rattle.sets.specs.Masks.{disjoint}
-use Rattle.stations.specs.View.{Stations, stationsIn, headIn, withCopy, withAcks, withQueue}
+use Rattle.stations.specs.View.{Stations, stationsIn, headIn, withAcks, withRoom, withQueue}
 use Rattle.carts.specs.View.{cartsIn, canonicalIn, withNext}
 use Rattle.lines.specs.Post.{Pushed}
 use Rattle.view.specs.Records.{wordsOf}
@@ -30,14 +30,25 @@ pub record Received (S S′ C C′ : List ℕ) (m s n t c x : ℕ) : Type 0 wher
   pub canonical : canonicalIn C′ ≡ canonicalIn C
   pub rows : length C′ ≡ length C
 
+-- the carts of the ack list for room m at t are struck from the copy, and the list is empty
+abbrev pub sentFrom : Stations → ℕ → ℕ → Stations
+sentFrom X m t = withRoom X m t (minus (X .copy m t) (X .acks m t)) 0
+
+-- and it is on its way from t to s: the list for message n of s
+pub record ListSent (S S′ W W′ : List ℕ) (m s n t : ℕ) : Type 0 where
+  pub stations : stationsIn S′ ≡ sentFrom (stationsIn S) m t
+  pub lines : Pushed W W′ (t * 16 + s) (wordsOf 2 m n (stationsIn S .acks m t))
+  pub head : headIn S′ ≡ headIn S
+  pub words : length S′ ≡ length S
+
 -- no local cart at t is in the copy of room m without the ack list
 abbrev pub holdNone : Stations → ℕ → ℕ → Bool
 holdNone X m t = disjoint 64 (X .local t) (minus (X .copy m t) (X .acks m t))
 
--- if so, the ack list for message n of s, in room m, is on its way from t to s, its carts are struck from the copy, and it is empty; w records went
+-- if so, the ack list for message n of s, in room m, has gone; w records went
 pub record AcksSent (S S′ W W′ : List ℕ) (m s n t w : ℕ) : Type 0 where
   pub yes : let X = stationsIn S in holdNone X m t ≡ true
-      → (stationsIn S′ ≡ withAcks (withCopy X m t (minus (X .copy m t) (X .acks m t))) m t 0) × Pushed W W′ (t * 16 + s) (wordsOf 2 m n (X .acks m t)) × (w ≡ 1)
+      → (stationsIn S′ ≡ sentFrom X m t) × Pushed W W′ (t * 16 + s) (wordsOf 2 m n (X .acks m t)) × (w ≡ 1)
   pub no : holdNone (stationsIn S) m t ≡ false → (stationsIn S′ ≡ stationsIn S) × (W′ ≡ W) × (w ≡ 0)
   pub head : headIn S′ ≡ headIn S
   pub words : length S′ ≡ length S

@@ -14,7 +14,7 @@ ghost use Rattle.queue.specs.Rooms.{roomCount, HasRooms};
 ghost use Rattle.lines.specs.Form.{form};
 ghost use Rattle.lines.specs.Lines.{used};
 ghost use Rattle.lines.specs.Words.{capacity};
-ghost use Rattle.wireless.specs.Handed.{tookFrom, Received, holdNone, AcksSent, CaughtUp, HandedOver};
+ghost use Rattle.wireless.specs.Handed.{tookFrom, Received, ListSent, holdNone, AcksSent, CaughtUp, HandedOver};
 
 // "its next number rises": the cart's record is handed in and handed back. That number alone is new in it, so that alone is stored, and answered.
 fn raise_next(carts: &mut [u64], initiator: Station, n: MessageNumber, number: CartNumber) -> u64
@@ -57,8 +57,31 @@ fn receive(
     raise_next(carts, initiator, n, number)
 }
 
-// "Then, if every local cart in the copy is in the ack list, the list goes to the initiator, its carts are struck from the copy, and the list
-// is emptied." Answers how many records went: 1 or 0.
+// "the list goes to the initiator, its carts are struck from the copy, and the list is emptied": that of the message in room m, with number n.
+pub fn send_acks(
+    stations: &mut [u64],
+    lines: &mut [u64],
+    m: usize,
+    initiator: Station,
+    n: MessageNumber,
+    station: Station,
+)
+    requires { ⌜ HasStation (now stations) (station .0) × (station .0 < 16) × (m < rooms) × (initiator .0 < initiators) × (n .0 < 4294967296) ⌝ }
+    requires { ⌜ (form (now lines) ≡ true) × (used (now lines) < capacity (now lines)) ⌝ }
+    ensures { λ _. ⌜ ListSent (now (stations .entry)) (now (stations .exit)) (now (lines .entry)) (now (lines .exit)) m (initiator .0) (n .0) (station .0) ⌝ }
+{
+    let acks = stations::acks_of(stations, m, station);
+    let copy = stations::copy_of(stations, m, station);
+    stations::put_room(stations, m, station, sets::minus(copy, acks), 0);
+    lines::push_back(
+        lines,
+        station.0 as usize,
+        initiator.0 as usize,
+        view::ack_list(m, n, acks),
+    );
+}
+
+// "Then, if every local cart in the copy is in the ack list, the list goes". Answers how many records went: 1 or 0.
 fn send_acks_if_all(
     stations: &mut [u64],
     lines: &mut [u64],
@@ -74,16 +97,7 @@ fn send_acks_if_all(
     if !queue::all_acked(stations, m, station) {
         return 0;
     }
-    let acks = stations::acks_of(stations, m, station);
-    let copy = stations::copy_of(stations, m, station);
-    stations::put_copy(stations, m, station, sets::minus(copy, acks));
-    stations::put_acks(stations, m, station, 0);
-    lines::push_back(
-        lines,
-        station.0 as usize,
-        initiator.0 as usize,
-        view::ack_list(m, n, acks),
-    );
+    send_acks(stations, lines, m, initiator, n, station);
     1
 }
 

@@ -86,9 +86,9 @@ index-of-requires c κs = search needs
 
 on-deregister-requires : tie.Need-on-deregister-requires
 on-deregister-requires c κs =
-    let a = c .before .before .before .before .before .before .before .before .before .before .before .args in
-    let p = c .before .before .before .before .before .before .before .before .before .before .before .pre in
-    deregister-asks (p .product) (now (a .stations)) (now (a .carts)) (now (a .messages)) (p .lines) (now (a .lines)) (p .texts) (a .from .0) (a .to .0) (a .said) (p .taken) _ (c .before .before .before .before .index-of .ensures) (sym (c .before .before .before .before .before .before .kind-of .ensures) ∙ c .before .before .before .if4 .taken)
+    let a = c .before .before .before .before .before .before .before .before .before .before .before .before .args in
+    let p = c .before .before .before .before .before .before .before .before .before .before .before .before .pre in
+    deregister-asks (p .product) (now (a .stations)) (now (a .carts)) (now (a .messages)) (p .lines) (now (a .lines)) (p .texts) (a .from .0) (a .to .0) (a .said) (p .taken) _ (c .before .before .before .before .before .index-of .ensures) (sym (c .before .before .before .before .before .before .before .kind-of .ensures) ∙ c .before .before .before .before .if4 .taken)
 
 same-length-8 : tie.Need-same-length-8
 same-length-8 c = search needs
@@ -99,10 +99,14 @@ same-length-9 c = search needs
 same-length-10 : tie.Need-same-length-10
 same-length-10 c = search needs
 
+same-length-11 : tie.Need-same-length-11
+same-length-11 c = search needs
+
 returns-4 : tie.Need-returns-4
 returns-4 c =
-    let a = c .before .before .before .before .before .before .before .before .before .before .before .before .before .before .before .before .before .before .args in
-    λ P W T off. meets-deregister P (now (a .stations)) (now (a .carts)) (now (a .messages)) W (now (a .lines)) T (a .from .0) (a .to .0) (a .said) off _ (c .before .before .before .before .before .before .before .before .before .before .before .index-of .ensures) (sym (c .before .before .before .before .before .before .before .before .before .before .before .before .before .kind-of .ensures) ∙ c .before .before .before .before .before .before .before .before .before .before .if4 .taken) _ _ _ _ (c .before .before .before .before .before .before .on-deregister .ensures .0) (c .before .before .before .before .before .before .on-deregister .ensures .1)
+    let a = c .before .before .before .before .before .before .before .before .before .before .before .before .before .before .before .before .before .before .before .args in
+    let gone = c .before .before .before .before .before .before .on-deregister .ensures in
+    λ P W T off. meets-deregister P (now (a .stations)) (now (a .carts)) (now (a .messages)) W (now (a .lines)) T (a .from .0) (a .to .0) (a .said) off _ (c .before .before .before .before .before .before .before .before .before .before .before .before .index-of .ensures) (sym (c .before .before .before .before .before .before .before .before .before .before .before .before .before .before .kind-of .ensures) ∙ c .before .before .before .before .before .before .before .before .before .before .before .if4 .taken) _ _ _ _ (gone .0) (gone .1)
 
 register-of-requires : tie.Need-register-of-requires
 register-of-requires c κs =
@@ -122,9 +126,6 @@ on-register-requires c κs =
     let four = c .before .before .before .before .before .if4 .left in
     register-asks (p .product) (now (a .stations)) (now (a .carts)) (now (a .messages)) (p .lines) (now (a .lines)) (p .texts) (a .from .0) (a .to .0) (a .said) (p .taken) _ (c .before .before .before .before .before .before .index-of .ensures) (λ z. omega arith) (λ z. omega arith) (λ z. omega arith) (λ z. four (k ∙ z))
 
-same-length-11 : tie.Need-same-length-11
-same-length-11 c = search needs
-
 same-length-12 : tie.Need-same-length-12
 same-length-12 c = search needs
 
@@ -133,6 +134,9 @@ same-length-13 c = search needs
 
 same-length-14 : tie.Need-same-length-14
 same-length-14 c = search needs
+
+same-length-15 : tie.Need-same-length-15
+same-length-15 c = search needs
 
 returns-5 : tie.Need-returns-5
 returns-5 c =
@@ -167,11 +171,12 @@ handle-spec =
     same-length-8
     same-length-9
     same-length-10
+    same-length-11
     returns-4
     register-of-requires
     on-register-requires
-    same-length-11
     same-length-12
     same-length-13
     same-length-14
+    same-length-15
     returns-5)

@@ -41,7 +41,7 @@ returns c =
     let among = c .before .before .before .before .before .before .before .before .counted-with .ensures ∙ ap (λ (x : ℕ). countedWith x (a .m) (a .carts)) (c .before .before .before .before .before .before .before .before .before .word-of .ensures) in
     let both =
     q .0 ∙ ap (λ (X : ℕ → ℕ → ℕ). update2 X t (queueAt (a .m)) (a .carts)) (p .0 ∙ ap (λ (x : ℕ). update2 W t entriesAt x) among) in
-    (ap stationsOf both ∙ queue-put W t (a .carts) (a .m) (omega arith), (q .1 .0 ∙ p .1 .0, q .1 .1 ∙ p .1 .1))
+    (ap stationsOf both ∙ queue-put W t (a .m) (a .carts) (omega arith), (q .1 .0 ∙ p .1 .0, q .1 .1 ∙ p .1 .1))
 
 pub put-queue-spec : {M : Type 1} → statement M
 put-queue-spec =
