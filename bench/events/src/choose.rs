@@ -55,7 +55,7 @@ fn receiver(numbers: &mut Numbers, floor: &Floor) -> Option<Event> {
     let n = floor.stations() as u64;
     let from = numbers.below(n);
     (0..n).map(|k| (from + k) % n).find_map(|t| {
-        let (queued, _) = floor.head(StationNo(t as u8))?;
+        let queued = floor.head(StationNo(t as u8))?;
         let here = (0..64u64).filter(|&c| queued >> c & 1 == 1).find(|&c| {
             numbers.below(2) == 0 && floor.place(CartNo(c as u8)) == Place::At(StationNo(t as u8))
         })?;

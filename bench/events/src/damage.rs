@@ -51,7 +51,7 @@ fn held_room(numbers: &mut Numbers, messages: &[u64]) -> usize {
     }
 }
 
-/// At some station the copy or the queue's entry of a room counts that did not, or the other way round.
+/// At some station the copy and ack list, or the queue's entry, of a room count that did not, or the other way round.
 fn recount(numbers: &mut Numbers, w: &mut Words) {
     let room = held_room(numbers, &w.messages);
     let row = STATION_ROW * (1 + numbers.below(w.stations[1]) as usize);
@@ -113,18 +113,19 @@ fn many_numbers(numbers: &mut Numbers, w: &mut Words) {
     (0..n).for_each(|t| w.stations[row(t) + 1 + s] = sent);
 }
 
-/// Where a room has no copy at a station, or no entry in its queue: an empty word that counts, or any word that does not. Bits of no room are any.
+/// Where a room has no copy and no ack list at a station, or no entry in its queue: empty words that count, or any words that do not. Bits of no room
+/// are any.
 fn uncounted(numbers: &mut Numbers, stations: &mut [u64]) {
     for row in stations.chunks_exact_mut(STATION_ROW).skip(1) {
-        for (among, first) in [(COPIES, ROOM_WORDS), (ENTRIES, ROOM_WORDS + 2)] {
+        for (among, first, size) in [(COPIES, ROOM_WORDS, 2), (ENTRIES, ROOM_WORDS + 2, 1)] {
             for m in 0..32 {
-                let at = first + 3 * m;
-                if row[among] >> m & 1 == 1 && row[at] != 0 {
+                let at = first + 3 * m..first + 3 * m + size;
+                if row[among] >> m & 1 == 1 && row[at.clone()].iter().any(|&word| word != 0) {
                     continue;
                 }
                 let counts = numbers.below(2);
                 row[among] = row[among] & !(1 << m) | counts << m;
-                row[at] = if counts == 1 { 0 } else { numbers.next() };
+                row[at].fill_with(|| if counts == 1 { 0 } else { numbers.next() });
             }
             row[among] ^= numbers.next() << 32;
         }

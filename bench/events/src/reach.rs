@@ -36,7 +36,7 @@ fn step(numbers: &mut Numbers, floor: &mut Floor, weights: &[u64; 5], n: u64, k:
         }
         Some(2) => floor.move_cart(cart, t),
         Some(3) => {
-            let queued = floor.head(s).map_or(0, |(queued, _)| queued);
+            let queued = floor.head(s).unwrap_or(0);
             let cart = if queued == 0 { cart } else { CartNo(queued.trailing_zeros() as u8) };
             floor.radio(s, cart, &mut [0; 32]).map(|(step, _)| step)
         }

@@ -149,7 +149,7 @@ fn messages(floor: &mut Floor) -> Vec<Batch> {
     let multicasts = wire_all(floor);
     let mut radios = vec![];
     for t in (0..16).filter(|&t| t != BLOCKED) {
-        while let Some((queued, _)) = floor.head(StationNo(t as u8)) {
+        while let Some(queued) = floor.head(StationNo(t as u8)) {
             let radio = Event::Radio(t, queued.trailing_zeros() as u64);
             accept(floor, std::slice::from_ref(&radio));
             radios.push(radio);

@@ -1,6 +1,6 @@
 //! Damage to the words of a floor: a word or two replaced, which rooms count, a record doubled, a length changed.
 
-use plain::words::{Words, COPIES, LINES, RECORDS, REGISTERS, ROOM_WORDS, ROWS, STATION_ROW};
+use plain::words::{Words, COPIES, ENTRIES, LINES, RECORDS, REGISTERS, ROOM_WORDS, ROWS, STATION_ROW};
 use shared::numbers::Numbers;
 use shared::places::{travelling_cart, used_row};
 
@@ -28,14 +28,14 @@ fn double(numbers: &mut Numbers, lines: &mut [u64]) {
     lines.copy_within(from + 1..from + 3, to + 1);
 }
 
-/// At some station the copy or the queue's entry of a room counts that did not, or the other way round; half the time it is another one too.
+/// At some station the copy and ack list, or the queue's entry, of a room count that did not, or the other way round; half the time one is another, too.
 fn recount(numbers: &mut Numbers, stations: &mut [u64]) {
     let rows = stations.len() / STATION_ROW;
     let row = STATION_ROW * (1 + numbers.below(rows as u64 - 1) as usize);
-    let (room, entry) = (numbers.below(32) as usize, numbers.below(2) as usize);
-    stations[row + COPIES + entry] ^= 1 << room;
+    let (room, entry) = (numbers.below(32) as usize, numbers.below(3) as usize);
+    stations[row + [COPIES, COPIES, ENTRIES][entry]] ^= 1 << room;
     if numbers.below(2) == 0 {
-        replace(numbers, stations, row + ROOM_WORDS + 3 * room + 2 * entry);
+        replace(numbers, stations, row + ROOM_WORDS + 3 * room + entry);
     }
 }
 

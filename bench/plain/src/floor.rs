@@ -128,6 +128,14 @@ pub(crate) struct Buffered {
     pub queued: u64,
 }
 
+impl Buffered {
+    /// Whether the ack list "holds every local cart in the copy".
+    #[inline(always)]
+    pub(crate) fn is_complete(&self, local: u64) -> bool {
+        self.copy & local & !self.ack_list == 0
+    }
+}
+
 /// A station's record.
 #[derive(Clone)]
 pub(crate) struct Station {
@@ -139,6 +147,8 @@ pub(crate) struct Station {
     pub buffer: u32,
     /// Rooms of the messages that have an entry in the queue here.
     pub queue: u32,
+    /// Rooms of the messages whose ack list here is not empty.
+    pub acked: u32,
     /// The entry at the head of the queue, where there is one.
     pub head: Room,
     /// The number of its next own message.
@@ -211,6 +221,7 @@ impl Floor {
             local: 0,
             buffer: 0,
             queue: 0,
+            acked: 0,
             head: Room(0),
             sent: 0,
             buffered: [Buffered { copy: 0, ack_list: 0, queued: 0 }; HELD],
@@ -293,23 +304,9 @@ impl Floor {
         self.lines[line(from, to)].len()
     }
 
-    /// The entry at the head of a station's queue: its carts, and the carts that are in the
-    /// station's copy of that message, local and not in its ack list.
-    pub fn head(&self, station: StationNo) -> Option<(u64, u64)> {
+    /// The carts of the entry at the head of a station's queue.
+    pub fn head(&self, station: StationNo) -> Option<u64> {
         let here = &self.station[station.at()];
-        if here.queue == 0 {
-            return None;
-        }
-        let at = &here.buffered[here.head.at()];
-        Some((at.queued, at.copy & here.local & !at.ack_list))
-    }
-
-    /// Local carts that some ack list of this station waits for.
-    pub fn waited_for(&self, station: StationNo) -> u64 {
-        let here = &self.station[station.at()];
-        rooms_of(here.buffer)
-            .map(|room| &here.buffered[room.at()])
-            .filter(|at| at.ack_list != 0)
-            .fold(0, |set, at| set | (at.copy & here.local & !at.ack_list))
+        (here.queue != 0).then(|| here.buffered[here.head.at()].queued)
     }
 }

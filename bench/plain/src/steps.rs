@@ -143,8 +143,8 @@ impl Floor {
                 (DELETE, self.held[room.at()].number, 0, 0)
             }
             Record::Deregister(cart) => {
-                self.deregister(from, to, cart);
-                (DEREGISTER, cart.0 as u16, 0, 1)
+                let w = self.deregister(from, to, cart);
+                (DEREGISTER, cart.0 as u16, 0, w)
             }
             Record::Register(cart) => {
                 let p = self.register(to, cart);
@@ -163,18 +163,7 @@ impl Floor {
         cart: CartNo,
         buffer: &mut [u8],
     ) -> Result<(Step, usize), Refusal> {
-        self.check_started()?;
-        self.check_station(station)?;
-        self.check_cart(cart)?;
-        if self.cart[cart.at()].place != Place::At(station) {
-            return Err(Refusal::NotAtStation);
-        }
-        let here = &mut self.station[station.at()];
-        let room = here.head;
-        let buffered = &mut here.buffered[room.at()];
-        if here.queue == 0 || buffered.queued & cart.alone() == 0 {
-            return Err(Refusal::NotAtHead);
-        }
+        let room = self.check_radio(station, cart)?;
         let held = &self.held[room.at()];
         let text = &held.text[..held.length as usize % (TEXT + 1)];
         let Some(front) = buffer.get_mut(..text.len()) else {
@@ -182,22 +171,22 @@ impl Floor {
         };
         front.copy_from_slice(text);
 
+        let (initiator, number, length) = (held.initiator, held.number, text.len());
+        let here = &mut self.station[station.at()];
+        let buffered = &mut here.buffered[room.at()];
         buffered.queued &= !cart.alone();
         buffered.ack_list |= cart.alone();
-        let (initiator, number, length) = (held.initiator, held.number, text.len());
-        let mut w = 0;
-        if buffered.copy & here.local & !buffered.ack_list == 0 {
-            let carts = std::mem::take(&mut buffered.ack_list);
-            buffered.copy &= !carts;
-            self.lines[line(station, initiator)].push_back(Record::AckList(room, carts));
-            w = 1;
+        here.acked |= room.alone();
+        let (emptied, complete) = (buffered.queued == 0, buffered.is_complete(here.local));
+        if complete {
+            self.send_ack_list(station, room);
         }
-        if buffered.queued == 0 {
+        if emptied {
             self.drop_entry(station, room);
         }
         self.cart[cart.at()].next[initiator.at()] += 1;
         let p = self.catch_up(station, cart, initiator);
-        Ok((Step { a: initiator.0 as u16, b: number, p, w }, length))
+        Ok((Step { a: initiator.0 as u16, b: number, p, w: complete as u8 }, length))
     }
 
     /// A cart greets a new station.
@@ -246,6 +235,22 @@ impl Floor {
             return Err(Refusal::NoRoom);
         }
         Ok(number)
+    }
+
+    /// The checks of a radio step, in their order, but for the buffer's; the room of the message.
+    #[inline(always)]
+    fn check_radio(&self, station: StationNo, cart: CartNo) -> Result<Room, Refusal> {
+        self.check_started()?;
+        self.check_station(station)?;
+        self.check_cart(cart)?;
+        if self.cart[cart.at()].place != Place::At(station) {
+            return Err(Refusal::NotAtStation);
+        }
+        let here = &self.station[station.at()];
+        if here.queue == 0 || here.buffered[here.head.at()].queued & cart.alone() == 0 {
+            return Err(Refusal::NotAtHead);
+        }
+        Ok(here.head)
     }
 
     #[inline(always)]
@@ -345,9 +350,10 @@ impl Floor {
     }
 
     /// A deregister at the old station. Until now the cart was local here, so what was queued for
-    /// it meanwhile leaves with it. It stays in the ack lists.
+    /// it meanwhile leaves with it. It stays in the ack lists. "These lists go on the lines before
+    /// the register, and w counts them."
     #[inline(always)]
-    fn deregister(&mut self, new: StationNo, old: StationNo, cart: CartNo) {
+    fn deregister(&mut self, new: StationNo, old: StationNo, cart: CartNo) -> u8 {
         let here = &mut self.station[old.at()];
         here.local &= !cart.alone();
         let mut emptied = 0;
@@ -361,8 +367,42 @@ impl Floor {
         for room in rooms_of(emptied) {
             self.drop_entry(old, room);
         }
+        let lists = self.send_complete_lists(old);
         self.cart[cart.at()].place = Place::Travelling;
         self.lines[line(old, new)].push_back(Record::Register(cart));
+        lists + 1
+    }
+
+    /// "A deregister step, after the cart has left the local list, tests every buffered message
+    /// here in queue order (smallest number, then higher initiator): if its ack list is not empty
+    /// and holds every local cart in the copy, the list is sent, struck and emptied." Answers how
+    /// many went.
+    #[inline(always)]
+    fn send_complete_lists(&mut self, at: StationNo) -> u8 {
+        let here = &self.station[at.at()];
+        // What one list does changes no other, so all are tested before the first goes.
+        let mut complete = rooms_of(here.buffer & here.acked)
+            .filter(|room| here.buffered[room.at()].is_complete(here.local))
+            .fold(0, |rooms, room| rooms | room.alone());
+        let lists = complete.count_ones() as u8;
+        while let Some(room) = rooms_of(complete).min_by_key(|room| self.held[room.at()].order) {
+            complete &= !room.alone();
+            self.send_ack_list(at, room);
+        }
+        lists
+    }
+
+    /// The ack list of a message goes to its initiator, the carts are struck from the copy, and
+    /// the list is emptied.
+    #[inline(always)]
+    fn send_ack_list(&mut self, at: StationNo, room: Room) {
+        let here = &mut self.station[at.at()];
+        here.acked &= !room.alone();
+        let buffered = &mut here.buffered[room.at()];
+        let carts = std::mem::take(&mut buffered.ack_list);
+        buffered.copy &= !carts;
+        let initiator = self.held[room.at()].initiator;
+        self.lines[line(at, initiator)].push_back(Record::AckList(room, carts));
     }
 
     /// A register, or an entry: strikes the cart from the copies of what it has, then catches up

@@ -11,8 +11,9 @@ pub const ROWS: usize = 3_136;
 /// Words of a row of the stations' table: row 0 is the floor's own, row 1 + t station t's.
 pub const STATION_ROW: usize = 116;
 
-/// Where the rooms begin in a station's row, with three words each; and which rooms' copies count
-/// there, and which rooms' queue entries. A room that does not has none, whatever its word says.
+/// Where the rooms begin in a station's row, with three words each; and which rooms' copies and ack
+/// lists count there, and which rooms' queue entries. A room that does not has none, whatever its
+/// words say.
 pub const ROOM_WORDS: usize = 18;
 pub const COPIES: usize = 114;
 pub const ENTRIES: usize = 115;
@@ -59,7 +60,7 @@ impl Floor {
                 let entry = &mut row[ROOM_WORDS + 3 * m..][..3];
                 entry.copy_from_slice(&[at.copy, at.ack_list, at.queued]);
                 // Those that are not empty count.
-                row[COPIES] |= ((at.copy != 0) as u64) << m;
+                row[COPIES] |= (((at.copy | at.ack_list) != 0) as u64) << m;
                 row[ENTRIES] |= ((at.queued != 0) as u64) << m;
             }
         }
@@ -235,11 +236,15 @@ impl Floor {
                 let entry = &row[ROOM_WORDS + 3 * m..][..3];
                 let waiting = words.messages[6 * m + 4] >> t & 1 == 1;
                 let at = &mut station.buffered[m];
-                at.copy = if waiting && row[COPIES] >> m & 1 == 1 { entry[0] } else { 0 };
-                at.ack_list = entry[1];
+                let counts = row[COPIES] >> m & 1 == 1;
+                at.copy = if waiting && counts { entry[0] } else { 0 };
+                at.ack_list = if counts { entry[1] } else { 0 };
                 at.queued = if row[ENTRIES] >> m & 1 == 1 { entry[2] } else { 0 };
                 if waiting && held.number < station.expected[held.initiator.at()] {
                     station.buffer |= 1 << m;
+                }
+                if at.ack_list != 0 {
+                    station.acked |= 1 << m;
                 }
                 if at.queued != 0 {
                     station.queue |= 1 << m;
@@ -306,7 +311,7 @@ impl Floor {
         let said = |f: &Floor| {
             let s = &f.station[t];
             let head = (s.queue != 0).then_some(s.head);
-            (s.sent, s.expected, s.local, s.buffer, s.queue, head)
+            (s.sent, s.expected, s.local, s.buffer, s.queue, s.acked, head)
         };
         let (a, b) = (said(self), said(other));
         if a != b {

@@ -46,9 +46,9 @@ fn words_say_the_floor_they_were_made_of() {
     });
 }
 
-/// Where the words of the rooms begin in a station's row, and where it says which of them count:
-/// the copies, and the queue's entries.
-const COUNTED: [(usize, usize); 2] = [(18, 114), (20, 115)];
+/// Where a station's row says which rooms count, and which words of a room then do: the copy and the
+/// ack list, and the queue's entry.
+const COUNTED: [(usize, std::ops::Range<usize>); 2] = [(114, 18..20), (115, 20..21)];
 
 #[test]
 fn rooms_count_where_they_have_something() {
@@ -56,8 +56,8 @@ fn rooms_count_where_they_have_something() {
         let said = words(floor);
         assert_eq!(said.stations.len(), 1_972);
         for row in said.stations.chunks_exact(116).skip(1) {
-            for (first, among) in COUNTED {
-                let some = (0..32).filter(|m| row[first + 3 * m] != 0);
+            for (among, at) in COUNTED {
+                let some = (0..32).filter(|m| at.clone().any(|k| row[k + 3 * m] != 0));
                 assert_eq!(row[among], some.fold(0, |set, m| set | 1 << m));
             }
         }
@@ -70,9 +70,9 @@ fn rooms_that_do_not_count_have_nothing() {
         let mut said = words(floor);
         let mut numbers = Numbers(0x5eed);
         for row in said.stations.chunks_exact_mut(116).skip(1) {
-            for (first, among) in COUNTED {
+            for (among, at) in COUNTED {
                 for m in (0..32).filter(|m| row[among] >> m & 1 == 0).collect::<Vec<_>>() {
-                    row[first + 3 * m] = numbers.next();
+                    at.clone().for_each(|k| row[k + 3 * m] = numbers.next());
                 }
                 // There is no room for these bits.
                 row[among] |= numbers.next() << 32;

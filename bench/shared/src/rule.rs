@@ -47,7 +47,7 @@ pub enum Fault {
 
 use Fault::*;
 
-/// Which rooms' copies count at a station, and which rooms' queue entries.
+/// Which rooms' copies and ack lists count at a station, and which rooms' queue entries.
 const COPIES: usize = 114;
 const ENTRIES: usize = 115;
 
@@ -249,8 +249,8 @@ impl Floor<'_> {
             let (entries, _) = row[18..COPIES].as_chunks::<3>();
             for ((m, room), &[copy, acks, queue]) in self.rooms.iter_mut().enumerate().zip(entries)
             {
-                let (copy, queue) =
-                    (counted(row[COPIES], m, copy), counted(row[ENTRIES], m, queue));
+                let (copy, acks) = (counted(row[COPIES], m, copy), counted(row[COPIES], m, acks));
+                let queue = counted(row[ENTRIES], m, queue);
                 sets |= copy | acks | queue;
                 if queue != 0 {
                     ensure(room.waiting != 0 && within(queue, row[17] & room.named), Queue)?;

@@ -71,7 +71,7 @@ impl Beside {
                 }
             }
             for station in (0..stations).map(StationNo) {
-                while let Some((queued, _)) = self.floor.head(station) {
+                while let Some(queued) = self.floor.head(station) {
                     let cart = carts_of(queued)
                         .find(|cart| self.floor.place(*cart) == Place::At(station))
                         .expect("on empty lines every queued cart is at its station");

@@ -45,7 +45,7 @@ fn size(random: &mut Random) -> (u8, u8) {
     }
 }
 
-/// A stream of the generator, steered or not.
+/// A stream of the generator.
 fn busy(random: &mut Random, most: usize) -> Vec<u8> {
     let (stations, carts) = size(random);
     let crowded = random.once_in(4);
@@ -55,7 +55,6 @@ fn busy(random: &mut Random, most: usize) -> Vec<u8> {
         held: 1 + random.below(40),
         lines: 1 + random.below(if crowded { 600 } else { 60 }),
         bad: [0, 2, 20, 60][random.below(4)],
-        steer: random.once_in(2),
     };
     let count = 1 + random.below(most);
     generate::stream(random.octets(), count, wishes).0

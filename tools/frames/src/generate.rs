@@ -1,16 +1,9 @@
 //! Random streams that keep a floor busy.
 //!
 //! The generator runs a floor of its own beside the stream and chooses, most of the time, events
-//! that this floor accepts. Document 01 looks at an ack list in a radio step and nowhere else, so a
-//! message can be held for ever: one cart receives it, and the cart that its station still waits
-//! for rolls away. A stream that lets this happen ends with 32 messages held and every send
-//! refused. Two rules steer around it:
-//!
-//! * a cart that an ack list waits for does not move;
-//! * a message is not handed out while its station would then wait for a cart that is leaving.
-//!
-//! An ack list that is not empty then always waits for a cart that is at the station, stays there,
-//! and will receive the message.
+//! that this floor accepts. No message is held for ever: an ack list that is not empty waits for a
+//! local cart, and goes when that cart has received the message or has left. So carts roll away
+//! whatever waits for them, and once in a while lists go in a deregister step.
 
 use plain::floor::{carts_of, HELD, LAST_NUMBER, TEXT};
 use plain::frames::{put, Event};
@@ -29,13 +22,11 @@ pub struct Wishes {
     pub lines: usize,
     /// Percent of random and refused events.
     pub bad: usize,
-    /// Whether to steer around messages that are held for ever.
-    pub steer: bool,
 }
 
 impl Default for Wishes {
     fn default() -> Self {
-        Wishes { stations: 16, carts: 64, held: 8, lines: 40, bad: 2, steer: true }
+        Wishes { stations: 16, carts: 64, held: 8, lines: 40, bad: 2 }
     }
 }
 
@@ -208,10 +199,9 @@ impl Generator {
         let stations = self.floor.stations();
         let first = self.station().0;
         for station in (first..stations).chain(0..first).map(StationNo) {
-            let Some((queued, _)) = self.floor.head(station) else { continue };
+            let Some(queued) = self.floor.head(station) else { continue };
             let ready = carts_of(queued)
                 .filter(|cart| self.floor.place(*cart) == Place::At(station))
-                .filter(|cart| self.steered(&Event::Radio { station, cart: *cart }))
                 .fold(0, |set, cart| set | cart.alone());
             if ready != 0 {
                 return Some(Event::Radio { station, cart: CartNo(self.random.bit_of(ready)) });
@@ -220,7 +210,7 @@ impl Generator {
         None
     }
 
-    /// A cart that is at a station and may leave it.
+    /// A cart that is at a station and leaves it.
     fn move_cart(&mut self) -> Option<Event<'static>> {
         let (entered, stations) = (self.floor.entered(), self.floor.stations() as usize);
         if stations == 1 {
@@ -230,31 +220,9 @@ impl Generator {
             let cart = CartNo(self.random.bit_of(entered));
             let Place::At(old) = self.floor.place(cart) else { continue };
             let to = (old.0 as usize + 1 + self.random.below(stations - 1)) % stations;
-            let event = Event::Move { cart, to: StationNo(to as u8) };
-            if self.steered(&event) {
-                return Some(event);
-            }
+            return Some(Event::Move { cart, to: StationNo(to as u8) });
         }
         None
-    }
-
-    /// Whether the event leads to no message that is held for ever. Refused events do not.
-    fn steered(&self, event: &Event) -> bool {
-        if !self.wishes.steer {
-            return true;
-        }
-        match *event {
-            Event::Move { cart, .. } => match self.floor.place(cart) {
-                Place::At(old) => self.floor.waited_for(old) & cart.alone() == 0,
-                _ => true,
-            },
-            Event::Radio { station, cart } => {
-                let waited_for = self.floor.head(station).map_or(0, |(_, waited_for)| waited_for);
-                carts_of(waited_for & !cart.alone())
-                    .all(|other| self.floor.place(other) == Place::At(station))
-            }
-            _ => true,
-        }
     }
 
     /// An event that is likely to be refused by the floor, never by the frame.
@@ -294,25 +262,19 @@ impl Generator {
 
     /// An event with random fields, refused or not.
     fn wild<'t>(&mut self, text: &'t mut [u8; TEXT]) -> Event<'t> {
-        loop {
-            let (station, to) = (self.near_station(), self.near_station());
-            let cart = CartNo(self.random.below((self.floor.carts() as usize + 1).min(64)) as u8);
-            let event = match self.random.below(16) {
-                0 => Event::Start { stations: station.0 + 1, carts: cart.0 + 1 },
-                1 => Event::Enter { station, cart },
-                2 | 3 => {
-                    let set = self.random.octets() & self.random.octets();
-                    let set = set & self.random.octets();
-                    let set = if self.random.once_in(4) { set } else { set & self.floor.entered() };
-                    return Event::Send { station, set, text: self.any_text(text) };
-                }
-                4..=8 => Event::Wire { from: station, to },
-                9..=12 => Event::Radio { station, cart },
-                _ => Event::Move { cart, to },
-            };
-            if self.steered(&event) {
-                return event;
+        let (station, to) = (self.near_station(), self.near_station());
+        let cart = CartNo(self.random.below((self.floor.carts() as usize + 1).min(64)) as u8);
+        match self.random.below(16) {
+            0 => Event::Start { stations: station.0 + 1, carts: cart.0 + 1 },
+            1 => Event::Enter { station, cart },
+            2 | 3 => {
+                let set = self.random.octets() & self.random.octets() & self.random.octets();
+                let set = if self.random.once_in(4) { set } else { set & self.floor.entered() };
+                Event::Send { station, set, text: self.any_text(text) }
             }
+            4..=8 => Event::Wire { from: station, to },
+            9..=12 => Event::Radio { station, cart },
+            _ => Event::Move { cart, to },
         }
     }
 

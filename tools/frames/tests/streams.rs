@@ -8,8 +8,8 @@ use frames::damage::any_stream;
 use frames::generate::{give, stream, Wishes};
 use frames::random::Random;
 use frames::script::{script, show};
-use plain::frames::{Reader, Taken};
-use plain::Floor;
+use plain::frames::{Event, Reader, Taken};
+use plain::{Floor, Step};
 
 /// Where the frames of the stored runs lie, seen from this package.
 const RUNS: &str = "../../crates/runs/data";
@@ -142,6 +142,21 @@ fn no_message_is_held_for_ever() {
             assert!(refused[number] > 0, "{stations} stations, {carts} carts: no {number}");
         }
     }
+}
+
+#[test]
+fn some_deregister_steps_send_lists() {
+    let (octets, _) = stream(3, 100_000, Wishes::default());
+    let mut floor = Box::new(Floor::new());
+    let mut reader = Reader::new(&octets);
+    let mut lists = 0;
+    while let Taken::Event(event) = reader.take() {
+        match (&event, give(&mut floor, &event)) {
+            (Event::Wire { .. }, Ok(Step { a: 4, w, .. })) => lists += w as usize - 1,
+            _ => (),
+        }
+    }
+    assert!(lists > 100, "{lists} lists");
 }
 
 #[test]

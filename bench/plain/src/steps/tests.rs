@@ -296,6 +296,75 @@ fn a_full_floor_of_64_carts() {
 }
 
 #[test]
+fn a_list_waits_for_no_cart_that_rolled_away() {
+    let mut f = floor(2, 2);
+    f.enter(s(0), c(0)).unwrap();
+    f.enter(s(0), c(1)).unwrap();
+    f.send(s(1), 0b11, ONE).unwrap();
+    f.wire(s(1), s(0)).unwrap();
+    assert_eq!(answer(f.hand(0, 0)), (1, 0, 0, 0));
+    f.move_cart(c(1), s(1)).unwrap();
+    // The list that waited for cart 1 goes, and before the register.
+    assert_eq!(answer(f.wire(s(1), s(0))), (4, 1, 0, 2));
+    assert_eq!(answer(f.wire(s(0), s(1))), (2, 0, 0, 0));
+    assert_eq!(answer(f.wire(s(0), s(1))), (5, 1, 0, 0));
+    f.wire(s(1), s(1)).unwrap();
+    assert_eq!(answer(f.hand(1, 1)), (1, 0, 0, 1));
+    assert_eq!(answer(f.wire(s(1), s(1))), (2, 0, 0, 2));
+}
+
+#[test]
+fn a_list_waits_for_a_cart_that_is_leaving() {
+    let mut f = floor(2, 3);
+    for cart in 0..3 {
+        f.enter(s(0), c(cart)).unwrap();
+    }
+    f.send(s(1), 0b111, ONE).unwrap();
+    f.wire(s(1), s(0)).unwrap();
+    f.hand(0, 0).unwrap();
+    // Cart 0 leaves too, and its receipt stays in the list.
+    for cart in 0..3 {
+        f.move_cart(c(cart), s(1)).unwrap();
+    }
+    assert_eq!(answer(f.wire(s(1), s(0))), (4, 0, 0, 1));
+    assert_eq!(answer(f.wire(s(1), s(0))), (4, 1, 0, 1));
+    assert_eq!(answer(f.wire(s(1), s(0))), (4, 2, 0, 2));
+    assert_eq!(f.lines[line(s(0), s(1))][2], Record::AckList(Room(0), 0b001));
+}
+
+#[test]
+fn lists_go_in_queue_order() {
+    let mut f = floor(2, 3);
+    for (cart, station) in [(0, 0), (1, 0), (2, 1)] {
+        f.enter(s(station), c(cart)).unwrap();
+    }
+    // Number 0 comes and goes, so that number 2 lies in its room, before number 1's.
+    f.send(s(1), 0b100, ONE).unwrap();
+    f.send(s(1), 0b011, ONE).unwrap();
+    f.wire(s(1), s(1)).unwrap();
+    f.hand(1, 2).unwrap();
+    for kind in [1, 2, 3] {
+        assert_eq!(f.wire(s(1), s(1)).unwrap().a, kind);
+    }
+    for kind in [1, 1, 3] {
+        assert_eq!(f.wire(s(1), s(0)).unwrap().a, kind);
+    }
+    f.send(s(1), 0b011, ONE).unwrap();
+    f.wire(s(1), s(0)).unwrap();
+    assert_eq!((f.held[0].number, f.held[1].number), (2, 1));
+    // As if cart 0 had received both: the lists wait for cart 1, which leaves.
+    f.cart[0].next[1] = 3;
+    f.station[0].buffered[0].ack_list = 0b001;
+    f.station[0].buffered[1].ack_list = 0b001;
+    f.station[0].acked = 0b11;
+    f.station[0].buffered[1].queued = 0b010;
+    f.move_cart(c(1), s(1)).unwrap();
+    assert_eq!(answer(f.wire(s(1), s(0))), (4, 1, 0, 3));
+    let list = |room| Record::AckList(Room(room), 0b001);
+    assert_eq!(f.lines[line(s(0), s(1))], [list(1), list(0), Record::Register(c(1))]);
+}
+
+#[test]
 fn a_multicast_goes_by_its_row_alone() {
     let mut f = floor(2, 5);
     for (cart, station) in [(0, 0), (1, 0), (2, 1), (4, 1)] {
@@ -515,16 +584,37 @@ mod as_worded {
                     here.queue.iter_mut().for_each(|(_, carts)| carts.retain(|c| *c != cart));
                     here.queue.retain(|(_, carts)| !carts.is_empty());
                     here.local.retain(|c| *c != cart);
+                    let w = self.complete_lists(to);
                     self.places[cart as usize] = (3, 0);
                     let row = self.rows[cart as usize].take().unwrap();
                     self.put(to, from, Travelling::Register(cart, row));
-                    Ok([4, cart as u32, 0, 1])
+                    Ok([4, cart as u32, 0, w + 1])
                 }
                 Travelling::Register(cart, row) => {
                     let p = self.register(to, cart, row);
                     Ok([5, cart as u32, p, 0])
                 }
             }
+        }
+
+        fn complete_lists(&mut self, station: u8) -> u32 {
+            let here = &self.posts[station as usize];
+            let mut buffered: Vec<Message> = here.buffer.iter().map(|(m, _, _)| *m).collect();
+            buffered.sort_by_key(|m| (m.number, 16 - m.initiator));
+            buffered.into_iter().map(|m| self.test_list(station, m)).sum()
+        }
+
+        /// Sends the ack list of a message if it holds every local cart in the copy; how many went.
+        fn test_list(&mut self, station: u8, message: Message) -> u32 {
+            let here = &mut self.posts[station as usize];
+            let (_, copy, list) = here.buffer.iter_mut().find(|(m, _, _)| *m == message).unwrap();
+            if list.is_empty() || copy.iter().any(|c| here.local.contains(c) && !list.contains(c)) {
+                return 0;
+            }
+            let list = std::mem::take(list);
+            copy.retain(|c| !list.contains(c));
+            self.put(station, message.initiator, Travelling::AckList(message, list));
+            1
         }
 
         pub fn radio(&mut self, station: u8, cart: u8) -> Result<[u32; 4], u8> {
@@ -541,18 +631,12 @@ mod as_worded {
             }
             carts.retain(|c| *c != cart);
             here.queue.retain(|(_, carts)| !carts.is_empty());
-            let (_, copy, list) = here.buffer.iter_mut().find(|(m, _, _)| *m == message).unwrap();
+            let (_, _, list) = here.buffer.iter_mut().find(|(m, _, _)| *m == message).unwrap();
             list.push(cart);
             let mut row = self.rows[cart as usize].unwrap();
             assert_eq!(row[i], message.number);
             row[i] += 1;
-            let mut w = 0;
-            if copy.iter().all(|c| !here.local.contains(c) || list.contains(c)) {
-                let list = std::mem::take(list);
-                copy.retain(|c| !list.contains(c));
-                self.put(station, message.initiator, Travelling::AckList(message, list));
-                w = 1;
-            }
+            let w = self.test_list(station, message);
             let p = self.catch_up(station, cart, message.initiator, &mut row);
             self.rows[cart as usize] = Some(row);
             self.sum += 1;
@@ -608,7 +692,7 @@ fn the_same_as_the_worded_steps() {
                     3 => (floor.move_cart(c(cart), s(other)), worded.move_cart(cart, other)),
                     4..=9 => {
                         // The head's carts are hard to meet by chance.
-                        let (carts, _) = floor.head(s(station)).unwrap_or((0, 0));
+                        let carts = floor.head(s(station)).unwrap_or(0);
                         let cart = carts_of(carts).next().map_or(cart, |cart| cart.0);
                         (floor.hand(station, cart), worded.radio(station, cart))
                     }
