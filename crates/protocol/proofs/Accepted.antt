@@ -10,8 +10,8 @@ use borrow.Author.Tests.{eqb-true, leb-false, ltb-false, ne-eqb, not-false}
 use Rattle.protocol.specs.Folds.{isEmpty, isNone}
 use Rattle.protocol.specs.CartSets.{has}
 use Rattle.protocol.specs.Floor.{Floor, Limits, Record, at, behead, entered, isAt, moving, onLines}
-use Rattle.protocol.specs.Events.{Answer, Event, Report, accepted, enter, move, radio, refused, send, start, wire}
-use Rattle.protocol.specs.Handoff.{onEnter, onMove}
+use Rattle.protocol.specs.Events.{Answer, Event, Report, accepted, enter, flag, move, radio, refused, send, start, wire}
+use Rattle.protocol.specs.Handoff.{onEnter, onFlag, onMove}
 use Rattle.protocol.specs.Wired.{buffer, freeRoom, handle, onSend, onWire, withMessage}
 use Rattle.protocol.specs.Wireless.{handOver, onRadio, queueHead}
 use Rattle.protocol.specs.Form.{passesForm}
@@ -63,8 +63,13 @@ pub record MayRadio (M : Limits) (F : Floor) (t c m : ℕ) : Type 0 where
   pub station : t < F .stations
   pub cart : c < F .carts
   pub is-at : isAt (F .place c) t ≡ true
+  pub is-steady : F .steady c ≡ true
   pub is-head : queueHead M F t ≡ some m
   pub queued : has (F .queue m t) c ≡ true
+
+pub record MayFlag (F : Floor) (c : ℕ) : Type 0 where
+  pub cart : c < F .carts
+  pub has-entered : entered (F .place c) ≡ true
 
 pub record MayMove (F : Floor) (c to : ℕ) : Type 0 where
   pub station : to < F .stations
@@ -133,7 +138,8 @@ module _ (M : Limits) (F : Floor) (broken : Bool) where
       let a8 = passed-check 8 (noStation F t) _ (omega arith) (a5 .1) in
       let a9 = passed-check 9 (noCart F c) _ (omega arith) (a8 .1) in
       let a16 = passed-check 16 (not (isAt (F .place c) t)) _ (omega arith) (a9 .1) in
-      let a17 = passed-check 17 (headLacks M F t c) _ (omega arith) (a16 .1) in
+      let a25 = passed-check 25 (not (F .steady c)) _ (omega arith) (a16 .1) in
+      let a17 = passed-check 17 (headLacks M F t c) _ (omega arith) (a25 .1) in
       by-option (queueHead M F t)
       (λ q. clash (headLacks M F t c) (rw q) (a17 .0))
       (λ m q. (
@@ -142,6 +148,7 @@ module _ (M : Limits) (F : Floor) (broken : Bool) where
           station = leb-false (F .stations) t (a8 .0);
           cart = leb-false (F .carts) c (a9 .0);
           is-at = not-false (isAt (F .place c) t) (a16 .0);
+          is-steady = not-false (F .steady c) (a25 .0);
           is-head = q;
           queued = not-false (has (F .queue m t) c) (let z = a17 .0 in rw q at z);
         },
@@ -164,11 +171,19 @@ module _ (M : Limits) (F : Floor) (broken : Bool) where
         elsewhere = a20 .0;
       }
 
+  pub may-flag : (c : ℕ) (b : Bool) → refusalIf M F broken (flag c b) ≡ 0 → MayFlag F c
+  unfolding refusalIf
+  may-flag c b e =
+      let a5 = passed-check 5 broken _ (omega arith) e in
+      let a9 = passed-check 9 (noCart F c) _ (omega arith) (a5 .1) in
+      let a18 = passed-check 18 (not (entered (F .place c))) _ (omega arith) (a9 .1) in
+      record { cart = leb-false (F .carts) c (a9 .0); has-entered = not-false (entered (F .place c)) (a18 .0) }
+
 -- the floor without the head of the line from i to j
 abbrev pub unlined : Floor → ℕ → ℕ → Floor
 unlined F i j = onLines F (behead i j (F .lines))
 
--- A property of event, floor and answer holds after every event on a started floor if it holds of a refusal and of each of five steps.
+-- A property of event, floor and answer holds after every event on a started floor if it holds of a refusal and of each of six steps.
 module _ (M : Limits) (F : Floor) (Q : Event → Floor → Answer → Type 0) (begun : F .started ≡ true)
     (refusing : (e : Event) (r : ℕ) → Q e F (refused r))
     (entering : (t c : ℕ) → MayEnter F t c → Q (enter t c) (onEnter M F t c .floor) (accepted (onEnter M F t c .report)))
@@ -177,7 +192,8 @@ module _ (M : Limits) (F : Floor) (Q : Event → Floor → Answer → Type 0) (b
     (handling : (i j : ℕ) (r : Record) (l : List Record) → MayWire F i j r l
     → Q (wire i j) (handle M (unlined F i j) i j r .floor) (accepted (handle M (unlined F i j) i j r .report)))
     (handing : (t c buffer m : ℕ) → MayRadio M F t c m → Q (radio t c buffer) (handOver M F m t c .floor) (accepted (handOver M F m t c .report)))
-    (moves : (c to : ℕ) → MayMove F c to → Q (move c to) (onMove F c to .floor) (accepted (onMove F c to .report))) where
+    (moves : (c to : ℕ) → MayMove F c to → Q (move c to) (onMove F c to .floor) (accepted (onMove F c to .report)))
+    (flagging : (c : ℕ) (b : Bool) → MayFlag F c → Q (flag c b) (onFlag F c b .floor) (accepted (onFlag F c b .report))) where
   when-accepted : (b : Bool) (e : Event) → refusalIf M F b e ≡ 0 → Q e (accept M F e .floor) (accepted (accept M F e .report))
   unfolding accept onSend onWire onRadio refusalIf
   when-accepted b (start n k) z =
@@ -187,6 +203,7 @@ module _ (M : Limits) (F : Floor) (Q : Event → Floor → Answer → Type 0) (b
   when-accepted b (wire i j) z = let a = may-wire M F b i j z in rw (a .2 .line) (handling i j (a .0) (a .1) (a .2))
   when-accepted b (radio t c buffer) z = let a = may-radio M F b t c buffer z in rw (a .1 .is-head) (handing t c buffer (a .0) (a .1))
   when-accepted b (move c to) z = moves c to (may-move M F b c to z)
+  when-accepted b (flag c on) z = flagging c on (may-flag M F b c on z)
 
   by-refusal : (r : ℕ) (e : Event) → (r ≡ 0 → Q e (accept M F e .floor) (accepted (accept M F e .report)))
       → Q e (cond (eqb r 0) (accept M F e .floor) F) (cond (eqb r 0) (accepted (accept M F e .report)) (refused r))

@@ -12,8 +12,8 @@ use borrow.Author.Tests.{eq-eqb, eqb-true, le-leb, leb-true, not-false, not-true
 use Rattle.protocol.specs.Folds.{count, every, sum, update2}
 use Rattle.protocol.specs.CartSets.{has, union}
 use Rattle.protocol.specs.Floor.{Floor, Limits, Record, ackList, at, delete, deregister, isHeld, justStarted, multicast, register}
-use Rattle.protocol.specs.Events.{Answer, Done, Event, Report, accepted, enter, move, radio, refused, send, start, wire}
-use Rattle.protocol.specs.Handoff.{arrive, entryOf, onEnter, onMove, onRegister, roomOf, struck}
+use Rattle.protocol.specs.Events.{Answer, Done, Event, Report, accepted, enter, flag, move, radio, refused, send, start, wire}
+use Rattle.protocol.specs.Handoff.{arrive, entryOf, onEnter, onFlag, onMove, onRegister, roomOf, struck}
 use Rattle.protocol.specs.Deregister.{leave}
 use Rattle.protocol.specs.Wired.{buffer, handle, multicastByRow, onAckList, onDelete, onMulticast, withMessage}
 use Rattle.protocol.specs.Wireless.{allAcked, handOver, receive, sendAcks, sendAcksIfAll}
@@ -68,6 +68,7 @@ same-note G L (radio t c room) (refused r) S = S
 same-note G L (radio t c room) (accepted l) S =
     record { count = S .count; sent = S .sent; received = ap (λ (f : ℕ → ℕ → List Item). update2 f (l .a) c (f (l .a) c ++ (item (l .b) (l .text) ∷ []))) (S .received) }
 same-note G L (move c to) a S = S
+same-note G L (flag c b) a S = S
 
 -- the entries from a number on
 naming-append : (c k : ℕ) (h g : List Entry) → naming c k (h ++ g) ≡ naming c k h ++ naming c (k + length h) g
@@ -194,13 +195,14 @@ handled-size M F i j (deregister c) =
 handled-size M F i j (register c row) = arrived-size M F j c (entryOf row)
 
 pub step-size : (M : Limits) (F : Floor) → F .started ≡ true → (e : Event) → SameSize F (step M F e)
-unfolding onEnter withMessage onMove handOver receive sendAcks
+unfolding onEnter onFlag withMessage onMove handOver receive sendAcks
 step-size M F begun =
     by-step M F (λ e X a. SameSize F X) begun (λ e r. same-size F) (λ t c may. arrived-size M F t c (λ s. 0)) (λ s set text m may. same-size F)
     (λ i j r l may. handled-size M (unlined F i j) i j r)
     (λ t c buffer m may. rw (one-at-once M (sendAcksIfAll (receive F m t c) m t) t c (F .initiator m))
     (on-cond (λ (X : Floor). SameSize F X) (allAcked (receive F m t c) m t) (λ b. same-size F) (λ b. same-size F)))
     (λ c to may. same-size F)
+    (λ c b may. same-size F)
 
 -- the rule after any list of events, from any floor and history that the invariant joins
 pub rule-after : (M : Limits) (F : Floor) (G : History) (L : Lists) (es : List Event) → Invariant M F G → Same G L → (s c : ℕ) → c < F .carts

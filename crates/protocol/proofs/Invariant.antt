@@ -7,7 +7,7 @@ use Prim.Native.Nat.{_<_, suc, ℕ, _≤_}
 use lib.Dec.{eqb}
 use lib.ListN.{getD, length, take}
 use Rattle.protocol.specs.CartSets.{has}
-use Rattle.protocol.specs.Floor.{Floor, Limits, Place, Record, ackList, delete, deregister, entered, localTo, multicast, outside, register}
+use Rattle.protocol.specs.Floor.{Floor, Limits, Place, Record, ackList, delete, deregister, entered, localTo, multicast, outside, register, setSteady}
 use Rattle.protocol.specs.Handoff.{rowOf}
 use Rattle.protocol.specs.Claims.{All, True}
 use Rattle.protocol.specs.Form.{countsUp, handoffOf, handoffs, multicastNumbers}
@@ -75,8 +75,13 @@ pub record Queued (M : Limits) (waiting initiator number named : ℕ → ℕ) (p
   pub due : next c (initiator m) ≡ number m
   pub is-named : has (named m) c ≡ true
 
+-- WHAT THE CLAUSES SPEAK OF: all of a floor but the carts' flags, which are set back. The invariant and the sizes are said of it, so whatever
+-- changes flags alone keeps them without a word, and what is law of any such change stands in Unspoken
+abbrev pub spoken : Floor → Floor
+spoken F = setSteady F (λ c. true)
+
 -- THE INVARIANT
-pub record Invariant (M : Limits) (F : Floor) (G : History) : Type 0 where
+pub record InvariantOf (M : Limits) (F : Floor) (G : History) : Type 0 where
   -- each station has sent as many messages as the history has of it
   pub sends-counted : (s : ℕ) → length (G .sends s) ≡ F .sent s
   -- no next number is above what was sent
@@ -117,3 +122,7 @@ pub record Invariant (M : Limits) (F : Floor) (G : History) : Type 0 where
   pub senders : (s : ℕ) → 0 < F .sent s → s < F .stations
   -- and they are within the limits
   pub fits : F .stations ≤ M .stations
+
+-- the same, of any floor
+abbrev pub Invariant : Limits → Floor → History → Type 0
+Invariant M F G = InvariantOf M (spoken F) G

@@ -26,6 +26,7 @@ pub mod SumRun
 pub mod FormFacts
 pub mod ClaimLaws
 pub mod Sized
+pub mod Unspoken
 pub mod FormTest
 pub mod FormRule
 pub mod Ready

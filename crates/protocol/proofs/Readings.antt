@@ -1,25 +1,28 @@
 use mathlib.Core.Path.{ap, refl, _∙_, _≡_}
-use mathlib.Core.Bool.{false, not, true}
+use mathlib.Core.Bool.{Bool, false, not, true}
 use mathlib.Core.Option.{none, some}
 use mathlib.Core.List.{_++_, List, [], _∷_}
-use Prim.Native.Nat.{_<_, ℕ, _≤_}
+use Prim.Native.Nat.{_+_, _/_, _<_, suc, zero, ℕ, _≤_}
 use native.Mathlib.Omega.{arith}
 use lib.Dec.{eqb}
 use borrow.Author.Tests.{eqb-true, le-ltb, ne-eqb, not-true}
 use Rattle.protocol.specs.CartSets.{has, union}
-use Rattle.protocol.specs.Floor.{Floor, Limits, Place, ackList, at, isLocal, register, setPlace, setTexts}
-use Rattle.protocol.specs.Events.{Done, send}
-use Rattle.protocol.specs.Handoff.{catchUp, catchUpStop, roomOf, rowOf}
+use Rattle.protocol.specs.Floor.{Floor, Limits, Place, ackList, at, entered, isAt, isLocal, register, setPlace, setTexts}
+use Rattle.protocol.specs.Events.{Done, flag, radio, send}
+use Rattle.protocol.specs.Handoff.{arrive, catchUp, catchUpEach, catchUpStop, entryOf, onMove, onRegister, roomOf, rowOf, struck, withRow}
 use Rattle.protocol.specs.Wired.{buffer, localRow, multicastByRow, onAckList}
 use Rattle.protocol.specs.Wireless.{allAcked, handOver, receive, sendAcks, sendAcksIfAll, standsBefore}
 use Rattle.protocol.specs.Deregister.{bufferedRooms, isComplete, leave, onDeregister, sendIfComplete, testEach}
 use Rattle.protocol.specs.Claims.{True}
 use Rattle.protocol.specs.Form.{formRule}
-use Rattle.protocol.specs.Refusals.{neverEntered, noStation, refusalIf, strangers}
+use Rattle.protocol.specs.Refusals.{neverEntered, noCart, noStation, refusalIf, strangers}
+use Rattle.protocol.specs.Frames.{Fields, fieldsRefusal, unlisted}
 use Rattle.protocol.proofs.Tests.{and-false, and-left, and-right, by-lt, by-option, by-test, clash, eqb-self, on-cond, on-option, or-right}
 use Rattle.protocol.proofs.SetLaws.{has-setOf, has-with, has-without}
 
--- "Readings that lose or double a correction": for each of them, what the written steps do instead.
+-- "Readings that lose or double a correction": for each of them, what the written steps do instead. Behind them, for each later request, the
+-- plain facts that a wrong reading of it would break.
+
 -- "Dropping a message at a station once its own carts have it": a radio step takes no message out of any station's buffer
 pub kept-until-deleted : (M : Limits) (F : Floor) (m t c : ℕ) → handOver M F m t c .floor .waiting ≡ F .waiting
 unfolding handOver catchUp receive sendAcks
@@ -115,3 +118,62 @@ pub places-not-asked : (M : Limits) (F : Floor) (x : ℕ → Place) (local s t n
     × (multicastByRow M (setPlace F x) local s t n .report ≡ multicastByRow M F local s t n .report)
 unfolding multicastByRow buffer roomOf
 places-not-asked M F x local s t n = by-option (roomOf M F s n) (λ q. rw q (refl, refl)) (λ m q. rw q (refl, refl))
+
+-- HOLD WHILE THE VACUUM SETTLES
+
+-- "for radio, 25 not steady, after 16 and before 17": of a radio step that passes 8 and 9, 16 comes before 25
+pub not-here-is-16 : (M : Limits) (F : Floor) (t c buffer : ℕ) → noStation F t ≡ false → noCart F c ≡ false → isAt (F .place c) t ≡ false
+    → refusalIf M F false (radio t c buffer) ≡ 16
+unfolding refusalIf
+not-here-is-16 M F t c buffer a8 a9 a16 = rw (a8, a9, a16)
+
+-- and 25 before 17 and 21, whatever is queued
+pub unsteady-is-25 : (M : Limits) (F : Floor) (t c buffer : ℕ) → noStation F t ≡ false → noCart F c ≡ false → isAt (F .place c) t ≡ true → F .steady c ≡ false
+    → refusalIf M F false (radio t c buffer) ≡ 25
+unfolding refusalIf
+unsteady-is-25 M F t c buffer a8 a9 a16 a25 = rw (a8, a9, a16, a25)
+
+-- "for kind 6, 18 if never entered, after 9"
+pub no-cart-is-9 : (M : Limits) (F : Floor) (c : ℕ) (b : Bool) → noCart F c ≡ true → refusalIf M F false (flag c b) ≡ 9
+unfolding refusalIf
+no-cart-is-9 M F c b a9 = rw a9
+
+pub never-in-is-18 : (M : Limits) (F : Floor) (c : ℕ) (b : Bool) → noCart F c ≡ false → entered (F .place c) ≡ false → refusalIf M F false (flag c b) ≡ 18
+unfolding refusalIf
+never-in-is-18 M F c b a9 a18 = rw (a9, a18)
+
+-- "in the other field, 1 for steady or 0 for not; 2 to 15 there is refusal 3"
+pub other-flag-is-3 : (M : Limits) (f : Fields) (behind : ℕ) → f .kind ≡ 6 → 2 ≤ f .other → fieldsRefusal M f behind ≡ 3
+unfolding fieldsRefusal unlisted
+other-flag-is-3 M f behind k h = rw (k, ne-eqb (f .station + f .other / 2 + f .length + f .zero + f .set) 0 (omega arith))
+
+-- "The flag travels with the cart through hand-offs": catch-up, a move, a deregister and a register leave every flag
+caught-up-flags : (M : Limits) (F : Floor) (t c s : ℕ) → catchUp M F t c s .steady ≡ F .steady
+unfolding catchUp
+caught-up-flags M F t c s = on-option (λ (X : Floor). X .steady ≡ F .steady) (catchUpStop M F t c s .found) (λ q. refl) (λ m q. refl)
+
+each-caught-up-flags : (M : Limits) (n : ℕ) (F : Floor) (t c : ℕ) → catchUpEach M n F t c .steady ≡ F .steady
+unfolding catchUpEach
+each-caught-up-flags M zero F t c = refl
+each-caught-up-flags M (suc n) F t c = caught-up-flags M (catchUpEach M n F t c) t c n ∙ each-caught-up-flags M n F t c
+
+pub arrive-keeps-flags : (M : Limits) (F : Floor) (t c : ℕ) (row : ℕ → ℕ) → arrive M F t c row .steady ≡ F .steady
+unfolding arrive struck
+arrive-keeps-flags M F t c row = each-caught-up-flags M (F .stations) (struck (withRow F c row) t c) t c
+
+pub register-keeps-flags : (M : Limits) (F : Floor) (t c : ℕ) (row : List ℕ) → onRegister M F t c row .floor .steady ≡ F .steady
+unfolding onRegister
+register-keeps-flags M F t c row = arrive-keeps-flags M F t c (entryOf row)
+
+test-keeps-flags : (F : Floor) (t : ℕ) (l : List ℕ) → testEach F t l .steady ≡ F .steady
+unfolding testEach sendAcks
+test-keeps-flags F t [] = refl
+test-keeps-flags F t (m ∷ l) = test-keeps-flags (sendIfComplete F t m) t l ∙ on-cond (λ (X : Floor). X .steady ≡ F .steady) (isComplete F t m) (λ e. refl) (λ e. refl)
+
+pub deregister-keeps-flags : (M : Limits) (F : Floor) (i t c : ℕ) → onDeregister M F i t c .floor .steady ≡ F .steady
+unfolding onDeregister leave
+deregister-keeps-flags M F i t c = test-keeps-flags (leave F i t c) t (bufferedRooms M (leave F i t c) t)
+
+pub move-keeps-flags : (F : Floor) (c to : ℕ) → onMove F c to .floor .steady ≡ F .steady
+unfolding onMove
+move-keeps-flags F c to = refl

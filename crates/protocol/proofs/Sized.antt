@@ -11,7 +11,7 @@ use Rattle.protocol.specs.Folds.{update, update2}
 use Rattle.protocol.specs.CartSets.{minus, setOf, union, with, without}
 use Rattle.protocol.specs.Floor.{Floor, Limits, Place, Record, ackList, at, behead, between, cartsThat, delete, deregister, entered, isBuffered, justStarted, leaving, multicast, outside, put, register, stationOf, toEvery, travelling}
 use Rattle.protocol.specs.Events.{Done, Event}
-use Rattle.protocol.specs.Handoff.{arrive, catchUpStop, entryOf, onEnter, onMove, onRegister, roomOf, rowOf, struck, withRow}
+use Rattle.protocol.specs.Handoff.{arrive, catchUpStop, entryOf, onEnter, onFlag, onMove, onRegister, roomOf, rowOf, struck, withRow}
 use Rattle.protocol.specs.Wired.{buffer, handle, isQueued, isStruck, localRow, multicastByRow, onAckList, onDelete, onMulticast, withMessage}
 use Rattle.protocol.specs.Wireless.{allAcked, handOver, receive, sendAcks, sendAcksIfAll}
 use Rattle.protocol.specs.Deregister.{leave}
@@ -24,7 +24,7 @@ use Rattle.protocol.proofs.SetLaws.{minus-lt, setOf-lt, union-lt, with-
 use Rattle.protocol.proofs.FloorLaws.{on-put}
 use Rattle.protocol.proofs.InOrder.{EachOf, completed, deregister-splits, each-map, handedOff, send-each-is, sendEach}
 use Rattle.protocol.proofs.Accepted.{MayMove, MayRadio, MaySend, MayWire, by-step, unlined}
-use Rattle.protocol.proofs.Invariant.{History, Invariant, blank}
+use Rattle.protocol.proofs.Invariant.{History, Invariant, blank, spoken}
 use Rattle.protocol.proofs.Updates.{all-append}
 use Rattle.protocol.proofs.CatchUp.{arrive-at-once, catchUpAtOnce, docked, foundIs, one-at-once}
 use Rattle.protocol.proofs.HandoffSteps.{registering-is}
@@ -81,7 +81,7 @@ OnFloor stations carts i j r = (i < stations) × ((j < stations) × AcksFit cart
 abbrev pub LinesFit : ℕ → ℕ → (ℕ → ℕ → List Record) → Type 0
 LinesFit stations carts lines = (i j : ℕ) → All (OnFloor stations carts i j) (lines i j)
 
-pub record Sized (M : Limits) (F : Floor) : Type 0 where
+pub record SizedOf (M : Limits) (F : Floor) : Type 0 where
   pub lengths : F .lengthsRight ≡ true
   pub words : F .wordsRight ≡ true
   pub counts : CountsFit M (F .stations) (F .carts)
@@ -90,6 +90,9 @@ pub record Sized (M : Limits) (F : Floor) : Type 0 where
   pub messages : MessagesFit M (F .stations) (F .carts) (F .named) (F .acked) (F .waiting) (F .text)
   pub copies : CopiesFit M (F .carts) (F .copy) (F .acks) (F .queue)
   pub lines : LinesFit (F .stations) (F .carts) (F .lines)
+
+abbrev pub Sized : Limits → Floor → Type 0
+Sized M F = SizedOf M (spoken F)
 
 -- LINES
 
@@ -192,6 +195,31 @@ module _ (M : Limits) where
   send-each-sized F t [] lt h S = S
   send-each-sized F t (m ∷ l) lt h S = send-each-sized (sendAcks F m t) t l lt (h .1) (sent-acks-sized F m t (h .0 .0) lt (h .0 .1) S)
 
+  -- the carts of an ack list are added, and deletes go
+  acks-added-sized : (F : Floor) (s n set : ℕ) → s < F .stations → set < 2 ^ F .carts → Sized M F → Sized M (onAckList M F s n set .floor)
+  unfolding onAckList
+  acks-added-sized F s n set ls few S =
+      on-option (λ (d : Done). Sized M (d .floor)) (roomOf M F s n) (λ q. S)
+      (λ m q. let H : MessagesFit M (F .stations) (F .carts) (F .named) (update (F .acked) m (union (F .acked m) set)) (F .waiting) (F .text) =
+      record {
+        acked = λ k lk. on-update (λ x. x < 2 ^ F .carts) (F .acked) m (union (F .acked m) set) k (λ z. union-lt (F .carts) (F .acked m) set (S .messages .acked m (rw z at lk)) few) (λ z. S .messages .acked k lk);
+        named = S .messages .named;
+        waiting = S .messages .waiting;
+        text = S .messages .text;
+      } in
+      on-cond (λ (d : Done). Sized M (d .floor)) (eqb (union (F .acked m) set) (F .named m))
+      (λ b. record {
+        messages = H;
+        lines = put-fits (F .stations) (F .carts) (F .lines) (toEvery (F .stations) s) (delete n) (S .lines) (to-every (F .stations) (F .carts) s (delete n) ls tt);
+        lengths = S .lengths;
+        words = S .words;
+        counts = S .counts;
+        numbers = S .numbers;
+        places = S .places;
+        copies = S .copies;
+      })
+      (λ b. record { messages = H; lengths = S .lengths; words = S .words; counts = S .counts; numbers = S .numbers; places = S .places; copies = S .copies; lines = S .lines }))
+
   -- a cart is handed off
   handed-off-sized : (F : Floor) (i j c : ℕ) → i < F .stations → j < F .stations → Sized M F → Sized M (handedOff M (unlined F i j) i j c)
   unfolding leave
@@ -229,7 +257,7 @@ module _ (M : Limits) where
     Fits d = Sized M (d .floor)
 
     handled-sized : (i j : ℕ) (r : Record) (l : List Record) → MayWire F i j r l → Fits (handle M (unlined F i j) i j r)
-    unfolding handle onMulticast multicastByRow onAckList onDelete onRegister buffer roomOf
+    unfolding handle onMulticast multicastByRow onDelete onRegister buffer roomOf
     handled-sized i j (multicast n) l may =
         let P = popped-sized i j in
         on-option Fits (roomOf M F i n)
@@ -250,28 +278,8 @@ module _ (M : Limits) where
           lines = P .lines;
         })
     handled-sized i j (ackList n set) l may =
-        let P = popped-sized i j in
         let ls : All (OnFloor (F .stations) (F .carts) i j) (ackList n set ∷ l) = rw (may .line) at (S .lines i j) in
-        on-option Fits (roomOf M F j n) (λ q. P)
-        (λ m q. let H : MessagesFit M (F .stations) (F .carts) (F .named) (update (F .acked) m (union (F .acked m) set)) (F .waiting) (F .text) =
-        record {
-          acked = λ k lk. on-update (λ x. x < 2 ^ F .carts) (F .acked) m (union (F .acked m) set) k (λ z. union-lt (F .carts) (F .acked m) set (S .messages .acked m (rw z at lk)) (ls .0 .1 .1)) (λ z. S .messages .acked k lk);
-          named = S .messages .named;
-          waiting = S .messages .waiting;
-          text = S .messages .text;
-        } in
-        on-cond Fits (eqb (union (F .acked m) set) (F .named m))
-        (λ b. record {
-          messages = H;
-          lines = put-fits (F .stations) (F .carts) (behead i j (F .lines)) (toEvery (F .stations) j) (delete n) (P .lines) (to-every (F .stations) (F .carts) j (delete n) (may .to) tt);
-          lengths = P .lengths;
-          words = P .words;
-          counts = P .counts;
-          numbers = P .numbers;
-          places = P .places;
-          copies = P .copies;
-        })
-        (λ b. record { messages = H; lengths = P .lengths; words = P .words; counts = P .counts; numbers = P .numbers; places = P .places; copies = P .copies; lines = P .lines }))
+        acks-added-sized (unlined F i j) j n set (may .to) (ls .0 .1 .1) (popped-sized i j)
     handled-sized i j (delete n) l may =
         let P = popped-sized i j in
         on-option Fits (roomOf M F i n) (λ q. P)
@@ -372,7 +380,7 @@ module _ (M : Limits) where
 
 -- every event keeps the sizes
 pub step-sized : (M : Limits) (F : Floor) (G : History) → Invariant M F G → Sized M F → (e : Event) → Sized M (step M F e)
-unfolding onEnter
+unfolding onEnter onFlag
 step-sized M F G I S =
     by-step M F (λ e X a. Sized M X) (I .started) (λ e r. S)
     (λ t c may. arrived-sized M F t c (λ s. 0) (may .station) (may .cart) S)
@@ -380,6 +388,7 @@ step-sized M F G I S =
     (handled-sized M F G I S)
     (λ t c buffer m may. radio-sized M F G m t c I S may)
     (λ c to may. moved-sized M F c to may S)
+    (λ c b may. S)
 
 -- a floor just started
 pub started-sized : (M : Limits) (n k : ℕ) → CountsFit M n k → Sized M (justStarted n k)

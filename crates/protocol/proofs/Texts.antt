@@ -10,7 +10,7 @@ use Rattle.protocol.specs.Folds.{isEmpty, update}
 use Rattle.protocol.specs.CartSets.{union, without}
 use Rattle.protocol.specs.Floor.{Floor, Limits, Record, ackList, delete, deregister, multicast, register}
 use Rattle.protocol.specs.Events.{Done, Event}
-use Rattle.protocol.specs.Handoff.{arrive, entryOf, onEnter, onMove, onRegister, roomOf, struck}
+use Rattle.protocol.specs.Handoff.{arrive, entryOf, onEnter, onFlag, onMove, onRegister, roomOf, struck}
 use Rattle.protocol.specs.Wired.{buffer, handle, multicastByRow, onAckList, onDelete, onMulticast, withMessage}
 use Rattle.protocol.specs.Wireless.{allAcked, handOver, receive, sendAcks, sendAcksIfAll}
 use Rattle.protocol.specs.Deregister.{leave}
@@ -64,13 +64,14 @@ module _ (M : Limits) (F : Floor) (T : AllTexts F) where
 
 -- every event keeps it
 step-text : (M : Limits) (F : Floor) → F .started ≡ true → AllTexts F → (e : Event) → AllTexts (step M F e)
-unfolding onEnter onMove handOver receive sendAcks
+unfolding onEnter onFlag onMove handOver receive sendAcks
 step-text M F begun T =
     by-step M F (λ e X a. AllTexts X) begun (λ e r. T) (λ t c may. arrived-text M F T t c (λ s. 0)) (λ s set text m may. sent-text M F T s set text m may)
     (λ i j r l may. handled-text M (unlined F i j) T i j r)
     (λ t c buffer m may. rw (one-at-once M (sendAcksIfAll (receive F m t c) m t) t c (F .initiator m))
     (on-cond (λ (X : Floor). AllTexts X) (allAcked (receive F m t c) m t) (λ b. T) (λ b. T)))
     (λ c to may. T)
+    (λ c b may. T)
 
 -- and every run
 pub texts-after : (M : Limits) (F : Floor) → F .started ≡ true → AllTexts F → (es : List Event) → AllTexts (floorAfter M F es)

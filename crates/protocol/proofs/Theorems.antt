@@ -1,5 +1,5 @@
 use mathlib.Core.Path.{_≡_, ap, refl, subst, sym}
-use mathlib.Core.Bool.{_&&_, cond, false, not, true}
+use mathlib.Core.Bool.{_&&_, Bool, cond, false, not, true}
 use mathlib.Core.Option.{some}
 use mathlib.Core.List.{_++_, List, [], map, _∷_}
 use Prim.Native.Nat.{_*_, _+_, _-_, _<_, _^_, max, suc, ℕ, _≤_}
@@ -8,25 +8,26 @@ use native.Mathlib.Omega.{arith}
 use lib.Dec.{eqb, ltb}
 use lib.ListN.{getD, length}
 use borrow.Author.Tests.{ne-eqb, not-true}
-use Rattle.protocol.specs.Folds.{count, isEmpty, sum}
+use Rattle.protocol.specs.Folds.{count, isEmpty, sum, update}
 use Rattle.protocol.specs.CartSets.{has}
-use Rattle.protocol.specs.Floor.{Floor, Limits, Place, Record, ackList, at, behead, delete, isBuffered, isHeld, isLocal, justStarted, kit, limits, limitsOf, mostRecords, multicast, onLines, onTheLines, register, setPlace, setTexts, stationOf, unstarted}
-use Rattle.protocol.specs.Events.{Event, Report, accepted, move, radio, refused, send, start, wire}
-use Rattle.protocol.specs.Handoff.{entryOf, onRegister, roomOf, rowOf}
+use Rattle.protocol.specs.Floor.{Floor, Limits, Place, Record, ackList, at, behead, delete, entered, isAt, isBuffered, isHeld, isLocal, justStarted, kit, limits, limitsOf, mostRecords, multicast, onLines, onTheLines, register, setPlace, setSteady, setTexts, stationOf, unstarted}
+use Rattle.protocol.specs.Events.{Event, Report, accepted, enter, flag, move, radio, refused, send, start, wire}
+use Rattle.protocol.specs.Handoff.{arrive, entryOf, onEnter, onFlag, onRegister, roomOf, rowOf}
 use Rattle.protocol.specs.Wired.{freeRoom, handle, localRow, multicastByRow, onMulticast, onWire}
 use Rattle.protocol.specs.Wireless.{queueHead}
 use Rattle.protocol.specs.Deregister.{bufferedRooms, isComplete, leave, onDeregister, testEach, timesIn}
 use Rattle.protocol.specs.Form.{formRule, passesForm}
 use Rattle.protocol.specs.Blank.{BlankBeyond}
-use Rattle.protocol.specs.Refusals.{neverEntered, noStation, refusal, refusalIf, strangers, wrongSize}
+use Rattle.protocol.specs.Refusals.{neverEntered, noCart, noStation, refusal, refusalIf, strangers, wrongSize}
 use Rattle.protocol.specs.Step.{accept, answer, floorAfter, step}
 use Rattle.protocol.specs.TwoLists.{TwoListRule, bothEmpty, listsAfter, owes}
 use Rattle.protocol.specs.SumRule.{gains, total}
+use Rattle.protocol.specs.Frames.{Fields, fieldsRefusal}
 use Rattle.protocol.specs.Ranges.{InRange, NumbersBelow, Wide}
 use Rattle.protocol.specs.Examples.{examples, heldOn, outcome, rollsAway}
 use Rattle.protocol.proofs.Tests.{by-eq, clash, on-cond}
 use Rattle.protocol.proofs.InOrder.{deregister-counts, none-stays, tested-once}
-use Rattle.protocol.proofs.Readings.{form-without-texts, never-entered-is-12, no-text-is-24, places-not-asked, register-is-last, row-kept, row-of-local}
+use Rattle.protocol.proofs.Readings.{arrive-keeps-flags, deregister-keeps-flags, form-without-texts, move-keeps-flags, never-entered-is-12, never-in-is-18, no-cart-is-9, no-text-is-24, not-here-is-16, other-flag-is-3, places-not-asked, register-is-last, register-keeps-flags, row-kept, row-of-local, unsteady-is-25}
 use Rattle.protocol.proofs.Accepted.{MayWire, accepted-passes, accepted-report, may-move, may-radio, may-send, may-wire, passed-check}
 use Rattle.protocol.proofs.Demand3.{nothing, rule-after, started-ok}
 use Rattle.protocol.proofs.Counting.{sum-ext, sum-term}
@@ -37,6 +38,7 @@ use Rattle.protocol.proofs.SumRun.{started-total, sums}
 use Rattle.protocol.proofs.FormFacts.{past, some-history}
 use Rattle.protocol.proofs.ClaimLaws.{reflect}
 use Rattle.protocol.proofs.Sized.{CountsFit}
+use Rattle.protocol.proofs.Unspoken.{unspoken}
 use Rattle.protocol.proofs.FormTest.{clauses-of, form-of, sized-of}
 use Rattle.protocol.proofs.FormRule.{form-bound, form-kept, form-started}
 use Rattle.protocol.proofs.Ready.{ready-run, ready-unstarted, right-size, started-after, unstarted-fails}
@@ -338,6 +340,68 @@ deregister-w M F i t c = deregister-counts M F i t c
 -- "Two carts are local and named. One receives; the other rolls away before it does": in the end nothing is held
 pub rolls-away-deleted : heldOn (floorAfter limits unstarted rollsAway) ≡ 0
 rolls-away-deleted = rolled-away
+
+-- HOLD WHILE THE VACUUM SETTLES
+
+-- "A cart counts as steady from its entry until told": an accepted entry makes it steady, and leaves the flags of the others
+pub steady-from-entry : (M : Limits) (F : Floor) (t c : ℕ) (l : Report) → answer M F (enter t c) ≡ accepted l → step M F (enter t c) .steady ≡ update (F .steady) c true
+unfolding step accept onEnter
+steady-from-entry M F t c l a = rw (accepted-passes M F (enter t c) l a)
+
+-- "until told": an accepted flag is the cart's, and leaves those of the others
+pub steady-as-told : (M : Limits) (F : Floor) (c : ℕ) (b : Bool) (l : Report) → answer M F (flag c b) ≡ accepted l → step M F (flag c b) .steady ≡ update (F .steady) c b
+unfolding step accept onFlag
+steady-as-told M F c b l a = rw (accepted-passes M F (flag c b) l a)
+
+-- "The flag travels with the cart through hand-offs": its greeting, its departure and its arrival leave every flag
+pub move-keeps-flag : (M : Limits) (F : Floor) (c to : ℕ) → step M F (move c to) .steady ≡ F .steady
+unfolding step accept
+move-keeps-flag M F c to = on-cond (λ (X : Floor). X .steady ≡ F .steady) (eqb (refusal M F (move c to)) 0) (λ b. move-keeps-flags F c to) (λ b. refl)
+
+pub deregister-keeps-flag : (M : Limits) (F : Floor) (i t c : ℕ) → onDeregister M F i t c .floor .steady ≡ F .steady
+deregister-keeps-flag M F i t c = deregister-keeps-flags M F i t c
+
+pub register-keeps-flag : (M : Limits) (F : Floor) (t c : ℕ) (row : List ℕ) → onRegister M F t c row .floor .steady ≡ F .steady
+register-keeps-flag M F t c row = register-keeps-flags M F t c row
+
+pub arrive-keeps-flag : (M : Limits) (F : Floor) (t c : ℕ) (row : ℕ → ℕ) → arrive M F t c row .steady ≡ F .steady
+arrive-keeps-flag M F t c row = arrive-keeps-flags M F t c row
+
+-- "for radio, 25 not steady, after 16 and before 17": on a floor that passes, a radio step that passes 8 and 9 is 16 if the cart is not at this
+-- station, whatever its flag, and 25 if it is and is not steady, whatever is queued
+pub not-steady-after-16 : (M : Limits) (F : Floor) (t c buffer : ℕ) → passesForm M F ≡ true → noStation F t ≡ false → noCart F c ≡ false → isAt (F .place c) t ≡ false
+    → answer M F (radio t c buffer) ≡ refused 16
+not-steady-after-16 M F t c buffer h a8 a9 a16 = refused-with M F (radio t c buffer) 16 (omega arith) h (not-here-is-16 M F t c buffer a8 a9 a16)
+
+pub not-steady-before-17 : (M : Limits) (F : Floor) (t c buffer : ℕ) → passesForm M F ≡ true → noStation F t ≡ false → noCart F c ≡ false → isAt (F .place c) t ≡ true
+    → F .steady c ≡ false → answer M F (radio t c buffer) ≡ refused 25
+not-steady-before-17 M F t c buffer h a8 a9 a16 a25 = refused-with M F (radio t c buffer) 25 (omega arith) h (unsteady-is-25 M F t c buffer a8 a9 a16 a25)
+
+-- "An unsteady cart at the head holds back the entries behind it": where no cart of the head entry is steady, no radio step is accepted here
+pub unsteady-head-holds-back : (M : Limits) (F : Floor) (t m : ℕ) → queueHead M F t ≡ some m → ((d : ℕ) → has (F .queue m t) d ≡ true → F .steady d ≡ false)
+    → (c buffer : ℕ) (l : Report) → answer M F (radio t c buffer) ≡ accepted l → ⊥
+unfolding refusal
+unsteady-head-holds-back M F t m e unsteady c buffer l a =
+    let z = may-radio M F (not (passesForm M F)) t c buffer (accepted-passes M F (radio t c buffer) l a) in
+    let same : z .0 ≡ m = cc in
+    let queued = z .1 .queued in
+    clash (F .steady c) (z .1 .is-steady) (unsteady c (rw same at queued))
+
+-- "for kind 6, 18 if never entered, after 9"
+pub flag-of-no-cart : (M : Limits) (F : Floor) (c : ℕ) (b : Bool) → passesForm M F ≡ true → noCart F c ≡ true → answer M F (flag c b) ≡ refused 9
+flag-of-no-cart M F c b h a9 = refused-with M F (flag c b) 9 (omega arith) h (no-cart-is-9 M F c b a9)
+
+pub flag-before-entry : (M : Limits) (F : Floor) (c : ℕ) (b : Bool) → passesForm M F ≡ true → noCart F c ≡ false → entered (F .place c) ≡ false → answer M F (flag c b) ≡ refused 18
+flag-before-entry M F c b h a9 a18 = refused-with M F (flag c b) 18 (omega arith) h (never-in-is-18 M F c b a9 a18)
+
+-- "in the other field, 1 for steady or 0 for not; 2 to 15 there is refusal 3"
+pub flag-above-one : (M : Limits) (f : Fields) (behind : ℕ) → f .kind ≡ 6 → 2 ≤ f .other → fieldsRefusal M f behind ≡ 3
+flag-above-one M f behind k h = other-flag-is-3 M f behind k h
+
+-- no clause speaks of the flags: with any others a floor passes the form rule as it did, owes what it owed, and its next numbers have their sum
+pub flags-unspoken : (M : Limits) (F : Floor) (flags : ℕ → Bool) → (passesForm M (setSteady F flags) ≡ passesForm M F)
+    × (((s c : ℕ) → owes M (setSteady F flags) s c ≡ owes M F s c) × (total (setSteady F flags) ≡ total F))
+flags-unspoken M F flags = let z = unspoken M F (setSteady F flags) refl in (z .form, (z .owed, z .sum))
 
 -- THE EXAMPLES: "The starred examples are gathered as rows of a single proved table over the written steps"
 pub examples-hold : map (λ r. outcome (r .given)) examples ≡ map (λ r. r .shown) examples

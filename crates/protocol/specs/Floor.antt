@@ -86,6 +86,8 @@ pub record Floor : Type 0 where
   pub place : ℕ → Place
   -- "A cart has one next number per initiator": of cart c, of initiator s
   pub next : ℕ → ℕ → ℕ
+  -- is cart c's vacuum steady: "A cart counts as steady from its entry until told"; a cart outside has no flag that anybody reads
+  pub steady : ℕ → Bool
   -- "A message is named by its initiator and its number": the initiator of the message in room m
   pub initiator : ℕ → ℕ
   -- and its number
@@ -113,6 +115,7 @@ pub record Floor : Type 0 where
 pub record Carts : Type 0 where
   pub place : ℕ → Place
   pub next : ℕ → ℕ → ℕ
+  pub steady : ℕ → Bool
 
 -- for each room for a message
 pub record Messages : Type 0 where
@@ -142,6 +145,7 @@ onStations F sent expected =
       expected = expected;
       place = F .place;
       next = F .next;
+      steady = F .steady;
       initiator = F .initiator;
       number = F .number;
       named = F .named;
@@ -167,6 +171,7 @@ onCarts F C =
       expected = F .expected;
       place = C .place;
       next = C .next;
+      steady = C .steady;
       initiator = F .initiator;
       number = F .number;
       named = F .named;
@@ -192,6 +197,7 @@ onMessages F H =
       expected = F .expected;
       place = F .place;
       next = F .next;
+      steady = F .steady;
       initiator = H .initiator;
       number = H .number;
       named = H .named;
@@ -217,6 +223,7 @@ onCopies F K =
       expected = F .expected;
       place = F .place;
       next = F .next;
+      steady = F .steady;
       initiator = F .initiator;
       number = F .number;
       named = F .named;
@@ -242,6 +249,7 @@ onLines F lines =
       expected = F .expected;
       place = F .place;
       next = F .next;
+      steady = F .steady;
       initiator = F .initiator;
       number = F .number;
       named = F .named;
@@ -260,11 +268,15 @@ setExpected F x = onStations F (F .sent) x
 
 -- other places
 abbrev pub setPlace : Floor → (ℕ → Place) → Floor
-setPlace F x = onCarts F (record { place = x; next = F .next })
+setPlace F x = onCarts F (record { place = x; next = F .next; steady = F .steady })
 
 -- other next numbers
 abbrev pub setNext : Floor → (ℕ → ℕ → ℕ) → Floor
-setNext F x = onCarts F (record { place = F .place; next = x })
+setNext F x = onCarts F (record { place = F .place; next = x; steady = F .steady })
+
+-- other flags
+abbrev pub setSteady : Floor → (ℕ → Bool) → Floor
+setSteady F x = onCarts F (record { place = F .place; next = F .next; steady = x })
 
 -- other texts
 abbrev pub setTexts : Floor → (ℕ → List ℕ) → Floor
@@ -393,6 +405,7 @@ afresh mark n k =
       expected = λ t s. 0;
       place = λ c. outside;
       next = λ c s. 0;
+      steady = λ c. true;
       initiator = λ m. 0;
       number = λ m. 0;
       named = λ m. 0;

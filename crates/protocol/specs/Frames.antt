@@ -6,7 +6,7 @@ use lib.Dec.{eqb, ltb}
 use lib.ListN.{length, take, drop}
 use Rattle.protocol.specs.Folds.{isEmpty}
 use Rattle.protocol.specs.Floor.{Limits}
-use Rattle.protocol.specs.Events.{Event, start, enter, send, wire, radio, move}
+use Rattle.protocol.specs.Events.{Event, start, enter, send, wire, radio, move, flag}
 use Rattle.protocol.specs.Refusals.{check}
 
 -- "kind 4 bits, station 4, cart 6, other 4, length 6, zero 40, set 64"
@@ -39,13 +39,15 @@ fieldsOf l =
     }
 
 -- "Kinds: 0 start (station field, cart field), 1 enter (station, cart), 2 send (station, length, set), 3 wire (station = from, other = to),
--- 4 radio (station, cart), 5 move (cart, other = to). Fields not listed for a kind must be zero": the sum of those
+-- 4 radio (station, cart), 5 move (cart, other = to). Fields not listed for a kind must be zero": the sum of those. "New frame kind 6 carries a
+-- cart and, in the other field, 1 for steady or 0 for not; 2 to 15 there is refusal 3": of that field all but the lowest bit must be zero
 unfoldable pub unlisted : Fields → ℕ
 unlisted f =
     cond (eqb (f .kind) 2) (f .cart + f .other + f .zero)
     (cond (eqb (f .kind) 3) (f .cart + f .length + f .zero + f .set)
     (cond (eqb (f .kind) 5) (f .station + f .length + f .zero + f .set)
-    (f .other + f .length + f .zero + f .set)))
+    (cond (eqb (f .kind) 6) (f .station + f .other / 2 + f .length + f .zero + f .set)
+    (f .other + f .length + f .zero + f .set))))
 
 -- the event of a kind: "station field = stations − 1, cart field = carts − 1" for a start; a radio step's text buffer holds every text
 unfoldable pub eventOf : Limits → Fields → List ℕ → Event
@@ -55,7 +57,8 @@ eventOf M f text =
     (cond (eqb (f .kind) 2) (send (f .station) (f .set) text)
     (cond (eqb (f .kind) 3) (wire (f .station) (f .other))
     (cond (eqb (f .kind) 4) (radio (f .station) (f .cart) (M .text))
-    (move (f .cart) (f .other))))))
+    (cond (eqb (f .kind) 5) (move (f .cart) (f .other))
+    (flag (f .cart) (eqb (f .other) 1)))))))
 
 -- what the reader says: "end"; a refusal; or an event, and how many octets it took
 pub data Reading : Type 0 where
@@ -66,7 +69,7 @@ pub data Reading : Type 0 where
 -- the refusal of a frame with these fields and so many octets behind it, 0 if it is taken apart
 unfoldable pub fieldsRefusal : Limits → Fields → ℕ → ℕ
 fieldsRefusal M f behind =
-    check 2 (ltb 5 (f .kind))
+    check 2 (ltb 6 (f .kind))
     (check 3 (not (eqb (unlisted f) 0))
     (check 4 (ltb (M .text) (f .length))
     (check 1 (ltb behind (f .length)) 0)))

@@ -1,5 +1,5 @@
--- THE HAND-OFF MODULE (document 001, 3.5): catch-up, and a cart's way: enter, move, register. Deregister is in a file of its own.
-use mathlib.Core.Bool.{cond, _&&_}
+-- THE HAND-OFF MODULE (document 001, 3.5): catch-up, and a cart's way: enter, move, register; and its flag. Deregister is in a file of its own.
+use mathlib.Core.Bool.{Bool, true, cond, _&&_}
 use mathlib.Core.Option.{Option, none, some}
 use mathlib.Core.List.{List, []}
 use Prim.Native.Nat.{ℕ, zero, suc, _-_}
@@ -7,7 +7,7 @@ use lib.Dec.{eqb, ltb}
 use lib.ListN.{getD}
 use Rattle.protocol.specs.Folds.{sum, first, listOf, update, update2, byOption}
 use Rattle.protocol.specs.CartSets.{has, with, without}
-use Rattle.protocol.specs.Floor.{Limits, at, leaving, deregister, Floor, setPlace, setNext, setCopy, setQueue, between, push, stationOf, isBuffered, isMessage}
+use Rattle.protocol.specs.Floor.{Limits, at, leaving, deregister, Floor, setPlace, setNext, setSteady, setCopy, setQueue, between, push, stationOf, isBuffered, isMessage}
 use Rattle.protocol.specs.Events.{Done, done}
 
 -- where a catch-up stops: the cart's next number there, and the room of the message that it is queued for, if any
@@ -20,6 +20,10 @@ unfoldable pub onMove : Floor → ℕ → ℕ → Done
 onMove F c to =
     let old = stationOf (F .place c) in
     done (push (setPlace F (update (F .place) c (leaving old to))) (between to old) (deregister c)) 5 c to 0 1 []
+
+-- cart c is told steady, or not: "It prints cart and flag with p = 0 and w = 0"
+unfoldable pub onFlag : Floor → ℕ → Bool → Done
+onFlag F c b = done (setSteady F (update (F .steady) c b)) 6 c (cond b 1 0) 0 0 []
 
 -- the cart's next numbers become those of the row
 abbrev pub withRow : Floor → ℕ → (ℕ → ℕ) → Floor
@@ -79,9 +83,9 @@ module _ (M : Limits) where
   unfoldable pub passedOver : Floor → ℕ → ℕ → (ℕ → ℕ) → ℕ
   passedOver F t c row = sum (F .stations) (λ s. arrive F t c row .next c s - row s)
 
-  -- "Enter (station, cart): as a register with all next numbers 0, handled at once"
+  -- "Enter (station, cart): as a register with all next numbers 0, handled at once"; "A cart counts as steady from its entry"
   unfoldable pub onEnter : Floor → ℕ → ℕ → Done
-  onEnter F t c = done (arrive F t c (λ s. 0)) 1 t c (passedOver F t c (λ s. 0)) 0 []
+  onEnter F t c = done (setSteady (arrive F t c (λ s. 0)) (update (F .steady) c true)) 1 t c (passedOver F t c (λ s. 0)) 0 []
 
   -- "the cart's whole row of next numbers": one for each station that a floor may have
   abbrev pub rowOf : (ℕ → ℕ) → List ℕ

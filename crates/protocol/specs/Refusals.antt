@@ -6,7 +6,7 @@ use lib.ListN.{length}
 use Rattle.protocol.specs.Folds.{every, byOption, isNone, isEmpty}
 use Rattle.protocol.specs.CartSets.{has}
 use Rattle.protocol.specs.Floor.{Limits, Floor, isAt, entered, moving}
-use Rattle.protocol.specs.Events.{Event, start, enter, send, wire, radio, move}
+use Rattle.protocol.specs.Events.{Event, start, enter, send, wire, radio, move, flag}
 use Rattle.protocol.specs.Wired.{freeRoom}
 use Rattle.protocol.specs.Wireless.{queueHead}
 use Rattle.protocol.specs.Form.{passesForm}
@@ -46,7 +46,7 @@ module _ (M : Limits) (F : Floor) where
 
   -- the refusal of an event, 0 if it is accepted; `broken`: "not started, or the lent floor breaks the written form rule". "Start skips 8
   -- and 9, and of 5 it keeps only this: a lent part of the floor has the wrong length, met before 6". A number above 21 came later, with its
-  -- place: "24 empty text, after 12 and before 13"
+  -- place: "24 empty text, after 12 and before 13"; "for radio, 25 not steady, after 16 and before 17". For a flag: "18 if never entered, after 9"
   unfoldable pub refusalIf : Bool → Event → ℕ
   refusalIf broken (start n k) = check 5 (not (F .lengthsRight)) (check 6 (F .started) (check 7 (wrongSize M n k) 0))
   refusalIf broken (enter t c) =
@@ -73,8 +73,9 @@ module _ (M : Limits) (F : Floor) where
       (check 8 (noStation F t)
       (check 9 (noCart F c)
       (check 16 (not (isAt (F .place c) t))
+      (check 25 (not (F .steady c))
       (check 17 (headLacks t c)
-      (check 21 (bufferShort t buffer) 0)))))
+      (check 21 (bufferShort t buffer) 0))))))
   refusalIf broken (move c to) =
       check 5 broken
       (check 8 (noStation F to)
@@ -82,6 +83,10 @@ module _ (M : Limits) (F : Floor) where
       (check 18 (not (entered (F .place c)))
       (check 19 (moving (F .place c))
       (check 20 (isAt (F .place c) to) 0)))))
+  refusalIf broken (flag c b) =
+      check 5 broken
+      (check 9 (noCart F c)
+      (check 18 (not (entered (F .place c))) 0))
 
   -- the refusal of an event, 0 if it is accepted
   unfoldable pub refusal : Event → ℕ
