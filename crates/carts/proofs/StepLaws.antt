@@ -18,8 +18,8 @@ use Rattle.carts.specs.declared.Place.{Place}
 use Rattle.carts.specs.declared.Place.the-variants.{Outside, At, Leaving, Travelling}
 use Rattle.carts.specs.declared.Cart.{Cart}
 use Rattle.carts.specs.Words.{placeIn, canonical}
-use Rattle.carts.specs.Records.{seen, greetedPlace, greeted, departedPlace, departed, numberAfter, received}
-use Rattle.carts.specs.View.{withPlace, withCart, IsCart}
+use Rattle.carts.specs.Records.{seen, greetedPlace, greeted, departedPlace, departed, arrived, numberAfter, received, told}
+use Rattle.carts.specs.View.{withPlace, withSteady, withRow, withCart, IsCart}
 
 -- a list has nothing to change behind its end
 pub set-beyond : (l : List ℕ) (i v : ℕ) → length l ≤ i → l ≡ set l i v
@@ -79,12 +79,9 @@ one-more-canonical K c e =
 abbrev pub Sixteen : Carts → Type 0
 Sixteen C = (d s : ℕ) → 16 ≤ s → C .next d s ≡ 0
 
--- a place changed for itself
-place-same : (f : ℕ → floor.Place) (c : ℕ) (p : floor.Place) → p ≡ f c → update f c p ≡ f
-place-same f c p e = λ i d. same d i
-  where
-    same : (d : ℕ) → update f c p d ≡ f d
-    same d = by-test (eqb d c) (λ q. rw q (e ∙ ap f (sym (eqb-true d c q)))) (λ q. rw q)
+-- a flag changed for itself
+flag-same : (f : ℕ → Bool) (c : ℕ) (b : Bool) → b ≡ f c → (d : ℕ) → update f c b d ≡ f d
+flag-same f c b e d = by-test (eqb d c) (λ q. rw q (e ∙ ap f (sym (eqb-true d c q)))) (λ q. rw q)
 
 module _ (C : Carts) (sixteen : Sixteen C) (c : ℕ) (k : Cart) (is : IsCart C c k) where
   -- a cart's next numbers are those of its record
@@ -95,19 +92,25 @@ module _ (C : Carts) (sixteen : Sixteen C) (c : ℕ) (k : Cart) (is : IsCart C c
       (λ l. listOf-at 16 (C .next c) 0 s l)
       (λ l. List·getD-eq-default (listOf 16 (C .next c)) 0 (let z = length-listOf 16 (C .next c) in omega arith) ∙ sym (sixteen c s l))
 
-  -- a record with the same next numbers changes the place alone
-  place-only : (p : floor.Place) (k′ : Cart) → seen (k′ .place) ≡ p → k′ .next ≡ k .next → withCart C c k′ ≡ withPlace C c p
-  place-only p k′ e n = λ i. record { place = update (C .place) c (e i); next = λ d s. row d s i }
-    where
-      row : (d s : ℕ) → cond (eqb d c) (getD (k′ .next) s 0) (C .next d s) ≡ C .next d s
-      row d s =
-          by-test (eqb d c)
-          (λ q. rw q (ap (λ (l : List ℕ). getD l s 0) n ∙ entry s ∙ ap (λ (x : ℕ). C .next x s) (sym (eqb-true d c q))))
-          (λ q. rw q)
+  -- the cart's own row, put in its record
+  row-same : (row : List ℕ) → row ≡ k .next → (d s : ℕ) → cond (eqb d c) (getD row s 0) (C .next d s) ≡ C .next d s
+  row-same row n d s =
+      by-test (eqb d c)
+      (λ q. rw q (ap (λ (l : List ℕ). getD l s 0) n ∙ entry s ∙ ap (λ (x : ℕ). C .next x s) (sym (eqb-true d c q))))
+      (λ q. rw q)
+
+  -- a record with the same next numbers and the same flag changes the place alone
+  place-only : (p : floor.Place) (k′ : Cart) → seen (k′ .place) ≡ p → k′ .next ≡ k .next → k′ .steady ≡ k .steady → withCart C c k′ ≡ withPlace C c p
+  place-only p k′ e n f =
+      λ i. record {
+        place = update (C .place) c (e i);
+        next = λ d s. row-same (k′ .next) n d s i;
+        steady = λ d. flag-same (C .steady) c (k′ .steady) (f ∙ is .steady) d i;
+      }
 
   -- "the cart is leaving"
   pub greet-step : (s : ℕ) (to : Station) (k′ : Cart) → C .place c ≡ at s → k′ ≡ greeted k to → withCart C c k′ ≡ withPlace C c (leaving s (to .0))
-  greet-step s to k′ e g = place-only (leaving s (to .0)) k′ (ap (λ x. seen (x .place)) g ∙ leaves (k .place) (is .place ∙ e)) (ap (λ x. x .next) g)
+  greet-step s to k′ e g = place-only (leaving s (to .0)) k′ (ap (λ x. seen (x .place)) g ∙ leaves (k .place) (is .place ∙ e)) (ap (λ x. x .next) g) (ap (λ x. x .steady) g)
     where
       leaves : (p : Place) → seen p ≡ at s → seen (greetedPlace p to) ≡ leaving s (to .0)
       leaves Outside q = cc
@@ -117,13 +120,32 @@ module _ (C : Carts) (sixteen : Sixteen C) (c : ℕ) (k : Cart) (is : IsCart C c
 
   -- "travelling (its register is on a line)"
   pub depart-step : (s t : ℕ) (k′ : Cart) → C .place c ≡ leaving s t → k′ ≡ departed k → withCart C c k′ ≡ withPlace C c (travelling s t)
-  depart-step s t k′ e g = place-only (travelling s t) k′ (ap (λ x. seen (x .place)) g ∙ goes (k .place) (is .place ∙ e)) (ap (λ x. x .next) g)
+  depart-step s t k′ e g = place-only (travelling s t) k′ (ap (λ x. seen (x .place)) g ∙ goes (k .place) (is .place ∙ e)) (ap (λ x. x .next) g) (ap (λ x. x .steady) g)
     where
       goes : (p : Place) → seen p ≡ leaving s t → seen (departedPlace p) ≡ travelling s t
       goes Outside q = cc
       goes (At r) q = cc
       goes (Leaving r u) q = cc
       goes (Travelling r u) q = cc
+
+  -- "the cart is at this station": its flag stays
+  pub arrive-step : (station : Station) (row : List ℕ) (k′ : Cart) → k′ ≡ arrived k station row → withCart C c k′ ≡ withRow (withPlace C c (at (station .0))) c row
+  arrive-step station row k′ g =
+      ap (λ x. withCart C c x) g
+      ∙ (λ i. record {
+        place = update (C .place) c (at (station .0));
+        next = λ d s. cond (eqb d c) (getD row s 0) (C .next d s);
+        steady = λ d. flag-same (C .steady) c (k .steady) (is .steady) d i;
+      })
+
+  -- a cart that is told steady or not keeps its place and its next numbers
+  pub told-step : (b : Bool) (k′ : Cart) → k′ ≡ told k b → withCart C c k′ ≡ withSteady C c b
+  told-step b k′ g =
+      ap (λ x. withCart C c x) g
+      ∙ (λ i. record { place = λ d. place-same d i; next = λ d s. row-same (k .next) refl d s i; steady = update (C .steady) c b })
+    where
+      place-same : (d : ℕ) → update (C .place) c (seen (k .place)) d ≡ C .place d
+      place-same d = by-test (eqb d c) (λ q. rw q (is .place ∙ ap (C .place) (sym (eqb-true d c q)))) (λ q. rw q)
 
   -- "its next number rises": that of the record received
   pub receive-entry : (s : Station) (n : MessageNumber) (k′ : Cart) → s .0 < 16 → n .0 < 18446744073709551615 → k′ ≡ received k s n → getD (k′ .next) (s .0) 0 ≡ n .0 + 1

@@ -1,5 +1,5 @@
 -- A CART'S RECORD: "A cart's record is handed in and handed back with its new state".
-use mathlib.Core.Bool.{cond}
+use mathlib.Core.Bool.{Bool, cond}
 use mathlib.Core.List.{List}
 use Prim.Native.Nat.{ℕ, _+_}
 use lib.Dec.{ltb}
@@ -28,7 +28,7 @@ greetedPlace (Travelling s t) to = Travelling s t
 
 -- a cart's record when it has greeted a new station
 abbrev pub greeted : Cart → Station → Cart
-greeted k to = record { place = greetedPlace (k .place) to; next = k .next }
+greeted k to = record { place = greetedPlace (k .place) to; next = k .next; steady = k .steady }
 
 -- "travelling (its register is on a line)": a leaving cart is on its way to where it was leaving for; any other stays
 abbrev pub departedPlace : Place → Place
@@ -39,11 +39,11 @@ departedPlace (Travelling s t) = Travelling s t
 
 -- a cart's record when the old station has heard
 abbrev pub departed : Cart → Cart
-departed k = record { place = departedPlace (k .place); next = k .next }
+departed k = record { place = departedPlace (k .place); next = k .next; steady = k .steady }
 
--- "the cart is at this station", with the row of next numbers that its register carried
+-- "the cart is at this station", with the row of next numbers that its register carried; "The flag travels with the cart through hand-offs"
 abbrev pub arrived : Cart → Station → List ℕ → Cart
-arrived k station row = record { place = At station; next = row }
+arrived k station row = record { place = At station; next = row; steady = k .steady }
 
 -- the number after a message's; the last word has none after it, and stays
 abbrev pub numberAfter : ℕ → ℕ
@@ -52,4 +52,8 @@ numberAfter n = cond (ltb n 18446744073709551615) (n + 1) n
 -- "its next number rises": for the initiator of the message that it received, it is the number after that message's. A record has sixteen next
 -- numbers: of a station beyond them it has none, and stays as it is
 abbrev pub received : Cart → Station → MessageNumber → Cart
-received k initiator n = record { place = k .place; next = set (k .next) (initiator .0) (numberAfter (n .0)) }
+received k initiator n = record { place = k .place; next = set (k .next) (initiator .0) (numberAfter (n .0)); steady = k .steady }
+
+-- a cart's record when it is told steady, or not
+abbrev pub told : Cart → Bool → Cart
+told k steady = record { place = k .place; next = k .next; steady = steady }

@@ -1,6 +1,6 @@
 -- THE CARTS THAT A LENT TABLE HOLDS, and the carts with one entry changed.
 use mathlib.Core.Path.{_≡_}
-use mathlib.Core.Bool.{Bool, cond}
+use mathlib.Core.Bool.{Bool, true, cond}
 use mathlib.Core.List.{List}
 use Prim.Native.Nat.{ℕ, _+_}
 use lib.Dec.{eqb}
@@ -9,42 +9,48 @@ use Rattle.protocol.specs.Floor.{Place, outside, Carts}
 use Rattle.protocol.specs.Handoff.{entryOf}
 use Rattle.carts.specs.declared.Cart.{Cart}
 use Rattle.rows.specs.Rows.{cell}
-use Rattle.carts.specs.Words.{width, placeIn, canonical}
+use Rattle.carts.specs.Words.{width, kindIn, steadyIn, placeIn, canonicalFirst}
 use Rattle.carts.specs.Records.{seen}
 
--- the carts in a table: beyond its rows they are outside, beyond sixteen initiators their next numbers are 0
+-- the carts in a table: beyond its rows they are outside and steady, beyond sixteen initiators their next numbers are 0
 unfoldable pub cartsIn : List ℕ → Carts
 cartsIn words =
     record {
-      place = λ c. placeIn (cell width words c 0) (cell width words c 1) (cell width words c 2);
+      place = λ c. placeIn (kindIn (cell width words c 0)) (cell width words c 1) (cell width words c 2);
       next = λ c s. cell width words c (3 + s);
+      steady = λ c. steadyIn (cell width words c 0);
     }
 
--- the rows whose place stands in canonical words
+-- the rows whose place and flag stand in canonical words
 unfoldable pub canonicalIn : List ℕ → ℕ → Bool
-canonicalIn words c = canonical (cell width words c 0) (cell width words c 1) (cell width words c 2)
+canonicalIn words c = canonicalFirst (cell width words c 0) (cell width words c 1) (cell width words c 2)
 
--- every cart outside
+-- every cart outside, and steady
 abbrev pub noCarts : Carts
-noCarts = record { place = λ c. outside; next = λ c s. 0 }
+noCarts = record { place = λ c. outside; next = λ c s. 0; steady = λ c. true }
 
 -- cart c in another place
 abbrev pub withPlace : Carts → ℕ → Place → Carts
-withPlace C c p = record { place = update (C .place) c p; next = C .next }
+withPlace C c p = record { place = update (C .place) c p; next = C .next; steady = C .steady }
+
+-- cart c steady, or not
+abbrev pub withSteady : Carts → ℕ → Bool → Carts
+withSteady C c b = record { place = C .place; next = C .next; steady = update (C .steady) c b }
 
 -- another next number of cart c, for initiator s
 abbrev pub withNext : Carts → ℕ → ℕ → ℕ → Carts
-withNext C c s n = record { place = C .place; next = update2 (C .next) c s n }
+withNext C c s n = record { place = C .place; next = update2 (C .next) c s n; steady = C .steady }
 
 -- "the cart's whole row of next numbers": another row of cart c
 abbrev pub withRow : Carts → ℕ → List ℕ → Carts
-withRow C c row = record { place = C .place; next = λ d s. cond (eqb d c) (entryOf row s) (C .next d s) }
+withRow C c row = record { place = C .place; next = λ d s. cond (eqb d c) (entryOf row s) (C .next d s); steady = C .steady }
 
 -- another record of cart c
 abbrev pub withCart : Carts → ℕ → Cart → Carts
-withCart C c k = withRow (withPlace C c (seen (k .place))) c (k .next)
+withCart C c k = withRow (withSteady (withPlace C c (seen (k .place))) c (k .steady)) c (k .next)
 
--- k is the record of cart c: its place, and its row of sixteen next numbers
+-- k is the record of cart c: its place, its row of sixteen next numbers, and its flag
 pub record IsCart (C : Carts) (c : ℕ) (k : Cart) : Type 0 where
   pub place : seen (k .place) ≡ C .place c
   pub next : k .next ≡ listOf 16 (C .next c)
+  pub steady : k .steady ≡ C .steady c

@@ -7,9 +7,9 @@ ghost use mathlib.Core.Bool.{true};
 ghost use Prim.Native.Nat.{_<_};
 ghost use lib.ListN.{length};
 ghost use Rattle.protocol.specs.Folds.{listOf, update};
-ghost use Rattle.carts.specs.Words.{HasRow, placeIn, canonical};
-ghost use Rattle.carts.specs.Records.{seen, greeted, departed, arrived, numberAfter, received};
-ghost use Rattle.carts.specs.View.{cartsIn, canonicalIn, noCarts, withPlace, withNext, withRow, withCart, IsCart};
+ghost use Rattle.carts.specs.Words.{HasRow, firstWord, placeIn, canonical, canonicalFirst};
+ghost use Rattle.carts.specs.Records.{seen, greeted, departed, arrived, numberAfter, received, told};
+ghost use Rattle.carts.specs.View.{cartsIn, canonicalIn, noCarts, withPlace, withSteady, withNext, withRow, withCart, IsCart};
 
 // "A cart is outside, at a station, leaving (it has greeted a new station, the old one has not heard), or travelling (its register is on
 // a line)": leaving the first for the second, travelling from the first to the second.
@@ -20,10 +20,11 @@ pub enum Place {
     Travelling(Station, Station),
 }
 
-// A cart's record: where it is, and "one next number per initiator".
+// A cart's record: where it is, "one next number per initiator", and whether its vacuum is steady: "The flag travels with the cart through hand-offs".
 pub struct Cart {
     pub place: Place,
     pub next: [u64; 16],
+    pub steady: bool,
 }
 
 // "A cart's record is handed in and handed back with its new state."
@@ -34,10 +35,12 @@ impl Cart {
     {
         let place = self.place;
         let next = self.next;
+        let steady = self.steady;
         match place {
             Place::At(from) => Cart {
                 place: Place::Leaving(from, to),
                 next,
+                steady,
             },
             _ => self,
         }
@@ -49,10 +52,12 @@ impl Cart {
     {
         let place = self.place;
         let next = self.next;
+        let steady = self.steady;
         match place {
             Place::Leaving(from, to) => Cart {
                 place: Place::Travelling(from, to),
                 next,
+                steady,
             },
             _ => self,
         }
@@ -65,6 +70,7 @@ impl Cart {
         Cart {
             place: Place::At(station),
             next: row,
+            steady: self.steady,
         }
     }
 
@@ -76,6 +82,14 @@ impl Cart {
         if s < products::INITIATORS {
             self.next[s] = number_after(n);
         }
+        self
+    }
+
+    // The cart is told steady, or not.
+    pub fn told(mut self, steady: bool) -> Cart
+        ensures { λ r. ⌜ r ≡ told self steady ⌝ }
+    {
+        self.steady = steady;
         self
     }
 }
@@ -96,6 +110,9 @@ const WIDTH: usize = 19;
 
 const NEXT: usize = 3;
 
+// The first word is the kind of the place, one of four, and so much more for a cart that is not steady.
+const UNSTEADY: u64 = 4;
+
 // A place in words: its kind, and its stations.
 struct PlaceWords(u64, u64, u64);
 
@@ -113,7 +130,7 @@ fn place_in(kind: u64, s: u64, t: u64) -> Place
 
 // The words that a place is written in.
 fn words_of(place: Place) -> PlaceWords
-    ensures { λ r. ⌜ (placeIn (r .0) (r .1) (r .2) ≡ seen place) × (canonical (r .0) (r .1) (r .2) ≡ true) ⌝ }
+    ensures { λ r. ⌜ (placeIn (r .0) (r .1) (r .2) ≡ seen place) × (canonical (r .0) (r .1) (r .2) ≡ true) × (r .0 < 4) ⌝ }
 {
     match place {
         Place::Outside => PlaceWords(0, 0, 0),
@@ -121,6 +138,14 @@ fn words_of(place: Place) -> PlaceWords
         Place::Leaving(s, t) => PlaceWords(2, s.0, t.0),
         Place::Travelling(s, t) => PlaceWords(3, s.0, t.0),
     }
+}
+
+// The first word of a row: a kind of place, and the flag.
+fn first_word(kind: u64, steady: bool) -> u64
+    requires { ⌜ kind < 4 ⌝ }
+    ensures { λ r. ⌜ r ≡ firstWord kind steady ⌝ }
+{
+    if steady { kind } else { kind + UNSTEADY }
 }
 
 // Are these the words that a place is written in?
@@ -134,34 +159,53 @@ fn are_canonical(kind: u64, s: u64, t: u64) -> bool
     }
 }
 
+// Are these the first words of a row: a flag and a kind, and the stations of that kind?
+fn first_canonical(first: u64, s: u64, t: u64) -> bool
+    ensures { λ r. ⌜ r ≡ canonicalFirst first s t ⌝ }
+{
+    if first < 2 * UNSTEADY {
+        are_canonical(first % UNSTEADY, s, t)
+    } else {
+        false
+    }
+}
+
 // Where the cart is.
 pub fn place_of(carts: &[u64], number: CartNumber) -> Place
     requires { ⌜ HasRow (now carts) (number .0) ⌝ }
     ensures { λ r. ⌜ seen r ≡ cartsIn (now (carts .entry)) .place (number .0) ⌝ }
 {
     let at = (number.0 as usize) * WIDTH;
-    place_in(carts[at], carts[at + 1], carts[at + 2])
+    place_in(carts[at] % UNSTEADY, carts[at + 1], carts[at + 2])
 }
 
-// Does the cart's place stand in the words that it is written in? A floor in other words breaks the form rule.
+// Is the cart steady?
+pub fn is_steady(carts: &[u64], number: CartNumber) -> bool
+    requires { ⌜ HasRow (now carts) (number .0) ⌝ }
+    ensures { λ r. ⌜ r ≡ cartsIn (now (carts .entry)) .steady (number .0) ⌝ }
+{
+    carts[(number.0 as usize) * WIDTH] < UNSTEADY
+}
+
+// Do the cart's place and flag stand in the words that they are written in? A floor in other words breaks the form rule.
 pub fn is_canonical(carts: &[u64], number: CartNumber) -> bool
     requires { ⌜ HasRow (now carts) (number .0) ⌝ }
     ensures { λ r. ⌜ r ≡ canonicalIn (now (carts .entry)) (number .0) ⌝ }
 {
     let at = (number.0 as usize) * WIDTH;
-    are_canonical(carts[at], carts[at + 1], carts[at + 2])
+    first_canonical(carts[at], carts[at + 1], carts[at + 2])
 }
 
-// The cart is in another place.
-pub fn put_place(carts: &mut [u64], number: CartNumber, place: Place)
+// The cart is in another place, and steady or not.
+fn put_place(carts: &mut [u64], number: CartNumber, place: Place, steady: bool)
     requires { ⌜ HasRow (now carts) (number .0) ⌝ }
-    ensures { λ _. ⌜ cartsIn (now (carts .exit)) ≡ withPlace (cartsIn (now (carts .entry))) (number .0) (seen place) ⌝ }
+    ensures { λ _. ⌜ cartsIn (now (carts .exit)) ≡ withSteady (withPlace (cartsIn (now (carts .entry))) (number .0) (seen place)) (number .0) steady ⌝ }
     ensures { λ _. ⌜ canonicalIn (now (carts .exit)) ≡ update (canonicalIn (now (carts .entry))) (number .0) true ⌝ }
     ensures { λ _. ⌜ length (now (carts .exit)) ≡ length (now (carts .entry)) ⌝ }
 {
     let at = (number.0 as usize) * WIDTH;
     let words = words_of(place);
-    carts[at] = words.0;
+    carts[at] = first_word(words.0, steady);
     carts[at + 1] = words.1;
     carts[at + 2] = words.2;
 }
@@ -220,7 +264,12 @@ pub fn cart_at(carts: &[u64], number: CartNumber) -> Cart
 {
     let place = place_of(carts, number);
     let next = row_of(carts, number);
-    Cart { place, next }
+    let steady = is_steady(carts, number);
+    Cart {
+        place,
+        next,
+        steady,
+    }
 }
 
 // The cart has another record.
@@ -232,11 +281,12 @@ pub fn put_cart(carts: &mut [u64], number: CartNumber, cart: Cart)
 {
     let place = cart.place;
     let next = cart.next;
-    put_place(carts, number, place);
+    let steady = cart.steady;
+    put_place(carts, number, place, steady);
     put_row(carts, number, next);
 }
 
-// "it writes all the rest afresh": every cart is outside, its next numbers are 0.
+// "it writes all the rest afresh": every cart is outside and steady, its next numbers are 0.
 pub fn clear_carts(carts: &mut [u64])
     ensures { λ _. ⌜ cartsIn (now (carts .exit)) ≡ noCarts ⌝ }
     ensures { λ _. ⌜ canonicalIn (now (carts .exit)) ≡ (λ c. true) ⌝ }

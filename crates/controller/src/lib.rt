@@ -1,4 +1,4 @@
-// THE CONTROLLER: the six events over a floor in lent memory. Each takes any numbers and any lent parts, refuses first, "Checks run down the
+// THE CONTROLLER: the seven events over a floor in lent memory. Each takes any numbers and any lent parts, refuses first, "Checks run down the
 // table; the first that applies is the answer", and leaves exactly the written floor. A contract `Met L L′ e a` says of the lent parts
 // before and after: the answer is the written one, the floor that they say is the written step's, and a refusal changed no word of them.
 use event_answers::Answer;
@@ -7,7 +7,7 @@ use ids::Station;
 ghost use mathlib.Core.Path.{_≡_};
 ghost use mathlib.Core.List.{[]};
 ghost use Rattle.protocol.specs.Floor.{wholeFloor, limits};
-ghost use Rattle.protocol.specs.Events.{start, enter, send, wire, move};
+ghost use Rattle.protocol.specs.Events.{start, enter, send, wire, move, flag};
 ghost use Rattle.protocol.specs.Form.{passesForm};
 ghost use Rattle.view.specs.View.{lent, floorIn};
 ghost use Rattle.event_answers.specs.Answers.{answerIn};
@@ -165,4 +165,22 @@ pub fn move_cart(
         return Answer::Refused(5);
     }
     event_carts::move_cart(stations, carts, messages, lines, texts, cart, to)
+}
+
+// "A cart counts as steady from its entry until told": the cart is told steady, or not.
+pub fn flag_cart(
+    stations: &[u64],
+    carts: &mut [u64],
+    messages: &[u64],
+    lines: &[u64],
+    texts: &[u8],
+    cart: CartNumber,
+    steady: bool,
+) -> Answer
+    ensures { λ a. ⌜ Met (lent wholeFloor (now (stations .entry)) (now (carts .entry)) (now (messages .entry)) (now (lines .entry)) (now (texts .entry))) (lent wholeFloor (now (stations .entry)) (now (carts .exit)) (now (messages .entry)) (now (lines .entry)) (now (texts .entry))) (flag (cart .0) steady) (answerIn a []) ⌝ }
+{
+    if !passes(stations, carts, messages, lines, texts) {
+        return Answer::Refused(5);
+    }
+    event_carts::flag_cart(stations, carts, messages, lines, texts, cart, steady)
 }

@@ -8,7 +8,7 @@ use native.Mathlib.Omega.{arith}
 use lib.ListN.{length}
 use borrow.Author.Tests.{lt-ltb, le-ltb}
 use Rattle.protocol.specs.Floor.{limitsOf}
-use Rattle.protocol.specs.Events.{Event, enter, send, wire, radio, move, refused}
+use Rattle.protocol.specs.Events.{Event, enter, send, wire, radio, move, flag, refused}
 use Rattle.protocol.specs.Form.{passesForm}
 use Rattle.protocol.specs.Refusals.{refusal, refusalIf}
 use Rattle.view.specs.View.{Lent, floorIn}
@@ -36,6 +36,10 @@ module _ (L : Lent) (tested : Bool) (test-is : tested ≡ passesForm (limitsOf (
   pub broken-move : (c to : ℕ) → Met L L (move c to) (refused 5)
   unfolding refusalIf
   broken-move c to = meets-broken L (move c to) tested test-is no refl
+
+  pub broken-flag : (c : ℕ) (b : Bool) → Met L L (flag c b) (refused 5)
+  unfolding refusalIf
+  broken-flag c b = meets-broken L (flag c b) tested test-is no refl
 
   -- a text within the limit
   pub broken-send : (s set : ℕ) (text : List ℕ) → length text ≤ 32 → Met L L (send s set text) (refused 5)

@@ -1,7 +1,8 @@
 -- THE ANSWERS, in 01's numbers and values: "index from 0, kind, a, b, p, w. Refused: index, no, refusal".
-use mathlib.Core.Bool.{true, false, cond}
+use mathlib.Core.Bool.{Bool, true, false, cond}
 use mathlib.Core.List.{List, []}
 use Prim.Native.Nat.{ℕ}
+use lib.Dec.{eqb}
 use lib.ListN.{take}
 use Rattle.protocol.specs.Events.{refused, accepted}
 use Rattle.protocol.specs.Events as events
@@ -9,17 +10,25 @@ use Rattle.reports.specs.declared.Effect.{Effect}
 use Rattle.reports.specs.declared.Report.{Report}
 use Rattle.reports.specs.Effects.{nothing, acceptedIn}
 use Rattle.event_answers.specs.declared.Outcome.{Outcome}
-use Rattle.event_answers.specs.declared.Outcome.the-variants.{Started, Entered, Sent, Buffered, Acknowledged, Deleted, Deregistered, Registered, Received, Moved}
+use Rattle.event_answers.specs.declared.Outcome.the-variants.{Started, Entered, Sent, Buffered, Acknowledged, Deleted, Deregistered, Registered, Received, Moved, Flagged}
 use Rattle.event_answers.specs.declared.Answer.{Answer}
 use Rattle.event_answers.specs.declared.Answer.the-variants.{Refused, Accepted}
 use Rattle.event_answers.specs.declared.Told.{Told}
+
+-- "Checks run down the table; the first that applies is the answer": a refusal, or the next where there is none
+abbrev pub firstApplying : ℕ → ℕ → ℕ
+firstApplying r next = cond (eqb r 0) next r
 
 -- kind, a, b, and what the step counted
 abbrev pub values : ℕ → ℕ → ℕ → Effect → Report
 values kind a b f = record { kind = kind; a = a; b = b; effect = f }
 
+-- "1 for steady or 0 for not"
+abbrev pub flagNumber : Bool → ℕ
+flagNumber steady = cond steady 1 0
+
 -- "a, b: start, stations and carts; enter, station and cart; send, station and number; wire, record kind and message number (cart for 4 and
--- 5); radio, initiator and number; move, cart and to"
+-- 5); radio, initiator and number; move, cart and to"; of a flag "It prints cart and flag"
 abbrev pub reportOf : Outcome → Effect → Report
 reportOf (Started n k) f = values 0 n k f
 reportOf (Entered t c) f = values 1 (t .0) (c .0) f
@@ -31,6 +40,7 @@ reportOf (Deregistered c) f = values 3 4 (c .0) f
 reportOf (Registered c) f = values 3 5 (c .0) f
 reportOf (Received s n size) f = values 4 (s .0) (n .0) f
 reportOf (Moved c to) f = values 5 (c .0) (to .0) f
+reportOf (Flagged c b) f = values 6 (c .0) (flagNumber b) f
 
 -- "Radio adds the text": how many octets; the others add none
 abbrev pub textSize : Outcome → ℕ
@@ -44,6 +54,7 @@ textSize (Deregistered c) = 0
 textSize (Registered c) = 0
 textSize (Received s n size) = size
 textSize (Moved c to) = 0
+textSize (Flagged c b) = 0
 
 -- the same in numbers; what a refusal would report is not looked at
 abbrev pub toldOf : Answer → Told

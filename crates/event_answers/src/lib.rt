@@ -5,7 +5,7 @@ use ids::Station;
 use reports::Effect;
 use reports::Report;
 ghost use mathlib.Core.Path.{_≡_};
-ghost use Rattle.event_answers.specs.Answers.{values, reportOf, textSize, toldOf};
+ghost use Rattle.event_answers.specs.Answers.{firstApplying, values, flagNumber, reportOf, textSize, toldOf};
 
 // What an accepted event did; specs/Answers sets out 01's kind and values for each case.
 pub enum Outcome {
@@ -29,6 +29,8 @@ pub enum Outcome {
     Received(Station, MessageNumber, usize),
     // The cart, and where to.
     Moved(CartNumber, Station),
+    // The cart, and whether it is steady.
+    Flagged(CartNumber, bool),
 }
 
 // The answer to an event.
@@ -39,11 +41,25 @@ pub enum Answer {
     Accepted(Outcome, Effect),
 }
 
+// "Checks run down the table; the first that applies is the answer": a refusal, or the next where there is none.
+pub fn first_of(refusal: u64, next: u64) -> u64
+    ensures { λ r. ⌜ r ≡ firstApplying refusal next ⌝ }
+{
+    if refusal == 0 { next } else { refusal }
+}
+
 // A report of these values.
 fn report(kind: u64, a: u64, b: u64, effect: Effect) -> Report
     ensures { λ r. ⌜ r ≡ values kind a b effect ⌝ }
 {
     Report { kind, a, b, effect }
+}
+
+// "1 for steady or 0 for not"
+fn flag_number(steady: bool) -> u64
+    ensures { λ r. ⌜ r ≡ flagNumber steady ⌝ }
+{
+    steady as u64
 }
 
 // "kind, a, b, p, w" of what was done.
@@ -61,6 +77,7 @@ fn report_of(outcome: Outcome, effect: Effect) -> Report
         Outcome::Registered(cart) => report(3, 5, cart.0, effect),
         Outcome::Received(initiator, number, _) => report(4, initiator.0, number.0, effect),
         Outcome::Moved(cart, to) => report(5, cart.0, to.0, effect),
+        Outcome::Flagged(cart, steady) => report(6, cart.0, flag_number(steady), effect),
     }
 }
 

@@ -15,7 +15,7 @@ use Rattle.carts.specs.Words.{HasRow}
 use Rattle.queue.specs.Rooms.{roomCount, HasRooms}
 use Rattle.view.specs.View.{Lent, lent, floorIn}
 use Rattle.view.proofs.Standing.{Standing, standing}
-use Rattle.handoff.specs.Arrived.{allZero, Arrived}
+use Rattle.handoff.specs.Arrived.{Entered}
 use Rattle.handoff.proofs.EnterIs.{enter-ready, enter-fits, enter-rooms, enter-is, enter-reports}
 use Rattle.reports.specs.declared.Effect.{Effect}
 use Rattle.reports.specs.Effects.{passing}
@@ -36,10 +36,10 @@ module _ (P : Product) (S C M W T : List ℕ) (t c : ℕ) (p : passesForm (limit
   pub enter-asks : (HasStation S t × HasRow C c × HasRooms M × (t < 16) × (c < 64)) × (((s : ℕ) → s < 16 → stationsIn S .expected t s ≤ 4294967295) × ((m : ℕ) → has (namingIn (stationsIn S) t c) m ≡ true → m < roomCount M))
   enter-asks = (enter-ready L X t c may, (enter-fits L X t c may, enter-rooms L X t c may))
 
-  pub meets-enter : (S′ C′ : List ℕ) (f : Effect) → Arrived S S′ C C′ M t c allZero (f .passed) → f ≡ passing (f .passed)
+  pub meets-enter : (S′ C′ : List ℕ) (f : Effect) → Entered S S′ C C′ M t c (f .passed) → f ≡ passing (f .passed)
       → Met L (lent P S′ C′ M W T) (enter t c) (says 1 t c f)
   unfolding accept
-  meets-enter S′ C′ f there counted =
+  meets-enter S′ C′ f entered counted =
       meets-counted L (lent P S′ C′ M W T) (enter t c) 1 t c f (passing (f .passed)) counted
       (meets-done L (enter t c) (lent P S′ C′ M W T) _ refl (refusal-standing L (enter t c) p ∙ sym free)
-      (enter-is S S′ C C′ M W T t c (f .passed) X may there) (sym (enter-reports S S′ C C′ M W T t c (f .passed) X may there)))
+      (enter-is S S′ C C′ M W T t c (f .passed) X may entered) (sym (enter-reports S S′ C C′ M W T t c (f .passed) X may entered)))

@@ -2,3 +2,5 @@ pub mod MoveChecks
 pub mod MoveMeets
 pub mod EnterChecks
 pub mod EnterMeets
+pub mod FlagChecks
+pub mod FlagMeets

@@ -1,17 +1,17 @@
-// WHAT CARTS DO on a floor that events can go on with: enter, and move. Each is refused first, "Checks run down the table", and then is its step
-// of the hand-off module.
+// WHAT CARTS DO on a floor that events can go on with: enter, move, and say whether they are steady. Each is refused first, "Checks run down the
+// table", and then is its step of the hand-off module.
 use carts::Place;
 use event_answers::Answer;
 use event_answers::Outcome;
 use ids::CartNumber;
 use ids::Station;
 ghost use mathlib.Core.Path.{_≡_};
-ghost use mathlib.Core.Bool.{false};
+ghost use mathlib.Core.Bool.{Bool, false};
 ghost use mathlib.Core.List.{List, []};
 ghost use Prim.Native.Nat.{ℕ, _*_, _≤_};
 ghost use lib.ListN.{length};
 ghost use Rattle.protocol.specs.Floor.{Product, limitsOf, at};
-ghost use Rattle.protocol.specs.Events.{enter, move};
+ghost use Rattle.protocol.specs.Events.{enter, move, flag};
 ghost use Rattle.protocol.specs.Refusals.{refusalIf};
 ghost use Rattle.stations.specs.View.{HasHead, headIn};
 ghost use Rattle.carts.specs.Words.{HasRow};
@@ -117,4 +117,43 @@ pub fn move_cart(
     let old = station_of(carts, cart);
     let effect = handoff::on_move(carts, lines, cart, old, to);
     Answer::Accepted(Outcome::Moved(cart, to), effect)
+}
+
+// The refusal of a flag, 9 or 18, or 0: "for kind 6, 18 if never entered, after 9". A cart on its way is told as any other.
+fn flag_refusal(stations: &[u64], carts: &[u64], cart: CartNumber) -> u64
+    requires { ⌜ HasHead (now stations) × (headIn (now stations) .carts * 19 ≤ length (now carts)) ⌝ }
+    ensures { λ r. ⌜ ((P : Product) (M W T : List ℕ) (steady : Bool) → r ≡ refusalIf (limitsOf P) (floorIn (lent P (now (stations .entry)) (now (carts .entry)) M W T)) false (flag (cart .0) steady)) ⌝ }
+{
+    if stations::cart_count(stations) <= cart.0 {
+        return 9;
+    }
+    let place = carts::place_of(carts, cart);
+    match place {
+        Place::Outside => 18,
+        _ => 0,
+    }
+}
+
+// "A cart counts as steady from its entry until told": the cart is told steady, or not.
+pub fn flag_cart(
+    stations: &[u64],
+    carts: &mut [u64],
+    messages: &[u64],
+    lines: &[u64],
+    texts: &[u8],
+    cart: CartNumber,
+    steady: bool,
+) -> Answer
+    requires { ⌜ ReadyBySome (λ P. lent P (now stations) (now carts) (now messages) (now lines) (now texts)) ⌝ }
+    ensures { λ a. ⌜ MetByEach (λ P. lent P (now (stations .entry)) (now (carts .entry)) (now (messages .entry)) (now (lines .entry)) (now (texts .entry))) (λ P. lent P (now (stations .entry)) (now (carts .exit)) (now (messages .entry)) (now (lines .entry)) (now (texts .entry))) (flag (cart .0) steady) (answerIn a []) ⌝ }
+{
+    if !stations::is_started(stations) {
+        return Answer::Refused(5);
+    }
+    let refusal = flag_refusal(stations, carts, cart);
+    if refusal != 0 {
+        return Answer::Refused(refusal);
+    }
+    let effect = handoff::on_flag(carts, cart, steady);
+    Answer::Accepted(Outcome::Flagged(cart, steady), effect)
 }

@@ -10,6 +10,7 @@ use denote.Enum.Declared.{tagOf}
 use types.Run.{OneOf, miss}
 use Rattle.protocol.specs.CartSets.{has}
 use Rattle.protocol.specs.Floor.{isAt}
+use Rattle.protocol.specs.Refusals.{check}
 use Rattle.ids.specs.declared.Station.{Station}
 use Rattle.carts.specs.declared.Place.{Place}
 use Rattle.carts.specs.declared.Place.the-variants.{Outside, At, Leaving, Travelling}
@@ -20,7 +21,48 @@ use Rattle.carts.specs.View.{cartsIn}
 use Rattle.messages.specs.View.{roomsIn}
 use Rattle.queue.specs.Rooms.{roomIn}
 use Rattle.queue.proofs.Codes.{room-in, no-room-in}
-use Rattle.event_radio.specs.Checks.{notHere, notServed}
+use Rattle.event_answers.specs.Answers.{firstApplying}
+use Rattle.event_radio.specs.Checks.{notAt, notSteady, notHere, notServed}
+
+-- WHERE THE CART IS, by the place that the code met
+module _ (C : List ℕ) (t c : ℕ) (p : Place) (met : seen p ≡ cartsIn C .place c) where
+  pub is-here : (s : Station) → p ≡ At s → s .0 ≡ t → 0 ≡ notAt C t c
+  is-here s q e = rw (sym met, q, eq-eqb (s .0) t e) refl
+
+  pub is-there : (s : Station) → p ≡ At s → (s .0 ≡ t → ⊥) → 16 ≡ notAt C t c
+  is-there s q n = rw (sym met, q, ne-eqb (s .0) t n) refl
+
+  -- a place at no station
+  nowhere : isAt (seen p) t ≡ false → 16 ≡ notAt C t c
+  nowhere e = rw (sym met, e) refl
+
+  -- "leaving counts as not at"
+  pub is-leaving : OneOf (2 ∷ []) (tagOf place-type p) → 16 ≡ notAt C t c
+  is-leaving k = nowhere (by-key p k)
+    where
+      by-key : (q : Place) → OneOf (2 ∷ []) (tagOf place-type q) → isAt (seen q) t ≡ false
+      by-key Outside k = refl
+      by-key (At s) k = absurd (miss (2 ∷ []) 1 tt k)
+      by-key (Leaving s u) k = refl
+      by-key (Travelling s u) k = refl
+
+  -- outside, or travelling
+  pub is-away : OneOf (0 ∷ 3 ∷ []) (tagOf place-type p) → 16 ≡ notAt C t c
+  is-away k = nowhere (by-key p k)
+    where
+      by-key : (q : Place) → OneOf (0 ∷ 3 ∷ []) (tagOf place-type q) → isAt (seen q) t ≡ false
+      by-key Outside k = refl
+      by-key (At s) k = absurd (miss (0 ∷ 3 ∷ []) 1 tt k)
+      by-key (Leaving s u) k = refl
+      by-key (Travelling s u) k = refl
+
+-- ITS FLAG, as the code read it
+module _ (C : List ℕ) (c : ℕ) (b : Bool) (met : b ≡ cartsIn C .steady c) where
+  pub is-settled : b ≡ true → 0 ≡ notSteady C c
+  is-settled e = rw (sym met ∙ e) refl
+
+  pub is-drifting : b ≡ false → 25 ≡ notSteady C c
+  is-drifting e = rw (sym met ∙ e) refl
 
 -- THE STATION AND THE CART
 module _ (S C : List ℕ) (t c : ℕ) where
@@ -32,40 +74,16 @@ module _ (S C : List ℕ) (t c : ℕ) where
   unfolding notHere
   no-cart lt l = rw (lt-leb (headIn S .stations) t lt, le-leb (headIn S .carts) c l) refl
 
-  -- the place that the code met
-  module _ (lt : t < headIn S .stations) (lc : c < headIn S .carts) (p : Place) (met : seen p ≡ cartsIn C .place c) where
-    pub is-here : (s : Station) → p ≡ At s → s .0 ≡ t → 0 ≡ notHere S C t c
-    unfolding notHere
-    is-here s q e = rw (lt-leb (headIn S .stations) t lt, lt-leb (headIn S .carts) c lc, sym met, q, eq-eqb (s .0) t e) refl
+  in-turn : (a b : Bool) → firstApplying (check 16 a 0) (check 25 b 0) ≡ check 16 a (check 25 b 0)
+  in-turn true b = refl
+  in-turn false b = refl
 
-    pub is-there : (s : Station) → p ≡ At s → (s .0 ≡ t → ⊥) → 16 ≡ notHere S C t c
-    unfolding notHere
-    is-there s q n = rw (lt-leb (headIn S .stations) t lt, lt-leb (headIn S .carts) c lc, sym met, q, ne-eqb (s .0) t n) refl
-
-    -- a place at no station
-    nowhere : isAt (seen p) t ≡ false → 16 ≡ notHere S C t c
-    unfolding notHere
-    nowhere e = rw (lt-leb (headIn S .stations) t lt, lt-leb (headIn S .carts) c lc, sym met, e) refl
-
-    -- "leaving counts as not at"
-    pub is-leaving : OneOf (2 ∷ []) (tagOf place-type p) → 16 ≡ notHere S C t c
-    is-leaving k = nowhere (by-key p k)
-      where
-        by-key : (q : Place) → OneOf (2 ∷ []) (tagOf place-type q) → isAt (seen q) t ≡ false
-        by-key Outside k = refl
-        by-key (At s) k = absurd (miss (2 ∷ []) 1 tt k)
-        by-key (Leaving s u) k = refl
-        by-key (Travelling s u) k = refl
-
-    -- outside, or travelling
-    pub is-away : OneOf (0 ∷ 3 ∷ []) (tagOf place-type p) → 16 ≡ notHere S C t c
-    is-away k = nowhere (by-key p k)
-      where
-        by-key : (q : Place) → OneOf (0 ∷ 3 ∷ []) (tagOf place-type q) → isAt (seen q) t ≡ false
-        by-key Outside k = refl
-        by-key (At s) k = absurd (miss (0 ∷ 3 ∷ []) 1 tt k)
-        by-key (Leaving s u) k = refl
-        by-key (Travelling s u) k = refl
+  -- "25 not steady, after 16 and before 17"
+  pub both-asked : t < headIn S .stations → c < headIn S .carts → (away drifting : ℕ) → away ≡ notAt C t c → drifting ≡ notSteady C c
+      → firstApplying away drifting ≡ notHere S C t c
+  unfolding notHere
+  both-asked lt lc away drifting p q =
+      rw (p, q, lt-leb (headIn S .stations) t lt, lt-leb (headIn S .carts) c lc) (in-turn (not (isAt (cartsIn C .place c) t)) (not (cartsIn C .steady c)))
 
 -- THE HEAD OF THE QUEUE
 module _ (S M : List ℕ) (t c buffer head : ℕ) where

@@ -104,12 +104,13 @@ module _ (L : Lent) (t : ℕ) where
         let most = L .product .last-fit in
         (omega arith, omega arith)
 
--- a refusal of the first three checks is one of the whole table
-first-three : (a b d : Bool) (rest r : ℕ) → r ≡ check 8 a (check 9 b (check 16 d 0)) → (r ≡ 0 → ⊥) → r ≡ check 8 a (check 9 b (check 16 d rest))
-first-three true b d rest r e n = e
-first-three false true d rest r e n = e
-first-three false false true rest r e n = e
-first-three false false false rest r e n = absurd (n e)
+-- a refusal of the first four checks is one of the whole table
+first-four : (a b d f : Bool) (rest r : ℕ) → r ≡ check 8 a (check 9 b (check 16 d (check 25 f 0))) → (r ≡ 0 → ⊥) → r ≡ check 8 a (check 9 b (check 16 d (check 25 f rest)))
+first-four true b d f rest r e n = e
+first-four false true d f rest r e n = e
+first-four false false true f rest r e n = e
+first-four false false false true rest r e n = e
+first-four false false false false rest r e n = absurd (n e)
 
 module _ (P : Product) (S C M W T : List ℕ) (t c buffer : ℕ) (p : passesForm (limitsOf P) (floorIn (lent P S C M W T)) ≡ true) where
   abbrev L : Lent
@@ -121,20 +122,21 @@ module _ (P : Product) (S C M W T : List ℕ) (t c buffer : ℕ) (p : passesForm
   -- REFUSED BY THE STATION OR THE CART
   pub meets-elsewhere : (r : ℕ) → r ≡ notHere S C t c → (r ≡ 0 → ⊥) → Met L L (radio t c buffer) (refused r)
   unfolding refusalIf notHere
-  meets-elsewhere r e n = meets-no L (radio t c buffer) r p (first-three (leb (headIn S .stations) t) (leb (headIn S .carts) c) (not (isAt (cartsIn C .place c) t)) _ r e n) n
+  meets-elsewhere r e n = meets-no L (radio t c buffer) r p (first-four (leb (headIn S .stations) t) (leb (headIn S .carts) c) (not (isAt (cartsIn C .place c) t)) (not (cartsIn C .steady c)) _ r e n) n
 
-  -- the cart is at the station
+  -- the cart is at the station, and steady
   module _ (h : ℕ) (checked : h ≡ notHere S C t c) (none-met : h ≡ 0) where
     here : notHere S C t c ≡ 0
     here = sym checked ∙ none-met
 
-    is-here : (t < headIn S .stations) × (c < headIn S .carts) × (isAt (cartsIn C .place c) t ≡ true)
+    is-here : (t < headIn S .stations) × (c < headIn S .carts) × (isAt (cartsIn C .place c) t ≡ true) × (cartsIn C .steady c ≡ true)
     unfolding notHere
     is-here =
         let a8 = passed-check 8 (leb (headIn S .stations) t) _ (omega arith) here in
         let a9 = passed-check 9 (leb (headIn S .carts) c) _ (omega arith) (a8 .1) in
         let a16 = passed-check 16 (not (isAt (cartsIn C .place c) t)) _ (omega arith) (a9 .1) in
-        (leb-false (headIn S .stations) t (a8 .0), leb-false (headIn S .carts) c (a9 .0), not-false (isAt (cartsIn C .place c) t) (a16 .0))
+        let a25 = passed-check 25 (not (cartsIn C .steady c)) _ (omega arith) (a16 .1) in
+        (leb-false (headIn S .stations) t (a8 .0), leb-false (headIn S .carts) c (a9 .0), not-false (isAt (cartsIn C .place c) t) (a16 .0), not-false (cartsIn C .steady c) (a25 .0))
 
     pub head-asks : HasStation S t × QueueRooms S M t × Keyed (tablesFloor S M) t
     head-asks =
@@ -164,7 +166,7 @@ module _ (P : Product) (S C M W T : List ℕ) (t c buffer : ℕ) (p : passesForm
       served-is : notServed S M t c buffer (roomIn m) ≡ refusalIf (limitsOf P) (floorIn L) false (radio t c buffer)
       unfolding refusalIf notServed
       served-is =
-          rw (lt-leb (headIn S .stations) t (is-here .0), lt-leb (headIn S .carts) c (is-here .1), is-here .2, head-found L t X (is-here .0) m found)
+          rw (lt-leb (headIn S .stations) t (is-here .0), lt-leb (headIn S .carts) c (is-here .1), is-here .2, is-here .3, head-found L t X (is-here .0) m found)
           (same-checks (roomIn m) below)
 
       -- REFUSED BY THE QUEUE OR THE BUFFER
@@ -196,6 +198,7 @@ module _ (P : Product) (S C M W T : List ℕ) (t c buffer : ℕ) (p : passesForm
               station = is-here .0;
               cart = is-here .1;
               is-at = is-here .2;
+              is-steady = is-here .3;
               is-head = head-found L t X (is-here .0) m found ∙ room-in m is-room;
               queued = is-served .0;
             }

@@ -12,12 +12,21 @@ use Rattle.stations.specs.View.{headIn, stationsIn}
 use Rattle.carts.specs.View.{cartsIn}
 use Rattle.messages.specs.View.{roomsIn}
 
--- 8 "a station number not on the floor", 9 "a cart number .. not on the floor", 16 "cart is not at this station (leaving counts as not at)"
+-- 16 "cart is not at this station (leaving counts as not at)"
+abbrev pub notAt : List ℕ → ℕ → ℕ → ℕ
+notAt C t c = check 16 (not (isAt (cartsIn C .place c) t)) 0
+
+-- 25 "not steady"
+abbrev pub notSteady : List ℕ → ℕ → ℕ
+notSteady C c = check 25 (not (cartsIn C .steady c)) 0
+
+-- 8 "a station number not on the floor", 9 "a cart number .. not on the floor", 16, and "25 not steady, after 16 and before 17"
 unfoldable pub notHere : List ℕ → List ℕ → ℕ → ℕ → ℕ
 notHere S C t c =
     check 8 (leb (headIn S .stations) t)
     (check 9 (leb (headIn S .carts) c)
-    (check 16 (not (isAt (cartsIn C .place c) t)) 0))
+    (check 16 (not (isAt (cartsIn C .place c) t))
+    (check 25 (not (cartsIn C .steady c)) 0)))
 
 -- 17 "queue empty, or its head entry lacks the cart", 21 "lent text buffer shorter than the text"; `head` is the room of the queue's head
 unfoldable pub notServed : List ℕ → List ℕ → ℕ → ℕ → ℕ → Option ℕ → ℕ

@@ -11,13 +11,14 @@ ghost use Prim.Native.Nat.{_*_, _≤_, _<_};
 ghost use lib.ListN.{length};
 ghost use Rattle.protocol.specs.Events.{radio};
 ghost use Rattle.stations.specs.View.{HasHead, HasStation, headIn};
+ghost use Rattle.carts.specs.Words.{HasRow};
 ghost use Rattle.messages.specs.View.{HasRoom};
 ghost use Rattle.view.specs.View.{lent};
 ghost use Rattle.queue.specs.Rooms.{roomIn};
 ghost use Rattle.event_answers.specs.declared.Answer.the-variants.{Refused};
 ghost use Rattle.event_answers.specs.Met.{ReadyBySome, MetByEach};
 ghost use Rattle.event_answers.specs.Delivered.{DeliveredByEach};
-ghost use Rattle.event_radio.specs.Checks.{notHere, notServed};
+ghost use Rattle.event_radio.specs.Checks.{notAt, notSteady, notHere, notServed};
 ghost use Rattle.event_radio.specs.Handed.{handedIn, Lies, Laid};
 
 // What a radio step comes to: its answer, and the room of the message that was handed over. The text stays in that room's part of the lent octets;
@@ -37,7 +38,28 @@ fn refused(number: u64) -> Handed
     }
 }
 
-// 8, 9 or 16, or 0. "cart is not at this station (leaving counts as not at)".
+// 16 or 0: "cart is not at this station (leaving counts as not at)".
+fn not_at(carts: &[u64], station: Station, cart: CartNumber) -> u64
+    requires { ⌜ HasRow (now carts) (cart .0) ⌝ }
+    ensures { λ r. ⌜ r ≡ notAt (now (carts .entry)) (station .0) (cart .0) ⌝ }
+{
+    let place = carts::place_of(carts, cart);
+    match place {
+        Place::At(here) => { if here.0 == station.0 { 0 } else { 16 } }
+        Place::Leaving(_, _) => 16,
+        _ => 16,
+    }
+}
+
+// 25 or 0: "not steady".
+fn not_steady(carts: &[u64], cart: CartNumber) -> u64
+    requires { ⌜ HasRow (now carts) (cart .0) ⌝ }
+    ensures { λ r. ⌜ r ≡ notSteady (now (carts .entry)) (cart .0) ⌝ }
+{
+    if carts::is_steady(carts, cart) { 0 } else { 25 }
+}
+
+// 8, 9, 16, "25 not steady, after 16 and before 17", or 0.
 fn not_here(stations: &[u64], carts: &[u64], station: Station, cart: CartNumber) -> u64
     requires { ⌜ HasHead (now stations) × (headIn (now stations) .carts * 19 ≤ length (now carts)) ⌝ }
     ensures { λ r. ⌜ r ≡ notHere (now (stations .entry)) (now (carts .entry)) (station .0) (cart .0) ⌝ }
@@ -48,12 +70,9 @@ fn not_here(stations: &[u64], carts: &[u64], station: Station, cart: CartNumber)
     if stations::cart_count(stations) <= cart.0 {
         return 9;
     }
-    let place = carts::place_of(carts, cart);
-    match place {
-        Place::At(here) => { if here.0 == station.0 { 0 } else { 16 } }
-        Place::Leaving(_, _) => 16,
-        _ => 16,
-    }
+    let away = not_at(carts, station, cart);
+    let drifting = not_steady(carts, cart);
+    event_answers::first_of(away, drifting)
 }
 
 // 17 or 21, or 0, of the room of the queue's head: "queue empty, or its head entry lacks the cart", "lent text buffer shorter than the text".

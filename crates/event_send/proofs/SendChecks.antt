@@ -15,15 +15,8 @@ use Rattle.stations.specs.View.{stationsIn}
 use Rattle.view.specs.View.{lent, floorIn}
 use Rattle.wired_send.specs.Rooms.{firstFree}
 use Rattle.wired_send.proofs.RoomLaws.{none-is-32}
-use Rattle.event_send.specs.Checks.{setChecks, textChecks, roomChecks, firstApplying}
-
--- THE FIRST THAT APPLIES
-module _ (r next : ℕ) where
-  pub first-next : r ≡ 0 → next ≡ firstApplying r next
-  first-next z = rw (eq-eqb r 0 z) refl
-
-  pub first-stays : (r ≡ 0 → ⊥) → r ≡ firstApplying r next
-  first-stays n = rw (ne-eqb r 0 n) refl
+use Rattle.event_answers.specs.Answers.{firstApplying}
+use Rattle.event_send.specs.Checks.{setChecks, textChecks, roomChecks}
 
 -- THE TEXT
 pub text-none : (text : List ℕ) → length text ≡ 0 → 24 ≡ textChecks text

@@ -1,5 +1,4 @@
 -- THE CHECKS OF A SEND behind 8, in three parts of the table: "Checks run down the table; the first that applies is the answer."
-use mathlib.Core.Bool.{cond}
 use mathlib.Core.List.{List}
 use Prim.Native.Nat.{ℕ}
 use lib.Dec.{eqb, ltb}
@@ -19,7 +18,3 @@ textChecks text = check 24 (isEmpty text) 0
 -- those of the message's number and room: the caller's last number, and as many messages as the caller may hold
 abbrev pub roomChecks : Limits → Floor → ℕ → ℕ
 roomChecks N F s = check 13 (ltb (N .last) (F .sent s)) (check 14 (isNone (freeRoom N F)) 0)
-
--- a refusal, or the next where there is none
-abbrev pub firstApplying : ℕ → ℕ → ℕ
-firstApplying r next = cond (eqb r 0) next r

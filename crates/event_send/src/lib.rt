@@ -24,7 +24,7 @@ ghost use Rattle.view.specs.View.{lent, floorIn};
 ghost use Rattle.wired_send.specs.Rooms.{firstFree};
 ghost use Rattle.event_answers.specs.Answers.{answerIn};
 ghost use Rattle.event_answers.specs.Met.{ReadyWith, MetWith};
-ghost use Rattle.event_send.specs.Checks.{setChecks, textChecks, roomChecks, firstApplying};
+ghost use Rattle.event_send.specs.Checks.{setChecks, textChecks, roomChecks};
 
 // "a named cart never entered": is it one? A cart that is leaving or travelling has entered.
 fn is_outside(carts: &[u64], number: CartNumber) -> bool
@@ -89,13 +89,6 @@ fn room_refusal(stations: &[u64], station: Station, m: usize, last: u64) -> u64
     if m == queue::NONE { 14 } else { 0 }
 }
 
-// "Checks run down the table; the first that applies is the answer": a refusal, or the next where there is none.
-fn first_of(refusal: u64, next: u64) -> u64
-    ensures { λ r. ⌜ r ≡ firstApplying refusal next ⌝ }
-{
-    if refusal == 0 { next } else { refusal }
-}
-
 // The refusal of a send, 8, 9, 11, 12, "24 empty text, after 12 and before 13", 13 and 14, or 0; m is the first free room.
 fn send_refusal(
     stations: &[u64],
@@ -115,7 +108,7 @@ fn send_refusal(
     let of_set = set_refusal(stations, carts, set);
     let of_text = text_refusal(text);
     let of_room = room_refusal(stations, station, m, last);
-    first_of(of_set, first_of(of_text, of_room))
+    event_answers::first_of(of_set, event_answers::first_of(of_text, of_room))
 }
 
 // "Send (station, set, text): the message takes the station's number; a multicast goes on the line to every station". A text longer than 32 octets,

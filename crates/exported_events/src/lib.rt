@@ -5,11 +5,13 @@ use event_answers::Answer;
 use ids::CartNumber;
 use ids::Station;
 ghost use mathlib.Core.Path.{_≡_};
+ghost use mathlib.Core.Bool.{not};
 ghost use mathlib.Core.List.{[]};
 ghost use Prim.Native.Nat.{_≤_};
+ghost use lib.Dec.{eqb};
 ghost use lib.ListN.{length};
 ghost use Rattle.protocol.specs.Floor.{wholeFloor};
-ghost use Rattle.protocol.specs.Events.{start, enter, send, wire, move};
+ghost use Rattle.protocol.specs.Events.{start, enter, send, wire, move, flag};
 ghost use Rattle.view.specs.View.{lent};
 ghost use Rattle.event_answers.specs.Met.{Ready};
 ghost use Rattle.exported_events.specs.Words.{sevenWords, answerWords, Answered, AnsweredText};
@@ -208,6 +210,33 @@ pub extern "C" fn mekhturia_move(
     put_answer_words(out, answer);
 }
 
+// The cart is told steady, or not (0).
+#[no_mangle]
+pub extern "C" fn mekhturia_flag(
+    stations: &[u64],
+    carts: &mut [u64],
+    messages: &[u64],
+    lines: &[u64],
+    texts: &[u8],
+    cart: u64,
+    steady: u64,
+    out: &mut [u64],
+)
+    requires { ⌜ 7 ≤ length (now out) ⌝ }
+    ensures { λ _. ⌜ Answered (lent wholeFloor (now (stations .entry)) (now (carts .entry)) (now (messages .entry)) (now (lines .entry)) (now (texts .entry))) (lent wholeFloor (now (stations .entry)) (now (carts .exit)) (now (messages .entry)) (now (lines .entry)) (now (texts .entry))) (flag cart (not (eqb steady 0))) [] (now (out .entry)) (now (out .exit)) ⌝ }
+{
+    let answer = controller::flag_cart(
+        stations,
+        carts,
+        messages,
+        lines,
+        texts,
+        CartNumber(cart),
+        steady != 0,
+    );
+    put_answer_words(out, answer);
+}
+
 // "Enter (station, cart)", on a floor that events can go on with.
 #[no_mangle]
 pub extern "C" fn mekhturia_step_enter(
@@ -350,6 +379,34 @@ pub extern "C" fn mekhturia_step_move(
         texts,
         CartNumber(cart),
         Station(to),
+    );
+    put_answer_words(out, answer);
+}
+
+// The cart is told steady, or not (0), on a floor that events can go on with.
+#[no_mangle]
+pub extern "C" fn mekhturia_step_flag(
+    stations: &[u64],
+    carts: &mut [u64],
+    messages: &[u64],
+    lines: &[u64],
+    texts: &[u8],
+    cart: u64,
+    steady: u64,
+    out: &mut [u64],
+)
+    requires { ⌜ Ready (lent wholeFloor (now stations) (now carts) (now messages) (now lines) (now texts)) ⌝ }
+    requires { ⌜ 7 ≤ length (now out) ⌝ }
+    ensures { λ _. ⌜ Answered (lent wholeFloor (now (stations .entry)) (now (carts .entry)) (now (messages .entry)) (now (lines .entry)) (now (texts .entry))) (lent wholeFloor (now (stations .entry)) (now (carts .exit)) (now (messages .entry)) (now (lines .entry)) (now (texts .entry))) (flag cart (not (eqb steady 0))) [] (now (out .entry)) (now (out .exit)) ⌝ }
+{
+    let answer = event_carts::flag_cart(
+        stations,
+        carts,
+        messages,
+        lines,
+        texts,
+        CartNumber(cart),
+        steady != 0,
     );
     put_answer_words(out, answer);
 }

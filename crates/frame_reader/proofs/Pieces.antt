@@ -110,7 +110,7 @@ stands p q some whole = splits q p ∙ ap (after (checked p)) (by (frameOf limit
 -- WHAT IS KEPT IS SHORT: a frame that is only cut has at most 47 octets
 cut-text-short : (f : Fields) (behind : ℕ) → fieldsRefusal limits f behind ≡ 1 → (behind < f .length) × (f .length ≤ 32)
 cut-text-short f behind e =
-    by-lt 5 (f .kind)
+    by-lt 6 (f .kind)
     (λ k. absurd (let z : 2 ≡ 1 = no-kind f behind k ∙ e in omega arith))
     (λ k. by-test (eqb (unlisted f) 0)
     (λ u. by-lt 32 (f .length)

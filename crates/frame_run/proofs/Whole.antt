@@ -210,7 +210,7 @@ cut-text false false false false e = absurd (omega arith)
 cut-short : (f : Fields) (behind : ℕ) → fieldsRefusal limits f behind ≡ 1 → behind < 32
 unfolding fieldsRefusal
 cut-short f behind e =
-    let z = cut-text (ltb 5 (f .kind)) (not (eqb (unlisted f) 0)) (ltb 32 (f .length)) (ltb behind (f .length)) e in
+    let z = cut-text (ltb 6 (f .kind)) (not (eqb (unlisted f) 0)) (ltb 32 (f .length)) (ltb behind (f .length)) e in
     let a = ltb-false 32 (f .length) (z .0) in
     let b = ltb-true behind (f .length) (z .1) in
     omega arith

@@ -129,6 +129,19 @@ fn dispatch(
             let answer = event_carts::move_cart(stations, carts, messages, lines, texts, cart, to);
             without_text(next, answer)
         }
+        Event::Flag(cart, steady) => {
+            let next = frame_lines::put_index(output, line, numbers, index);
+            let answer = event_carts::flag_cart(
+                stations,
+                carts,
+                messages,
+                lines,
+                texts,
+                cart,
+                steady,
+            );
+            without_text(next, answer)
+        }
     }
 }
 

@@ -13,7 +13,7 @@ use borrow.Author.Tests.{ne-eqb, lt-ltb, le-ltb, eqb-true}
 use Rattle.protocol.proofs.Tests.{by-test, by-lt, on-cond}
 use Rattle.protocol.specs.Floor.{limits}
 use Rattle.protocol.specs.Folds.{isEmpty}
-use Rattle.protocol.specs.Events.{start, enter, send, wire, radio, move}
+use Rattle.protocol.specs.Events.{start, enter, send, wire, radio, move, flag}
 use Rattle.protocol.specs.Frames.{Fields, Reading, bigEndian, fieldsOf, unlisted, eventOf, fieldsRefusal, frameRefusal, frameOf, readAt, end, refusedFrame, taken}
 use Rattle.frames.specs.declared.Halves.{Halves}
 use Rattle.frames.specs.Decoded.{lowOctets, fieldsIn}
@@ -170,37 +170,41 @@ module _ (f : Fields) where
   unfolding unlisted
   unlisted-move k = rw k refl
 
-  pub unlisted-else : (f .kind ≡ 2 → ⊥) → (f .kind ≡ 3 → ⊥) → (f .kind ≡ 5 → ⊥) → unlisted f ≡ f .other + f .length + f .zero + f .set
+  pub unlisted-flag : f .kind ≡ 6 → unlisted f ≡ f .station + f .other / 2 + f .length + f .zero + f .set
   unfolding unlisted
-  unlisted-else a b c = rw (ne-eqb (f .kind) 2 a, ne-eqb (f .kind) 3 b, ne-eqb (f .kind) 5 c) refl
+  unlisted-flag k = rw k refl
+
+  pub unlisted-else : (f .kind ≡ 2 → ⊥) → (f .kind ≡ 3 → ⊥) → (f .kind ≡ 5 → ⊥) → (f .kind ≡ 6 → ⊥) → unlisted f ≡ f .other + f .length + f .zero + f .set
+  unfolding unlisted
+  unlisted-else a b c d = rw (ne-eqb (f .kind) 2 a, ne-eqb (f .kind) 3 b, ne-eqb (f .kind) 5 c, ne-eqb (f .kind) 6 d) refl
 
 -- REFUSALS
 
 module _ (f : Fields) (behind : ℕ) where
-  pub no-kind : 5 < f .kind → 2 ≡ fieldsRefusal limits f behind
+  pub no-kind : 6 < f .kind → 2 ≡ fieldsRefusal limits f behind
   unfolding fieldsRefusal
-  no-kind k = rw (lt-ltb 5 (f .kind) k) refl
+  no-kind k = rw (lt-ltb 6 (f .kind) k) refl
 
-  pub stray-field : f .kind ≤ 5 → eqb (unlisted f) 0 ≡ false → 3 ≡ fieldsRefusal limits f behind
+  pub stray-field : f .kind ≤ 6 → eqb (unlisted f) 0 ≡ false → 3 ≡ fieldsRefusal limits f behind
   unfolding fieldsRefusal
-  stray-field k u = rw (le-ltb 5 (f .kind) k, u) refl
+  stray-field k u = rw (le-ltb 6 (f .kind) k, u) refl
 
-  pub long-text : f .kind ≤ 5 → eqb (unlisted f) 0 ≡ true → 32 < f .length → 4 ≡ fieldsRefusal limits f behind
+  pub long-text : f .kind ≤ 6 → eqb (unlisted f) 0 ≡ true → 32 < f .length → 4 ≡ fieldsRefusal limits f behind
   unfolding fieldsRefusal
-  long-text k u t = rw (le-ltb 5 (f .kind) k, u, lt-ltb 32 (f .length) t) refl
+  long-text k u t = rw (le-ltb 6 (f .kind) k, u, lt-ltb 32 (f .length) t) refl
 
-  pub cut-text : f .kind ≤ 5 → eqb (unlisted f) 0 ≡ true → f .length ≤ 32 → behind < f .length → 1 ≡ fieldsRefusal limits f behind
+  pub cut-text : f .kind ≤ 6 → eqb (unlisted f) 0 ≡ true → f .length ≤ 32 → behind < f .length → 1 ≡ fieldsRefusal limits f behind
   unfolding fieldsRefusal
-  cut-text k u t b = rw (le-ltb 5 (f .kind) k, u, le-ltb 32 (f .length) t, lt-ltb behind (f .length) b) refl
+  cut-text k u t b = rw (le-ltb 6 (f .kind) k, u, le-ltb 32 (f .length) t, lt-ltb behind (f .length) b) refl
 
-  pub no-refusal : f .kind ≤ 5 → eqb (unlisted f) 0 ≡ true → f .length ≤ 32 → f .length ≤ behind → 0 ≡ fieldsRefusal limits f behind
+  pub no-refusal : f .kind ≤ 6 → eqb (unlisted f) 0 ≡ true → f .length ≤ 32 → f .length ≤ behind → 0 ≡ fieldsRefusal limits f behind
   unfolding fieldsRefusal
-  no-refusal k u t b = rw (le-ltb 5 (f .kind) k, u, le-ltb 32 (f .length) t, le-ltb behind (f .length) b) refl
+  no-refusal k u t b = rw (le-ltb 6 (f .kind) k, u, le-ltb 32 (f .length) t, le-ltb behind (f .length) b) refl
 
 -- what is known of a frame that is not refused
 module _ (f : Fields) (behind : ℕ) (e : fieldsRefusal limits f behind ≡ 0) where
-  kind-known : f .kind ≤ 5
-  kind-known = by-lt 5 (f .kind) (λ k. absurd (let z : 2 ≡ 0 = no-kind f behind k ∙ e in omega arith)) (λ k. k)
+  kind-known : f .kind ≤ 6
+  kind-known = by-lt 6 (f .kind) (λ k. absurd (let z : 2 ≡ 0 = no-kind f behind k ∙ e in omega arith)) (λ k. k)
 
   listed : eqb (unlisted f) 0 ≡ true
   listed =
@@ -228,7 +232,9 @@ no-text f h =
     (λ e u. absurd (h (eqb-true (f .kind) 2 e)))
     (λ _. on-cond (λ (n : ℕ). n ≡ 0 → f .length ≡ 0) (eqb (f .kind) 3)
     (λ _ u. omega arith)
-    (λ _. on-cond (λ (n : ℕ). n ≡ 0 → f .length ≡ 0) (eqb (f .kind) 5) (λ _ u. omega arith) (λ _ u. omega arith)))
+    (λ _. on-cond (λ (n : ℕ). n ≡ 0 → f .length ≡ 0) (eqb (f .kind) 5)
+    (λ _ u. omega arith)
+    (λ _. on-cond (λ (n : ℕ). n ≡ 0 → f .length ≡ 0) (eqb (f .kind) 6) (λ _ u. omega arith) (λ _ u. omega arith))))
 
 -- the reading of a frame with these fields that is not refused, and these octets behind it
 abbrev pub frameWith : Fields → List ℕ → Reading
@@ -258,6 +264,10 @@ module _ (f : Fields) (text : List ℕ) where
   pub move-event : f .kind ≡ 5 → move (f .cart) (f .other) ≡ eventOf limits f text
   unfolding eventOf
   move-event k = rw k refl
+
+  pub flag-event : f .kind ≡ 6 → flag (f .cart) (eqb (f .other) 1) ≡ eventOf limits f text
+  unfolding eventOf
+  flag-event k = rw k refl
 
 -- READINGS
 

@@ -17,13 +17,13 @@ use Rattle.protocol.specs.Frames.{fieldsOf, unlisted, eventOf, fieldsRefusal, r
 use Rattle.protocol.specs.Events as events
 use Rattle.protocol.specs.Events.{send}
 use Rattle.frames.specs.declared.Event.{Event}
-use Rattle.frames.specs.declared.Event.the-variants.{Start, Enter, Send, Wire, Radio, Move}
+use Rattle.frames.specs.declared.Event.the-variants.{Start, Enter, Send, Wire, Radio, Move, Flag}
 use Rattle.frames.specs.declared.Reading.{Reading}
 use Rattle.frames.specs.declared.Reading.the-variants.{Taken, End, Refused}
 use Rattle.frames.specs.declared.Halves.{Halves}
 use Rattle.frames.specs.Decoded.{fieldsIn, ifListed, frameIn, eventIn, readingIn, sizeOf, refusalNumber, refusalOf}
 use Rattle.frames.proofs.Event.{the-type as event-type}
-use Rattle.frames.proofs.Laws.{low-fields, send-fields, unlisted-send, unlisted-wire, unlisted-move, unlisted-else}
+use Rattle.frames.proofs.Laws.{low-fields, send-fields, unlisted-send, unlisted-wire, unlisted-move, unlisted-flag, unlisted-else}
 use Rattle.frames.proofs.Laws.{no-kind, stray-field, long-text, cut-text, no-refusal, text-short, text-there}
 use Rattle.frames.proofs.Laws.{no-text, frameWith, send-event, nothing-left, cut-frame, refused-frame, taken-frame}
 
@@ -37,7 +37,7 @@ module _ (f : frames.Fields) (behind : ℕ) (l : List ℕ) where
   read-taken q = rw (sym q) refl
 
   -- a frame that is no send, with a number that is zero where the fields not listed are
-  module _ (k : f .kind ≤ 5) (h : f .kind ≡ 2 → ⊥) (stray : ℕ) (only : stray ≡ 0 → unlisted f ≡ 0) (all : unlisted f ≡ 0 → stray ≡ 0) where
+  module _ (k : f .kind ≤ 6) (h : f .kind ≡ 2 → ⊥) (stray : ℕ) (only : stray ≡ 0 → unlisted f ≡ 0) (all : unlisted f ≡ 0 → stray ≡ 0) where
     stray-read : (stray ≡ 0 → ⊥) → refusedFrame 3 ≡ frameIn l f behind
     stray-read n = read-refused 3 (stray-field f behind k (ne-eqb (unlisted f) 0 (λ u. n (all u)))) (λ z. omega arith)
 
@@ -65,15 +65,15 @@ module _ (f : Halves) (behind : ℕ) (l : List ℕ) where
 
   module _ (e : Event) (r : Reading) where
     -- start, enter, radio: station and cart are listed, and the low bits are those below the cart
-    pub station-read : fields .kind ≤ 5 → (fields .kind ≡ 2 → ⊥) → (fields .kind ≡ 3 → ⊥) → (fields .kind ≡ 5 → ⊥)
+    pub station-read : fields .kind ≤ 6 → (fields .kind ≡ 2 → ⊥) → (fields .kind ≡ 3 → ⊥) → (fields .kind ≡ 5 → ⊥) → (fields .kind ≡ 6 → ⊥)
         → r ≡ ifListed (f .head % 2 ^ 50 + 0 + f .set) e → sizeOf e ≡ 16 → eventIn l e ≡ event → readingIn l r ≡ frameIn l fields behind
-    station-read k a b d =
-        let u = unlisted-else fields a b d in
+    station-read k a b d g =
+        let u = unlisted-else fields a b d g in
         let low = low-fields (f .head) (f .set) in
         listed-read fields behind l k a (f .head % 2 ^ 50 + 0 + f .set) (λ z. u ∙ low .0 z) (λ z. low .1 (sym u ∙ z)) e r
 
-    -- wire and move: other is listed, the low bits are those below it, and one field above it is not listed
-    other-read : (above : ℕ) → fields .kind ≤ 5 → (fields .kind ≡ 2 → ⊥) → unlisted fields ≡ above + fields .length + fields .zero + fields .set
+    -- wire, move and flag: other is listed, the low bits are those below it, and what is not listed above it has this sum
+    other-read : (above : ℕ) → fields .kind ≤ 6 → (fields .kind ≡ 2 → ⊥) → unlisted fields ≡ above + fields .length + fields .zero + fields .set
         → r ≡ ifListed (f .head % 2 ^ 46 + above + f .set) e → sizeOf e ≡ 16 → eventIn l e ≡ event → readingIn l r ≡ frameIn l fields behind
     other-read above k h u = listed-read fields behind l k h (f .head % 2 ^ 46 + above + f .set) (λ z. omega arith) (λ z. omega arith) e r
 
@@ -85,7 +85,11 @@ module _ (f : Halves) (behind : ℕ) (l : List ℕ) where
         → readingIn l r ≡ frameIn l fields behind
     move-read k = other-read (fields .station) (omega arith) (λ z. omega arith) (unlisted-move fields k)
 
-  pub unknown-read : 5 < fields .kind → refusedFrame 2 ≡ frameIn l fields behind
+    pub flag-read : fields .kind ≡ 6 → r ≡ ifListed (f .head % 2 ^ 46 + (fields .station + fields .other / 2) + f .set) e → sizeOf e ≡ 16 → eventIn l e ≡ event
+        → readingIn l r ≡ frameIn l fields behind
+    flag-read k = other-read (fields .station + fields .other / 2) (omega arith) (λ z. omega arith) (unlisted-flag fields k)
+
+  pub unknown-read : 6 < fields .kind → refusedFrame 2 ≡ frameIn l fields behind
   unknown-read k = read-refused fields behind l 2 (no-kind fields behind k) (λ z. omega arith)
 
   module _ (k : fields .kind ≡ 2) where
@@ -122,13 +126,14 @@ frame-read l at f h e =
 -- EVENTS
 
 -- an event other than a send has the size of a frame
-pub other-size : (e : Event) → OneOf (0 ∷ 1 ∷ 3 ∷ 4 ∷ 5 ∷ []) (tagOf event-type e) → 16 ≡ sizeOf e
+pub other-size : (e : Event) → OneOf (0 ∷ 1 ∷ 3 ∷ 4 ∷ 5 ∷ 6 ∷ []) (tagOf event-type e) → 16 ≡ sizeOf e
 other-size (Start n k) h = refl
 other-size (Enter t c) h = refl
-other-size (Send s set n) h = absurd (miss (0 ∷ 1 ∷ 3 ∷ 4 ∷ 5 ∷ []) 2 tt h)
+other-size (Send s set n) h = absurd (miss (0 ∷ 1 ∷ 3 ∷ 4 ∷ 5 ∷ 6 ∷ []) 2 tt h)
 other-size (Wire i j) h = refl
 other-size (Radio t c) h = refl
 other-size (Move c to) h = refl
+other-size (Flag c b) h = refl
 
 -- where an event was taken, its octets are there, and its text is not too long
 pub taken-inside : (l : List ℕ) (at : ℕ) (e : events.Event) (n : ℕ) → readAt limits l at ≡ taken e n → (at + n ≤ length l) × (n ≤ 48)

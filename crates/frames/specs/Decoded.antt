@@ -5,12 +5,12 @@ use Prim.Native.Nat.{ℕ, zero, suc, _+_, _/_, _%_, _^_}
 use lib.Dec.{eqb}
 use lib.ListN.{take, drop}
 use Rattle.protocol.specs.Floor.{limits}
-use Rattle.protocol.specs.Events.{start, enter, send, wire, radio, move}
+use Rattle.protocol.specs.Events.{start, enter, send, wire, radio, move, flag}
 use Rattle.protocol.specs.Events as events
 use Rattle.protocol.specs.Frames.{Fields, eventOf, fieldsRefusal, end, refusedFrame, taken}
 use Rattle.protocol.specs.Frames as frames
 use Rattle.frames.specs.declared.Event.{Event}
-use Rattle.frames.specs.declared.Event.the-variants.{Start, Enter, Send, Wire, Radio, Move}
+use Rattle.frames.specs.declared.Event.the-variants.{Start, Enter, Send, Wire, Radio, Move, Flag}
 use Rattle.frames.specs.declared.Reading.{Reading}
 use Rattle.frames.specs.declared.Reading.the-variants.{End, Refused, Taken}
 use Rattle.frames.specs.declared.Halves.{Halves}
@@ -23,6 +23,7 @@ eventIn l (Send s set n) = send (s .0) set (take n (drop 16 l))
 eventIn l (Wire i j) = wire (i .0) (j .0)
 eventIn l (Radio t c) = radio (t .0) (c .0) (limits .text)
 eventIn l (Move c to) = move (c .0) (to .0)
+eventIn l (Flag c b) = flag (c .0) b
 
 -- how many octets it took: "Sixteen octets", and a send's text
 abbrev pub sizeOf : Event → ℕ
@@ -32,6 +33,7 @@ sizeOf (Send s set n) = 16 + n
 sizeOf (Wire i j) = 16
 sizeOf (Radio t c) = 16
 sizeOf (Move c to) = 16
+sizeOf (Flag c b) = 16
 
 -- an event that was taken
 abbrev pub takenIn : List ℕ → Event → frames.Reading

@@ -22,6 +22,8 @@ pub enum Event {
     Radio(Station, CartNumber),
     // The cart, to.
     Move(CartNumber, Station),
+    // The cart, and whether it is steady.
+    Flag(CartNumber, bool),
 }
 
 // What stands at a place: nothing, a frame that is refused, or an event.
@@ -148,6 +150,18 @@ fn send_of(f: Halves, behind: usize) -> Reading
     Reading::Taken(Event::Send(Station(f.head / STATION_BIT % 16), f.set, length as usize))
 }
 
+// "New frame kind 6 carries a cart and, in the other field, 1 for steady or 0 for not; 2 to 15 there is refusal 3": of that field all but the lowest bit
+// is as a field that is not listed.
+fn flag_of(f: Halves) -> Reading
+    requires { ⌜ fieldsIn f .kind ≡ 6 ⌝ }
+    ensures { λ r. ⌜ ((l : List ℕ) (behind : ℕ) → readingIn l r ≡ frameIn l (fieldsIn f) behind) ⌝ }
+{
+    let station = f.head / STATION_BIT % 16;
+    let other = f.head / OTHER_BIT % 16;
+    let e = Event::Flag(CartNumber(f.head / CART_BIT % 64), other == 1);
+    if_listed(f.head % OTHER_BIT, station + other / 2, f.set, e)
+}
+
 // A frame with so many octets behind it, taken apart by its kind or refused. Kinds are asked for one after the other, and not by a table of jumps:
 // which comes cannot be guessed, and a table has to be read before it is known that the guess was wrong.
 fn reading_of(f: Halves, behind: usize) -> Reading
@@ -169,6 +183,9 @@ fn reading_of(f: Halves, behind: usize) -> Reading
             let cart = CartNumber(head / CART_BIT % 64);
             let e = Event::Move(cart, Station(head / OTHER_BIT % 16));
             return if_listed(head % OTHER_BIT, station, f.set, e);
+        }
+        if kind == 6 {
+            return flag_of(f);
         }
         return Reading::Refused(2);
     }

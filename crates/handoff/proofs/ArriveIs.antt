@@ -205,8 +205,8 @@ module _ (Q : Limits) (S S′ C C′ M T : List ℕ) (lengths words : Bool) (lin
         queue = λ m u. queued m u i;
       })
 
-  carts-are : cartsIn C′ ≡ record { place = update (cartsIn C .place) c (at t); next = λ d s. cond (eqb d c && ltb s n) (stop s .upto) (D .next d s) }
-  carts-are = there .carts ∙ (λ i. record { place = update (cartsIn C .place) c (at t); next = λ d s. nexts d s i })
+  carts-are : cartsIn C′ ≡ record { place = update (cartsIn C .place) c (at t); next = λ d s. cond (eqb d c && ltb s n) (stop s .upto) (D .next d s); steady = cartsIn C .steady }
+  carts-are = there .carts ∙ (λ i. record { place = update (cartsIn C .place) c (at t); next = λ d s. nexts d s i; steady = cartsIn C .steady })
 
   -- "the cart is struck. Then catch-up for every initiator in rising order, and the cart is at this station"
   pub arrived-is : floorOf lengths words (headIn S′) (stationsIn S′) (cartsIn C′) R (textsIn T R) lines ≡ arrive Q G t c entries

@@ -5,8 +5,9 @@ use mathlib.Core.List.{List, []}
 use Prim.Native.Nat.{ℕ, _<_, _≤_}
 use native.Mathlib.Omega.{arith}
 use lib.ListN.{getD}
-use Rattle.protocol.specs.Floor.{Floor, Place, outside, localTo, limitsOf, Product}
-use Rattle.protocol.specs.Handoff.{onEnter}
+use Rattle.protocol.specs.Floor.{Floor, Place, Carts, outside, localTo, limitsOf, Product, setSteady}
+use Rattle.protocol.specs.Folds.{update}
+use Rattle.protocol.specs.Handoff.{arrive, onEnter}
 use Rattle.protocol.proofs.Tests.{by-lt, listOf-at, listOf-past}
 use Rattle.protocol.proofs.FloorLaws.{outside-is}
 use Rattle.protocol.proofs.Accepted.{MayEnter}
@@ -18,10 +19,10 @@ use Rattle.messages.specs.View.{roomsIn}
 use Rattle.view.specs.Records.{linesIn}
 use Rattle.view.specs.View.{Lent, lent, lengthsIn, wordsIn, textsIn, floorOf, floorIn}
 use Rattle.view.proofs.Lengths.{Lengths, lengths-right}
-use Rattle.view.proofs.Laid.{Laid, words-right}
+use Rattle.view.proofs.Laid.{Laid, words-right, laid-flags}
 use Rattle.view.proofs.Standing.{Standing, few-stations, few-carts}
 use Rattle.queue.specs.Rooms.{roomCount, HasRooms}
-use Rattle.handoff.specs.Arrived.{allZero, Arrived}
+use Rattle.handoff.specs.Arrived.{allZero, Arrived, Entered}
 use Rattle.handoff.proofs.ArriveIs.{expected-fits, parts-ready, none-beyond, rooms-there, expects-none, arrived-is, passed-is, laid-there}
 
 -- WHAT THE ENTER REQUIRES of the parts
@@ -42,7 +43,7 @@ module _ (L : Lent) (X : Standing L) (t c : ℕ) (may : MayEnter (floorIn L) t c
   enter-fits = expected-fits L X t (may .station)
 
 module _ {P : Product} (S S′ C C′ M W T : List ℕ) (t c p : ℕ) (X : Standing (lent P S C M W T)) (may : MayEnter (floorIn (lent P S C M W T)) t c)
-    (there : Arrived S S′ C C′ M t c allZero p) where
+    (entered : Entered S S′ C C′ M t c p) where
   abbrev L : Lent
   L = lent P S C M W T
 
@@ -51,6 +52,13 @@ module _ {P : Product} (S S′ C C′ M W T : List ℕ) (t c p : ℕ) (X : Stand
 
   abbrev F : Floor
   F = floorIn L
+
+  -- the carts' words once the cart is there, and what the arrival left
+  abbrev A : List ℕ
+  A = entered .there
+
+  abbrev there : Arrived S S′ C A M t c allZero p
+  there = entered .arrived
 
   lc : c < 64
   lc = is-cart L X t c may
@@ -68,14 +76,16 @@ module _ {P : Product} (S S′ C C′ M W T : List ℕ) (t c p : ℕ) (X : Stand
   lengths =
       record {
         stations = there .docked .table ∙ X .lengths .stations;
-        carts = there .length ∙ X .lengths .carts;
+        carts = entered .steady .length ∙ there .length ∙ X .lengths .carts;
         messages = X .lengths .messages;
         lines = X .lengths .lines;
         texts = X .lengths .texts;
       }
 
   pub laid : Laid L′
-  laid = laid-there S S′ C C′ M W T (X .laid) t c lt′ lc allZero p (λ u. ap (λ (q : Place). localTo q u) out) there
+  laid =
+      laid-flags S′ A M W T (laid-there S S′ C A M W T (X .laid) t c lt′ lc allZero p (λ u. ap (λ (q : Place). localTo q u) out) there)
+      C′ c (entered .steady .canonical) (ap (λ (K : Carts). K .place) (entered .steady .carts))
 
   zeros : (s : ℕ) → getD allZero s 0 ≡ 0
   zeros s = let none : ℕ → ℕ = λ _. 0 in by-lt s 16 (λ l. listOf-at 16 none 0 s l) (λ l. listOf-past 16 none 0 s l)
@@ -85,9 +95,13 @@ module _ {P : Product} (S S′ C C′ M W T : List ℕ) (t c p : ℕ) (X : Stand
   unfolding onEnter
   enter-is =
       (λ i. floorOf ((lengths-right L′ lengths ∙ sym (lengths-right L (X .lengths))) i) ((words-right L′ laid ∙ sym (words-right L (X .laid))) i)
-      (headIn S′) (stationsIn S′) (cartsIn C′) (roomsIn M) (textsIn T (roomsIn M)) (linesIn W))
-      ∙ arrived-is (limitsOf P) S S′ C C′ M T (lengthsIn L) (wordsIn L) (linesIn W) t c allZero (λ s. 0) p
-      zeros (λ s l. refl) (P .held-fit, none-beyond L X t (may .station)) (few-stations L X) (expects-none L X t (may .station)) there
+      (headIn S′) (stationsIn S′) (entered .steady .carts i) (roomsIn M) (textsIn T (roomsIn M)) (linesIn W))
+      ∙ (λ i. setSteady (arrived i) (update (there .carts i .steady) c true))
+    where
+      arrived : floorOf (lengthsIn L) (wordsIn L) (headIn S′) (stationsIn S′) (cartsIn A) (roomsIn M) (textsIn T (roomsIn M)) (linesIn W) ≡ arrive (limitsOf P) F t c (λ s. 0)
+      arrived =
+          arrived-is (limitsOf P) S S′ C A M T (lengthsIn L) (wordsIn L) (linesIn W) t c allZero (λ s. 0) p
+          zeros (λ s l. refl) (P .held-fit, none-beyond L X t (may .station)) (few-stations L X) (expects-none L X t (may .station)) there
 
   pub enter-reports : onEnter (limitsOf (L .product)) F t c .report ≡ record { kind = 1; a = t; b = c; p = p; w = 0; text = [] }
   unfolding onEnter
@@ -96,7 +110,7 @@ module _ {P : Product} (S S′ C C′ M W T : List ℕ) (t c p : ℕ) (X : Stand
         kind = 1;
         a = t;
         b = c;
-        p = sym (passed-is (limitsOf P) S S′ C C′ M T (lengthsIn L) (wordsIn L) (linesIn W) t c allZero (λ s. 0) p
+        p = sym (passed-is (limitsOf P) S S′ C A M T (lengthsIn L) (wordsIn L) (linesIn W) t c allZero (λ s. 0) p
             zeros (λ s l. refl) (P .held-fit, none-beyond L X t (may .station)) (few-stations L X) (expects-none L X t (may .station)) there) i;
         w = 0;
         text = [];

@@ -5,6 +5,7 @@ pub mod RiseLaws
 pub mod ForwardLaws
 pub mod ListsView
 pub mod MoveIs
+pub mod FlagIs
 pub mod DeregisterIs
 pub mod ArriveIs
 pub mod EnterIs

@@ -12,6 +12,7 @@ use Rattle.carts.specs.View.{cartsIn, canonicalIn, withPlace, withRow}
 use Rattle.messages.specs.View.{roomsIn}
 use Rattle.queue.specs.Rooms.{tablesFloor}
 use Rattle.catchup.specs.Arrival.{nearestRow, stopIn, risen, occurs, queuedFor}
+use Rattle.handoff.specs.Flagged.{Flagged}
 use Rattle.handoff.specs.Struck.{struckFrom}
 
 -- "all next numbers 0"
@@ -43,3 +44,10 @@ pub record Arrived (S S′ C C′ M : List ℕ) (t c : ℕ) (row : List ℕ) (pa
   pub carts : cartsIn C′ ≡ withRow (withPlace (cartsIn C) c (at t)) c upto
   pub canonical : canonicalIn C′ ≡ update (canonicalIn C) c true
   pub length : length C′ ≡ length C
+
+-- "A cart counts as steady from its entry": an arrival with all next numbers 0, and then the cart is told steady
+pub record Entered (S S′ C C′ M : List ℕ) (t c passed : ℕ) : Type 0 where
+  -- the words of the carts once it is there
+  pub there : List ℕ
+  pub arrived : Arrived S S′ C there M t c allZero passed
+  pub steady : Flagged there C′ c true

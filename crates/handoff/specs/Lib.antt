@@ -1,4 +1,5 @@
 pub mod Moved
+pub mod Flagged
 pub mod Forwarded
 pub mod Left
 pub mod Struck

@@ -1,4 +1,4 @@
-// THE HAND-OFF MODULE over the lent parts: move, deregister, register, enter.
+// THE HAND-OFF MODULE over the lent parts: move, deregister, register, enter; and a cart's flag.
 use ids::CartNumber;
 use ids::Station;
 use reports::Effect;
@@ -17,14 +17,15 @@ ghost use Rattle.lines.specs.Lines.{used};
 ghost use Rattle.lines.specs.Words.{capacity};
 ghost use Rattle.queue.specs.Rooms.{roomCount, HasRooms};
 ghost use Rattle.queue.specs.Keys.{KeyedRooms};
-ghost use Rattle.reports.specs.Effects.{passing, putting};
+ghost use Rattle.reports.specs.Effects.{nothing, passing, putting};
 ghost use Rattle.catchup.specs.Naming.{Covers};
 ghost use Rattle.catchup.specs.Arrival.{OwnRooms};
 ghost use Rattle.handoff.specs.Moved.{Moved};
+ghost use Rattle.handoff.specs.Flagged.{Flagged};
 ghost use Rattle.handoff.specs.Forwarded.{HeldRooms, goes, orderedRooms, ListsGone};
 ghost use Rattle.handoff.specs.Left.{unqueued, left, listsGoing, Left};
 ghost use Rattle.handoff.specs.Struck.{isBelow, struckIn, struckFrom};
-ghost use Rattle.handoff.specs.Arrived.{allZero, joined, Docked, Arrived};
+ghost use Rattle.handoff.specs.Arrived.{joined, Docked, Arrived, Entered};
 
 // A row of next numbers after catch-up, and "the numbers passed over in this step".
 struct Caught {
@@ -345,6 +346,25 @@ fn dock(
     }
 }
 
+// The cart is told steady, or not.
+fn tell(carts: &mut [u64], number: CartNumber, steady: bool)
+    requires { ⌜ HasRow (now carts) (number .0) ⌝ }
+    ensures { λ _. ⌜ Flagged (now (carts .entry)) (now (carts .exit)) (number .0) steady ⌝ }
+{
+    let cart = carts::cart_at(carts, number);
+    carts::put_cart(carts, number, cart.told(steady));
+}
+
+// A cart is told steady, or not: "It prints cart and flag with p = 0 and w = 0".
+pub fn on_flag(carts: &mut [u64], number: CartNumber, steady: bool) -> Effect
+    requires { ⌜ HasRow (now carts) (number .0) ⌝ }
+    ensures { λ _. ⌜ Flagged (now (carts .entry)) (now (carts .exit)) (number .0) steady ⌝ }
+    ensures { λ r. ⌜ r ≡ nothing ⌝ }
+{
+    tell(carts, number, steady);
+    reports::nothing()
+}
+
 // "Register": of a cart, handled at the station that it greeted. "the cart is struck. Then catch-up for every initiator in rising order, and the
 // cart is at this station": with the row of next numbers that its register carried.
 pub fn on_register(
@@ -368,7 +388,7 @@ pub fn on_register(
     reports::passing(caught.passed)
 }
 
-// "Enter (station, cart): as a register with all next numbers 0, handled at once"
+// "Enter (station, cart): as a register with all next numbers 0, handled at once"; "A cart counts as steady from its entry".
 pub fn on_enter(
     stations: &mut [u64],
     carts: &mut [u64],
@@ -379,9 +399,11 @@ pub fn on_enter(
     requires { ⌜ HasStation (now stations) (station .0) × HasRow (now carts) (number .0) × HasRooms (now messages) × (station .0 < 16) × (number .0 < 64) ⌝ }
     requires { ⌜ ((s : ℕ) → s < initiators → stationsIn (now stations) .expected (station .0) s ≤ 4294967295) ⌝ }
     requires { ⌜ ((m : ℕ) → has (namingIn (stationsIn (now stations)) (station .0) (number .0)) m ≡ true → m < roomCount (now messages)) ⌝ }
-    ensures { λ r. ⌜ Arrived (now (stations .entry)) (now (stations .exit)) (now (carts .entry)) (now (carts .exit)) (now (messages .entry)) (station .0) (number .0) allZero (r .passed) ⌝ }
+    ensures { λ r. ⌜ Entered (now (stations .entry)) (now (stations .exit)) (now (carts .entry)) (now (carts .exit)) (now (messages .entry)) (station .0) (number .0) (r .passed) ⌝ }
     ensures { λ r. ⌜ r ≡ passing (r .passed) ⌝ }
 {
     let row = [0u64; 16];
-    on_register(stations, carts, messages, station, number, row)
+    let effect = on_register(stations, carts, messages, station, number, row);
+    tell(carts, number, true);
+    effect
 }

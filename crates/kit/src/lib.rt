@@ -1,4 +1,4 @@
-// THE DEMONSTRATION KIT: the six events over a small floor in lent memory, "at most 4 stations, 8 carts and 8 held messages". Every step is the floor's own:
+// THE DEMONSTRATION KIT: the seven events over a small floor in lent memory, "at most 4 stations, 8 carts and 8 held messages". Every step is the floor's own:
 // only the limits are others.
 use event_answers::Answer;
 use ids::CartNumber;
@@ -6,7 +6,7 @@ use ids::Station;
 ghost use mathlib.Core.Path.{_≡_};
 ghost use mathlib.Core.List.{[]};
 ghost use Rattle.protocol.specs.Floor.{kit, limitsOf};
-ghost use Rattle.protocol.specs.Events.{start, enter, send, wire, move};
+ghost use Rattle.protocol.specs.Events.{start, enter, send, wire, move, flag};
 ghost use Rattle.protocol.specs.Form.{passesForm};
 ghost use Rattle.view.specs.View.{lent, floorIn};
 ghost use Rattle.event_answers.specs.Answers.{answerIn};
@@ -164,4 +164,22 @@ pub fn move_cart(
         return Answer::Refused(5);
     }
     event_carts::move_cart(stations, carts, messages, lines, texts, cart, to)
+}
+
+// "A cart counts as steady from its entry until told": the cart is told steady, or not.
+pub fn flag_cart(
+    stations: &[u64],
+    carts: &mut [u64],
+    messages: &[u64],
+    lines: &[u64],
+    texts: &[u8],
+    cart: CartNumber,
+    steady: bool,
+) -> Answer
+    ensures { λ a. ⌜ Met (lent kit (now (stations .entry)) (now (carts .entry)) (now (messages .entry)) (now (lines .entry)) (now (texts .entry))) (lent kit (now (stations .entry)) (now (carts .exit)) (now (messages .entry)) (now (lines .entry)) (now (texts .entry))) (flag (cart .0) steady) (answerIn a []) ⌝ }
+{
+    if !passes(stations, carts, messages, lines, texts) {
+        return Answer::Refused(5);
+    }
+    event_carts::flag_cart(stations, carts, messages, lines, texts, cart, steady)
 }

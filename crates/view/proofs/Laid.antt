@@ -150,6 +150,14 @@ module _ {P : Product} (S C M W T : List ℕ) (X : Laid (lent P S C M W T)) wher
       → ((t m : ℕ) → t < P .stations → m < 32 → P .held ≤ m → (stationsIn S′ .copy m t ≡ 0) × (stationsIn S′ .queue m t ≡ 0)) → Laid (lent P S′ C′ M W T)
   laid-carts S′ C′ canonical local few = record { chains = X .chains; canonical = canonical; local = local; short = X .short; rooms = X .rooms; few = few }
 
+  -- of the carts' flags: one row is in canonical words again, and every place stays
+  pub laid-flags : (C′ : List ℕ) (c : ℕ) → canonicalIn C′ ≡ update (canonicalIn C) c true → cartsIn C′ .place ≡ cartsIn C .place → Laid (lent P S C′ M W T)
+  laid-flags C′ c canonical place =
+      laid-carts S C′
+      (λ d ld. ap (λ (f : ℕ → Bool). f d) canonical ∙ on-update (λ (b : Bool). b ≡ true) (canonicalIn C) c true d (λ q. refl) (λ q. X .canonical d ld))
+      (λ t l. X .local t l ∙ sym (ap (λ (f : ℕ → Place). setOf 64 (λ d. localTo (f d) t)) place))
+      (X .few)
+
   -- of the texts
   pub laid-texts : (T′ : List ℕ) → Laid (lent P S C M W T′)
   laid-texts T′ = record { chains = X .chains; canonical = X .canonical; local = X .local; short = X .short; rooms = X .rooms; few = X .few }

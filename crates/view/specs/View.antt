@@ -58,7 +58,7 @@ lineRight L i j = everyWord (roomRight (roomsIn (L .messages)) i j) (recordsOn (
 unfoldable pub shortText : Lent → ℕ → Bool
 shortText L m = leb (roomsIn (L .messages) .length m) 32
 
--- the words are such as the layout has: the chains of records are whole, places stand in their own words, masks and rooms are right, texts
+-- the words are such as the layout has: the chains of records are whole, places and flags stand in their own words, masks and rooms are right, texts
 -- within their parts
 unfoldable pub wordsIn : Lent → Bool
 wordsIn L =
@@ -83,6 +83,7 @@ floorOf lengths words H S C R text lines =
       expected = S .expected;
       place = C .place;
       next = C .next;
+      steady = C .steady;
       initiator = R .initiator;
       number = R .number;
       named = R .named;

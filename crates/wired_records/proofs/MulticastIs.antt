@@ -110,7 +110,7 @@ module _ {P : Product} (S S′ C C′ M W W₁ T : List ℕ) (X : Standing (lent
 
   -- the carts, with the next numbers that rise
   abbrev passed : Carts
-  passed = record { place = cartsIn C .place; next = λ c u. cond (eqb u i && passesOver F local m i n c) (suc n) (cartsIn C .next c u) }
+  passed = record { place = cartsIn C .place; next = λ c u. cond (eqb u i && passesOver F local m i n c) (suc n) (cartsIn C .next c u); steady = cartsIn C .steady }
 
   carts : cartsIn C′ ≡ passed
   carts =
@@ -118,6 +118,7 @@ module _ {P : Product} (S S′ C C′ M W W₁ T : List ℕ) (X : Standing (lent
       ∙ (λ k. record {
         place = cartsIn C .place;
         next = λ c u. cond (eqb u i && over-has L X local small m i n (in-room .held .slot) (buffered .over) (buffered .passed) c k) (add-one n k) (cartsIn C .next c u);
+        steady = cartsIn C .steady;
       })
 
   -- the station, with the copy, the queue's entry and one more expected

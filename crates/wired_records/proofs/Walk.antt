@@ -123,7 +123,7 @@ gather-others whole f left set h z G =
 
 -- PASSED OVER: those of the carts gathered that are not named; each has a number one higher. Cart c is in `over′` besides if it passes.
 raised-none : (C : Carts) (over s n : ℕ) → ((c : ℕ) → has over c ≡ false) → C ≡ raised C over s n
-raised-none C over s n none = λ i. record { place = C .place; next = fun-ext (λ c. fun-ext (λ u. same c u)) i }
+raised-none C over s n none = λ i. record { place = C .place; next = fun-ext (λ c. fun-ext (λ u. same c u)) i; steady = C .steady }
   where
     same : (c u : ℕ) → C .next c u ≡ cond (eqb u s && has over c) n (C .next c u)
     same c u = rw (none c, and-false (eqb u s)) refl
@@ -153,7 +153,7 @@ module _ (over over′ c : ℕ) (passes : Bool) (more : (d : ℕ) → has over�
 
   -- the number put back
   raise-one : (C : Carts) (s n x : ℕ) → x ≡ cond passes n (C .next c s) → withNext (raised C over s n) c s x ≡ raised C over′ s n
-  raise-one C s n x e = λ i. record { place = C .place; next = fun-ext (λ d. fun-ext (λ u. same d u)) i }
+  raise-one C s n x e = λ i. record { place = C .place; next = fun-ext (λ d. fun-ext (λ u. same d u)) i; steady = C .steady }
     where
       same : (d u : ℕ) → cond (eqb d c && eqb u s) x (cond (eqb u s && has over d) n (C .next d u)) ≡ cond (eqb u s && has over′ d) n (C .next d u)
       same d u =

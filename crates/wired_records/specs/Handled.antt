@@ -26,7 +26,7 @@ pastAmong C local s n = setOf 64 (λ c. has local c && ltb n (C .next c s))
 
 -- every cart of the set `over` has next number n for initiator s
 abbrev pub raised : Carts → ℕ → ℕ → ℕ → Carts
-raised C over s n = record { place = C .place; next = λ c u. cond (eqb u s && has over c) n (C .next c u) }
+raised C over s n = record { place = C .place; next = λ c u. cond (eqb u s && has over c) n (C .next c u); steady = C .steady }
 
 pub record Raised (C C′ : List ℕ) (over s n : ℕ) : Type 0 where
   pub carts : cartsIn C′ ≡ raised (cartsIn C) over s n

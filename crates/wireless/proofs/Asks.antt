@@ -42,6 +42,7 @@ module _ (M : Limits) (F : Floor) (t c m : ℕ) (passes : passesForm M F ≡ tru
         lt-leb (F .stations) t (may .station),
         lt-leb (F .carts) c (may .cart),
         may .is-at,
+        may .is-steady,
         may .is-head,
         may .queued,
         le-ltb (length (F .text m)) (length (F .text m)) (omega arith),

@@ -1,11 +1,14 @@
 -- `carts::put_place` meets its contract.
 use mathlib.Core.Path.{ap, _∙_}
+use Prim.Native.Nat.{ℕ}
 use native.Mathlib.Omega.{arith}
 use lib.ListN.{length-set}
 use borrow.Author.Needs.{needs}
 use Rattle.protocol.specs.Folds.{update}
-use Rattle.carts.specs.View.{cartsIn, canonicalIn, withPlace}
-use Rattle.carts.proofs.TableLaws.{place-put, place-put-canonical}
+use Rattle.carts.specs.Words.{canonicalFirst}
+use Rattle.carts.specs.Records.{seen}
+use Rattle.carts.specs.View.{cartsIn, canonicalIn}
+use Rattle.carts.proofs.TableLaws.{place-put, place-put-canonical, told-put, canonical-said}
 use Rattle.carts.proofs.put_place.Statement.{statement}
 use Rattle.carts.proofs.put_place.Tie as tie
 
@@ -14,6 +17,9 @@ mul-at c = search needs
 
 words-of-requires : tie.Need-words-of-requires
 words-of-requires c κs = search needs
+
+first-word-requires : tie.Need-first-word-requires
+first-word-requires c κs = search needs
 
 mul-carts : tie.Need-mul-carts
 mul-carts c = search needs
@@ -44,10 +50,20 @@ same-length c = search needs
 
 returns : tie.Need-returns
 returns c =
-    let a = c .before .before .args in
-    let w = c .words-of .result in (
-      place-put (a .carts .now) (a .number .0) (w .0) (w .1) (w .2) (omega arith) ∙ ap (withPlace (cartsIn (a .carts .now)) (a .number .0)) (c .words-of .ensures .0),
-      (place-put-canonical (a .carts .now) (a .number .0) (w .0) (w .1) (w .2) (omega arith) ∙ ap (update (canonicalIn (a .carts .now)) (a .number .0)) (c .words-of .ensures .1), simp length-set),
+    let said = c .before in
+    let a = said .before .before .args in
+    let w = said .words-of .result in
+    let kind = said .words-of .ensures in
+    let first = c .first-word in
+    let C = a .carts .now in
+    let n = a .number .0 in (
+      place-put C n (first .result) (w .1) (w .2) (omega arith)
+          ∙ told-put (cartsIn C) n (w .0) (w .1) (w .2) (kind .2) (a .steady) (first .result) (first .ensures) (seen (a .place)) (kind .0),
+      (
+        place-put-canonical C n (first .result) (w .1) (w .2) (omega arith)
+            ∙ ap (update (canonicalIn C) n) (ap (λ (x : ℕ). canonicalFirst x (w .1) (w .2)) (first .ensures) ∙ canonical-said (w .0) (kind .2) (a .steady) (w .1) (w .2) (kind .1)),
+        simp length-set,
+      ),
     )
 
 pub put-place-spec : {M : Type 1} → statement M
@@ -56,6 +72,7 @@ put-place-spec =
     (tie.spec
     mul-at
     words-of-requires
+    first-word-requires
     mul-carts
     slice-write-carts
     add-carts

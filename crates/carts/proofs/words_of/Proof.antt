@@ -1,5 +1,6 @@
 -- `carts::words_of` meets its contract.
 use mathlib.Core.Path.{refl, sym, ap}
+use native.Mathlib.Omega.{arith}
 use borrow.Author.Needs.{needs}
 use Rattle.carts.specs.Records.{seen}
 use Rattle.carts.proofs.words_of.Statement.{statement}
@@ -21,13 +22,13 @@ returns : tie.Need-returns
 returns c = search needs
 
 returns-2 : tie.Need-returns-2
-returns-2 c = (sym (ap seen (c .before .place .given .1)), refl)
+returns-2 c = (sym (ap seen (c .before .place .given .1)), refl, omega arith)
 
 returns-3 : tie.Need-returns-3
-returns-3 c = (sym (ap seen (c .before .place2 .given .1)), refl)
+returns-3 c = (sym (ap seen (c .before .place2 .given .1)), refl, omega arith)
 
 returns-4 : tie.Need-returns-4
-returns-4 c = (sym (ap seen (c .before .place3 .given .1)), refl)
+returns-4 c = (sym (ap seen (c .before .place3 .given .1)), refl, omega arith)
 
 pub words-of-spec : {M : Type 1} → statement M
 words-of-spec =

@@ -1,7 +1,8 @@
 -- `event_answers::report_of` meets its contract.
 use mathlib.Core.Path.{sym, ap, _∙_}
+use Prim.Native.Nat.{ℕ}
 use Rattle.event_answers.specs.declared.Outcome.{Outcome}
-use Rattle.event_answers.specs.Answers.{reportOf}
+use Rattle.event_answers.specs.Answers.{values, reportOf}
 use borrow.Author.Needs.{needs}
 use Rattle.event_answers.proofs.report_of.Statement.{statement}
 use Rattle.event_answers.proofs.report_of.Tie as tie
@@ -66,6 +67,15 @@ enum-known-outcome-10 c = search needs
 report-requires-10 : tie.Need-report-requires-10
 report-requires-10 c κs = search needs
 
+enum-known-outcome-11 : tie.Need-enum-known-outcome-11
+enum-known-outcome-11 c = search needs
+
+flag-number-requires : tie.Need-flag-number-requires
+flag-number-requires c κs = search needs
+
+report-requires-11 : tie.Need-report-requires-11
+report-requires-11 c κs = search needs
+
 returns : tie.Need-returns
 returns c = let f = c .before .before .before .before .args .effect in c .report .ensures ∙ sym (ap (λ (o : Outcome). reportOf o f) (c .before .before .outcome .given .1))
 
@@ -96,6 +106,14 @@ returns-9 c = let f = c .before .before .before .before .args .effect in c .repo
 returns-10 : tie.Need-returns-10
 returns-10 c = let f = c .before .before .before .before .args .effect in c .report10 .ensures ∙ sym (ap (λ (o : Outcome). reportOf o f) (c .before .before .outcome10 .given .1))
 
+returns-11 : tie.Need-returns-11
+returns-11 c =
+    let flagged = c .before in
+    let f = flagged .before .before .before .before .args .effect in
+    c .report11 .ensures
+    ∙ ap (λ (n : ℕ). values 6 (flagged .before .before .outcome11 .given .0 .0 .0) n f) (flagged .flag-number .ensures)
+    ∙ sym (ap (λ (o : Outcome). reportOf o f) (flagged .before .before .outcome11 .given .1))
+
 pub report-of-spec : {M : Type 1} → statement M
 report-of-spec =
     tie.close
@@ -120,6 +138,9 @@ report-of-spec =
     report-requires-9
     enum-known-outcome-10
     report-requires-10
+    enum-known-outcome-11
+    flag-number-requires
+    report-requires-11
     returns
     returns-2
     returns-3
@@ -129,4 +150,5 @@ report-of-spec =
     returns-7
     returns-8
     returns-9
-    returns-10)
+    returns-10
+    returns-11)

@@ -4,7 +4,7 @@ use Prim.Native.Nat.{ℕ}
 use native.Mathlib.Omega.{arith}
 use denote.Ref.{now}
 use Rattle.view.specs.View.{lent, floorIn}
-use Rattle.event_send.specs.Checks.{firstApplying}
+use Rattle.event_answers.specs.Answers.{firstApplying}
 use Rattle.event_send.proofs.SendChecks.{send-no-station, send-checks}
 use borrow.Author.Needs.{needs}
 use Rattle.event_send.proofs.send_refusal.Statement.{statement}

@@ -128,6 +128,20 @@ move-cart-requires c κs =
 without-text-requires-5 : tie.Need-without-text-requires-5
 without-text-requires-5 c κs = search needs
 
+enum-known-e-7 : tie.Need-enum-known-e-7
+enum-known-e-7 c = search needs
+
+put-index-requires-7 : tie.Need-put-index-requires-7
+put-index-requires-7 c κs = search needs
+
+flag-cart-requires : tie.Need-flag-cart-requires
+flag-cart-requires c κs =
+    let start = c .before .before .before .before .before .before .before .before .before .before .before .before .before .before .before .before .before .before .before .before in
+    (wholeFloor, start .pre .0 .ready)
+
+without-text-requires-6 : tie.Need-without-text-requires-6
+without-text-requires-6 c κs = search needs
+
 same-length : tie.Need-same-length
 same-length c = search needs
 
@@ -297,6 +311,34 @@ returns-6 c =
     let began = subst (λ (n : ℕ). Began 3 20 (decimal (a .index)) (now (a .output)) (index .put-index6 .last .0) (a .line) n) (sym (ap (λ (r : Dispatched). r .next) (c .without-text5 .ensures))) (index .put-index6 .ensures) in
     (answered-plainly (lent wholeFloor (now (a .stations)) (now (a .carts)) (now (a .messages)) (now (a .lines)) (now (a .texts))) _ _ _ (ap (eventIn (drop (a .at) (now (a .input)))) (kind .e6 .given .1)) _ (met .move-cart .result) _ (c .without-text5 .result) (c .without-text5 .ensures) (met .move-cart .ensures wholeFloor (start .pre .0 .ready)), began)
 
+same-length-37 : tie.Need-same-length-37
+same-length-37 c = search needs
+
+same-length-38 : tie.Need-same-length-38
+same-length-38 c = search needs
+
+same-length-39 : tie.Need-same-length-39
+same-length-39 c = search needs
+
+same-length-40 : tie.Need-same-length-40
+same-length-40 c = search needs
+
+same-length-41 : tie.Need-same-length-41
+same-length-41 c = search needs
+
+same-length-42 : tie.Need-same-length-42
+same-length-42 c = search needs
+
+returns-7 : tie.Need-returns-7
+returns-7 c =
+    let met = c .before .before .before in
+    let index = met .before .before .before .before .before .before .before .before in
+    let kind = index .before .before .before in
+    let start = kind .before .before .before .before .before .before .before .before .before .before in
+    let a = start .args in
+    let began = subst (λ (n : ℕ). Began 3 20 (decimal (a .index)) (now (a .output)) (index .put-index7 .last .0) (a .line) n) (sym (ap (λ (r : Dispatched). r .next) (c .without-text6 .ensures))) (index .put-index7 .ensures) in
+    (answered-plainly (lent wholeFloor (now (a .stations)) (now (a .carts)) (now (a .messages)) (now (a .lines)) (now (a .texts))) _ _ _ (ap (eventIn (drop (a .at) (now (a .input)))) (kind .e7 .given .1)) _ (met .flag-cart .result) _ (c .without-text6 .result) (c .without-text6 .ensures) (met .flag-cart .ensures wholeFloor (start .pre .0 .ready)), began)
+
 pub dispatch-spec : {M : Type 1} → statement M
 dispatch-spec =
     tie.close
@@ -331,6 +373,10 @@ dispatch-spec =
     put-index-requires-6
     move-cart-requires
     without-text-requires-5
+    enum-known-e-7
+    put-index-requires-7
+    flag-cart-requires
+    without-text-requires-6
     same-length
     same-length-2
     same-length-3
@@ -372,4 +418,11 @@ dispatch-spec =
     same-length-34
     same-length-35
     same-length-36
-    returns-6)
+    returns-6
+    same-length-37
+    same-length-38
+    same-length-39
+    same-length-40
+    same-length-41
+    same-length-42
+    returns-7)

@@ -1,8 +1,9 @@
 -- `handoff::on_register` meets its contract.
-use mathlib.Core.Path.{ap, _∙_}
+use mathlib.Core.Path.{_∙_}
 use Prim.Native.Nat.{ℕ}
-use Rattle.carts.specs.declared.Cart.{Cart}
-use Rattle.carts.specs.View.{cartsIn, withCart}
+use Rattle.carts.specs.View.{cartsIn}
+use Rattle.carts.proofs.TableLaws.{next-beyond}
+use Rattle.carts.proofs.StepLaws.{arrive-step}
 use Rattle.reports.proofs.Effects.{only-passes}
 use Rattle.handoff.specs.Arrived.{Arrived}
 use borrow.Author.Needs.{needs}
@@ -34,6 +35,7 @@ returns : tie.Need-returns
 returns c =
     let a = c .before .before .before .before .before .before .before .before .before .before .before .before .before .before .before .before .args in
     let d = c .before .before .before .before .before .before .before .before .before .before .before .dock in
+    let record-of = c .before .before .before .before .before .before .cart-at in
     let k = c .before .before .before .before .arrive in
     let kept = c .before .before .before .put-cart .ensures in
     only-passes (λ (p : ℕ). Arrived (a .stations .now) (d .last .0) (a .carts .now) (c .before .before .before .put-cart .last .0) (a .messages .now) (a .station .0) (a .number .0) (a .row) p)
@@ -41,7 +43,7 @@ returns c =
     (record {
       upto = d .result .row;
       docked = d .ensures;
-      carts = kept .0 ∙ ap (λ (x : Cart). withCart (cartsIn (a .carts .now)) (a .number .0) x) (k .ensures);
+      carts = kept .0 ∙ arrive-step (cartsIn (a .carts .now)) (next-beyond (a .carts .now)) (a .number .0) (record-of .result) (record-of .ensures) (a .station) (d .result .row) (k .result) (k .ensures);
       canonical = kept .1 .0;
       length = kept .1 .1;
     })

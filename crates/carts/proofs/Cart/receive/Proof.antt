@@ -20,13 +20,13 @@ element-write-self c = search needs
 returns : tie.Need-returns
 returns c =
     let a = c .before .before .args in
-    λ i. record { place = a .t1 .place; next = ap (set (a .t1 .next) (a .initiator .0)) (c .number-after .ensures) i }
+    λ i. record { place = a .t1 .place; next = ap (set (a .t1 .next) (a .initiator .0)) (c .number-after .ensures) i; steady = a .t1 .steady }
 
 returns-2 : tie.Need-returns-2
 returns-2 c =
     let a = c .before .args in
     let sixteen : length (a .t1 .next) ≡ 16 = search needs in
-    λ i. record { place = a .t1 .place; next = set-beyond (a .t1 .next) (a .initiator .0) (numberAfter (a .n .0)) (omega (arith, sixteen, c .if1 .left)) i }
+    λ i. record { place = a .t1 .place; next = set-beyond (a .t1 .next) (a .initiator .0) (numberAfter (a .n .0)) (omega (arith, sixteen, c .if1 .left)) i; steady = a .t1 .steady }
 
 pub receive-spec : {M : Type 1} → statement M
 receive-spec = tie.close (tie.spec number-after-requires mul-self element-write-self returns returns-2)

@@ -1,7 +1,7 @@
--- `event_send::first_of` meets its contract.
-use Rattle.event_send.proofs.SendChecks.{first-next, first-stays}
-use Rattle.event_send.proofs.first_of.Statement.{statement}
-use Rattle.event_send.proofs.first_of.Tie as tie
+-- `event_answers::first_of` meets its contract.
+use Rattle.event_answers.proofs.Values.{first-next, first-stays}
+use Rattle.event_answers.proofs.first_of.Statement.{statement}
+use Rattle.event_answers.proofs.first_of.Tie as tie
 
 returns : tie.Need-returns
 returns c = first-next (c .before .args .refusal) (c .before .args .next) (c .if1 .taken)
