@@ -45,6 +45,9 @@ behind!(radio, Radio, |floor, t: u64, c: u64, buffer: *mut u8, size: usize| {
 behind!(move_cart, Move, |floor, c: u64, to: u64| {
     said(5, floor.move_cart(cart(c), station(to)).map(|step| (step, 0)))
 });
+behind!(flag_cart, Flag, |floor, c: u64, steady: u64| {
+    said(6, floor.set_steady(cart(c), steady != 0).map(|step| (step, 0)))
+});
 
 /// A plain floor and its functions; they are not known where they are called.
 #[derive(Clone)]
@@ -55,6 +58,7 @@ pub struct Behind {
     wire: Wire,
     radio: Radio,
     move_cart: Move,
+    flag_cart: Flag,
 }
 
 macro_rules! call {
@@ -76,6 +80,7 @@ impl Behind {
             wire: black_box(wire),
             radio: black_box(radio),
             move_cart: black_box(move_cart),
+            flag_cart: black_box(flag_cart),
         }
     }
 
@@ -94,6 +99,7 @@ impl Behind {
                 call!((self.radio), floor, out, t, c, buffer.as_mut_ptr(), buffer.len())
             }
             Event::Move(c, to) => call!((self.move_cart), floor, out, c, to),
+            Event::Flag(c, steady) => call!((self.flag_cart), floor, out, c, steady as u64),
         }
         out
     }

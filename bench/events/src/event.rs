@@ -14,10 +14,11 @@ pub enum Event {
     Wire(u64, u64),
     Radio(u64, u64),
     Move(u64, u64),
+    Flag(u64, bool),
 }
 
 /// The kinds in the order of their numbers.
-pub const KINDS: [&str; 6] = ["start", "enter", "send", "wire", "radio", "move"];
+pub const KINDS: [&str; 7] = ["start", "enter", "send", "wire", "radio", "move", "flag"];
 
 impl Event {
     pub fn kind(&self) -> usize {
@@ -28,6 +29,7 @@ impl Event {
             Event::Wire(..) => 3,
             Event::Radio(..) => 4,
             Event::Move(..) => 5,
+            Event::Flag(..) => 6,
         }
     }
 }
@@ -66,6 +68,7 @@ pub fn apply(floor: &mut Floor, event: &Event, buffer: &mut [u8]) -> Said {
         Event::Wire(i, j) => (3, floor.wire(station(i), station(j))),
         Event::Radio(t, c) => return said(4, floor.radio(station(t), cart(c), buffer)),
         Event::Move(c, to) => (5, floor.move_cart(cart(c), station(to))),
+        Event::Flag(c, steady) => (6, floor.set_steady(cart(c), steady)),
     };
     said(kind, answer.map(|step| (step, 0)))
 }

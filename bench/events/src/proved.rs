@@ -35,6 +35,7 @@ linked! {
     mekhturia_wire, mekhturia_step_wire => (from: u64, to: u64);
     mekhturia_radio, mekhturia_step_radio => (station: u64, cart: u64, buffer: *mut u8, size: usize);
     mekhturia_move, mekhturia_step_move => (cart: u64, to: u64);
+    mekhturia_flag, mekhturia_step_flag => (cart: u64, steady: u64);
 }
 
 /// Lends the floor's parts, then what the event has, then the words for the answer.
@@ -54,7 +55,7 @@ macro_rules! call {
 
 /// Calls the function of the event's kind. There are at least seven words for the answer.
 macro_rules! call_one {
-    ($w:expr, $event:expr, $buffer:expr, $out:expr, $start:ident, $enter:ident, $send:ident, $wire:ident, $radio:ident, $move:ident) => {{
+    ($w:expr, $event:expr, $buffer:expr, $out:expr, $start:ident, $enter:ident, $send:ident, $wire:ident, $radio:ident, $move:ident, $flag:ident) => {{
         assert!($out.len() >= 7);
         match *$event {
             Event::Start(n, k) => call!($start, $w, $out, n, k),
@@ -67,6 +68,7 @@ macro_rules! call_one {
                 call!($radio, $w, $out, t, c, $buffer.as_mut_ptr(), $buffer.len())
             }
             Event::Move(c, to) => call!($move, $w, $out, c, to),
+            Event::Flag(c, steady) => call!($flag, $w, $out, c, steady as u64),
         }
     }};
 }
@@ -78,7 +80,7 @@ pub fn call(w: &mut Words, event: &Event, buffer: &mut [u8], out: &mut [u64]) {
         call_one! {
             w, event, buffer, out,
             mekhturia_start, mekhturia_enter, mekhturia_send,
-            mekhturia_wire, mekhturia_radio, mekhturia_move
+            mekhturia_wire, mekhturia_radio, mekhturia_move, mekhturia_flag
         }
     }
 }
@@ -92,6 +94,6 @@ pub unsafe fn step(w: &mut Words, event: &Event, buffer: &mut [u8], out: &mut [u
     call_one! {
         w, event, buffer, out,
         mekhturia_start, mekhturia_step_enter, mekhturia_step_send,
-        mekhturia_step_wire, mekhturia_step_radio, mekhturia_step_move
+        mekhturia_step_wire, mekhturia_step_radio, mekhturia_step_move, mekhturia_step_flag
     }
 }

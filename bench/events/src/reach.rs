@@ -14,11 +14,11 @@ fn size(numbers: &mut Numbers) -> (u64, u64) {
 }
 
 /// Which kinds come how often: a run may have few sends or many, and its lines may fill or stay short.
-fn weights(numbers: &mut Numbers) -> [u64; 5] {
-    std::array::from_fn(|kind| 1 + numbers.below([4, 4, 4, 12, 24][kind]))
+fn weights(numbers: &mut Numbers) -> [u64; 6] {
+    std::array::from_fn(|kind| 1 + numbers.below([4, 4, 4, 12, 2, 24][kind]))
 }
 
-fn step(numbers: &mut Numbers, floor: &mut Floor, weights: &[u64; 5], n: u64, k: u64) {
+fn step(numbers: &mut Numbers, floor: &mut Floor, weights: &[u64; 6], n: u64, k: u64) {
     let (s, t) = (StationNo(numbers.below(n) as u8), StationNo(numbers.below(n) as u8));
     let cart = CartNo(numbers.below(k) as u8);
     let mut at = numbers.below(weights.iter().sum());
@@ -40,6 +40,7 @@ fn step(numbers: &mut Numbers, floor: &mut Floor, weights: &[u64; 5], n: u64, k:
             let cart = if queued == 0 { cart } else { CartNo(queued.trailing_zeros() as u8) };
             floor.radio(s, cart, &mut [0; 32]).map(|(step, _)| step)
         }
+        Some(4) => floor.set_steady(cart, numbers.below(2) == 0),
         _ => floor.wire(s, t),
     };
 }

@@ -191,6 +191,9 @@ pub struct Floor {
     pub(crate) carts: u8,
     /// Carts that have entered.
     pub(crate) entered: u64,
+    /// Carts that were told not to be steady. "A cart counts as steady from its entry until told",
+    /// and as the flag is kept by cart, it "travels with the cart through hand-offs".
+    pub(crate) unsteady: u64,
     /// Rooms in use.
     pub(crate) rooms: u32,
     /// Rooms in use by initiator.
@@ -241,6 +244,7 @@ impl Floor {
             stations: 0,
             carts: 0,
             entered: 0,
+            unsteady: 0,
             rooms: 0,
             rooms_by: [0; STATIONS],
             cart: [Cart { next: [0; STATIONS], place: Place::Outside }; CARTS],
@@ -273,6 +277,11 @@ impl Floor {
     /// Carts that have entered.
     pub fn entered(&self) -> u64 {
         self.entered
+    }
+
+    /// Carts that are not steady.
+    pub fn unsteady(&self) -> u64 {
+        self.unsteady
     }
 
     pub fn place(&self, cart: CartNo) -> Place {

@@ -12,6 +12,7 @@ pub const SEND: u8 = 2;
 pub const WIRE: u8 = 3;
 pub const RADIO: u8 = 4;
 pub const MOVE: u8 = 5;
+pub const STEADY: u8 = 6;
 
 // Where the fields stand in the first eight octets, read as one number.
 const KIND: u32 = 60;
@@ -24,16 +25,20 @@ const STATION_FIELD: u64 = 0xF << STATION;
 const CART_FIELD: u64 = 0x3F << CART;
 const OTHER_FIELD: u64 = 0xF << OTHER;
 const LENGTH_FIELD: u64 = 0x3F << LENGTH;
+/// "In the other field, 1 for steady or 0 for not; 2 to 15 there is refusal 3": as if the lowest
+/// bit of that field alone were listed.
+const FLAG: u64 = 1 << OTHER;
 
 /// For each kind, the bits beside the kind that no listed field covers. A set is listed for a
 /// send alone.
-const STRAY: [u64; 6] = [
+const STRAY: [u64; 7] = [
     stray(STATION_FIELD | CART_FIELD),
     stray(STATION_FIELD | CART_FIELD),
     stray(STATION_FIELD | LENGTH_FIELD),
     stray(STATION_FIELD | OTHER_FIELD),
     stray(STATION_FIELD | CART_FIELD),
     stray(CART_FIELD | OTHER_FIELD),
+    stray(CART_FIELD | FLAG),
 ];
 
 const fn stray(listed: u64) -> u64 {
@@ -49,6 +54,7 @@ pub enum Event<'a> {
     Wire { from: StationNo, to: StationNo },
     Radio { station: StationNo, cart: CartNo },
     Move { cart: CartNo, to: StationNo },
+    Steady { cart: CartNo, steady: bool },
 }
 
 /// What a reader answers.
@@ -104,24 +110,31 @@ impl<'a> Reader<'a> {
         let event = match kind {
             START => Event::Start { stations: station.0 + 1, carts: cart.0 + 1 },
             ENTER => Event::Enter { station, cart },
-            SEND => {
-                let length = (head >> LENGTH & 0x3F) as usize;
-                if length > TEXT {
-                    return Taken::Refused(Refusal::LongText);
+            SEND => match text_of(head, after) {
+                Ok((text, behind)) => {
+                    rest = behind;
+                    Event::Send { station, set, text }
                 }
-                let Some((text, behind)) = after.split_at_checked(length) else {
-                    return Taken::Refused(Refusal::CutFrame);
-                };
-                rest = behind;
-                Event::Send { station, set, text }
-            }
+                Err(refusal) => return Taken::Refused(refusal),
+            },
             WIRE => Event::Wire { from: station, to: other },
             RADIO => Event::Radio { station, cart },
-            _ => Event::Move { cart, to: other },
+            MOVE => Event::Move { cart, to: other },
+            _ => Event::Steady { cart, steady: other.0 != 0 },
         };
         self.rest = rest;
         Taken::Event(event)
     }
+}
+
+/// The text of a send, and what follows it.
+#[inline(always)]
+fn text_of(head: u64, after: &[u8]) -> Result<(&[u8], &[u8]), Refusal> {
+    let length = (head >> LENGTH & 0x3F) as usize;
+    if length > TEXT {
+        return Err(Refusal::LongText);
+    }
+    after.split_at_checked(length).ok_or(Refusal::CutFrame)
 }
 
 /// Writes an event as a frame at the end of `out`. Numbers must fit their fields.
@@ -147,6 +160,9 @@ pub fn put(event: &Event, out: &mut Vec<u8>) {
         }
         Event::Move { cart, to } => {
             (field(MOVE, KIND) | field(cart.0, CART) | field(to.0, OTHER), 0, &[])
+        }
+        Event::Steady { cart, steady } => {
+            (field(STEADY, KIND) | field(cart.0, CART) | field(steady as u8, OTHER), 0, &[])
         }
     };
     out.extend_from_slice(&head.to_be_bytes());
@@ -196,6 +212,8 @@ mod tests {
             Event::Wire { from: StationNo(14), to: StationNo(15) },
             Event::Radio { station: StationNo(9), cart: CartNo(62) },
             Event::Move { cart: CartNo(61), to: StationNo(13) },
+            Event::Steady { cart: CartNo(60), steady: false },
+            Event::Steady { cart: CartNo(0), steady: true },
         ];
         let mut octets = Vec::new();
         events.iter().for_each(|event| put(event, &mut octets));
@@ -212,7 +230,7 @@ mod tests {
     fn refusals_in_order() {
         assert_eq!(refusal(&[0xFF]), 1);
         assert_eq!(refusal(&[0xFF; 15]), 1);
-        for kind in 6..16 {
+        for kind in 7..16 {
             assert_eq!(refusal(&[kind << 4 | 0xF; 16]), 2);
         }
         // A stray field goes before the length, the length before the cut text.
@@ -226,13 +244,14 @@ mod tests {
     #[test]
     fn each_field_is_listed_or_refused() {
         // kind; station, cart, other, length, zero, set: 1 where listed
-        let listed: [(u8, [u8; 6]); 6] = [
+        let listed: [(u8, [u8; 6]); 7] = [
             (START, [1, 1, 0, 0, 0, 0]),
             (ENTER, [1, 1, 0, 0, 0, 0]),
             (SEND, [1, 0, 0, 1, 0, 1]),
             (WIRE, [1, 0, 1, 0, 0, 0]),
             (RADIO, [1, 1, 0, 0, 0, 0]),
             (MOVE, [0, 1, 1, 0, 0, 0]),
+            (STEADY, [0, 1, 1, 0, 0, 0]),
         ];
         let widths = [4, 6, 4, 6, 40, 64];
         for (kind, fields) in listed {
@@ -244,10 +263,28 @@ mod tests {
                     let mut reader = Reader::new(&octets);
                     let taken = reader.take();
                     let stray = taken == Taken::Refused(Refusal::StrayField);
-                    assert_eq!(stray, *field == 0, "kind {kind}, bit {bit}");
+                    // Of a flag's field, the lowest bit alone.
+                    let beyond_flag = kind == STEADY && (111..114).contains(&bit);
+                    assert_eq!(stray, *field == 0 || beyond_flag, "kind {kind}, bit {bit}");
                 }
             }
             assert_eq!(bit, 0);
+        }
+    }
+    #[test]
+    fn a_flag_is_0_or_1() {
+        for flag in 0..16 {
+            // Cart 63 and the flag.
+            let octets = frame(&[0x60, 0xFC | flag >> 2, flag << 6]);
+            match Reader::new(&octets).take() {
+                Taken::Event(Event::Steady { cart: CartNo(63), steady }) => {
+                    assert_eq!(flag, steady as u8);
+                }
+                taken => {
+                    assert!(flag > 1, "{taken:?}");
+                    assert_eq!(refusal(&octets), 3);
+                }
+            }
         }
     }
 }

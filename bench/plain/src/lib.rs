@@ -3,7 +3,7 @@
 //! its speed.
 //!
 //! * [`floor`]: the records of stations, carts and held messages, and the wired lines.
-//! * [`steps`]: the events: start, enter, send, wire, radio, move.
+//! * [`steps`]: the events: start, enter, send, wire, radio, move, steady.
 //! * [`frames`]: frames taken apart into events.
 //! * [`report`]: the printed run.
 //! * [`run`]: frames in, printed run out.

@@ -66,6 +66,7 @@ fn handle(floor: &mut Floor, event: &Event, report: &mut Report) {
         Event::Send { station, set, text } => (frames::SEND, floor.send(station, set, text)),
         Event::Wire { from, to } => (frames::WIRE, floor.wire(from, to)),
         Event::Move { cart, to } => (frames::MOVE, floor.move_cart(cart, to)),
+        Event::Steady { cart, steady } => (frames::STEADY, floor.set_steady(cart, steady)),
         Event::Radio { station, cart } => {
             let mut text = [0; TEXT];
             return match floor.radio(station, cart, &mut text) {

@@ -43,6 +43,7 @@ pub enum Refusal {
     AlreadyThere = 20,
     ShortBuffer = 21,
     EmptyText = 24,
+    NotSteady = 25,
 }
 
 impl Refusal {
@@ -92,6 +93,8 @@ impl Floor {
             return Err(Refusal::AlreadyEntered);
         }
         self.entered |= cart.alone();
+        // "A cart counts as steady from its entry until told".
+        self.unsteady &= !cart.alone();
         let p = self.register(station, cart);
         Ok(Step { a: station.0 as u16, b: cart.0 as u16, p, w: 0 })
     }
@@ -206,6 +209,22 @@ impl Floor {
         Ok(Step { a: cart.0 as u16, b: to.0 as u16, p: 0, w: 1 })
     }
 
+    /// A cart's vacuum is steady, or is not. It "prints cart and flag with p = 0 and w = 0".
+    #[inline]
+    pub fn set_steady(&mut self, cart: CartNo, steady: bool) -> Result<Step, Refusal> {
+        self.check_started()?;
+        self.check_cart(cart)?;
+        if self.entered & cart.alone() == 0 {
+            return Err(Refusal::NeverEntered);
+        }
+        if steady {
+            self.unsteady &= !cart.alone();
+        } else {
+            self.unsteady |= cart.alone();
+        }
+        Ok(Step { a: cart.0 as u16, b: steady as u16, p: 0, w: 0 })
+    }
+
     /// The checks of a send, in their order; the number that the message will have.
     #[inline(always)]
     fn check_send(&self, station: StationNo, set: u64, text: &[u8]) -> Result<u16, Refusal> {
@@ -245,6 +264,10 @@ impl Floor {
         self.check_cart(cart)?;
         if self.cart[cart.at()].place != Place::At(station) {
             return Err(Refusal::NotAtStation);
+        }
+        // "For radio, 25 not steady, after 16 and before 17."
+        if self.unsteady & cart.alone() != 0 {
+            return Err(Refusal::NotSteady);
         }
         let here = &self.station[station.at()];
         if here.queue == 0 || here.buffered[here.head.at()].queued & cart.alone() == 0 {

@@ -18,6 +18,10 @@ pub const ROOM_WORDS: usize = 18;
 pub const COPIES: usize = 114;
 pub const ENTRIES: usize = 115;
 
+/// The first word of a cart's row is the kind of its place, and so much more if the cart is not
+/// steady.
+pub const UNSTEADY: u64 = 4;
+
 /// Where the lines, the registers' rows of next numbers, one for each cart, and the rows begin among
 /// the words of the pool.
 pub const LINES: usize = 50;
@@ -90,6 +94,9 @@ impl Floor {
                     words[19 * cart.at()..][..3].copy_from_slice(&place);
                 }
             }
+        }
+        for (c, row) in words.chunks_exact_mut(19).enumerate() {
+            row[0] += UNSTEADY * (self.unsteady >> c & 1);
         }
         words
     }
@@ -188,7 +195,7 @@ impl Floor {
     fn read_carts(&mut self, words: &[u64]) {
         for (c, (row, cart)) in words.chunks_exact(19).zip(&mut self.cart).enumerate() {
             let station = StationNo(row[1] as u8);
-            cart.place = match row[0] {
+            cart.place = match row[0] % UNSTEADY {
                 0 => Place::Outside,
                 1 => Place::At(station),
                 2 => Place::Leaving(station),
@@ -198,6 +205,7 @@ impl Floor {
             if cart.place != Place::Outside {
                 self.entered |= 1 << c;
             }
+            self.unsteady |= (row[0] / UNSTEADY) << c;
         }
     }
 
@@ -275,6 +283,9 @@ impl Floor {
         let size = |f: &Floor| (f.started, f.stations, f.carts, f.entered, f.rooms, f.rooms_by);
         if size(self) != size(other) {
             return Some(format!("sizes and rooms: {:?}, {:?}", size(self), size(other)));
+        }
+        if self.unsteady != other.unsteady {
+            return Some(format!("not steady: {:x}, {:x}", self.unsteady, other.unsteady));
         }
         for c in 0..CARTS {
             let (a, b) = (&self.cart[c], &other.cart[c]);

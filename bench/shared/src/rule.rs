@@ -51,6 +51,9 @@ use Fault::*;
 const COPIES: usize = 114;
 const ENTRIES: usize = 115;
 
+/// The first word of a cart's row is the kind of its place, and so much more if the cart is not steady.
+const UNSTEADY: u64 = 4;
+
 type StationRow = [u64; 116];
 type CartRow = [u64; 19];
 
@@ -196,20 +199,21 @@ impl Floor<'_> {
     fn carts(&mut self) -> Result<(), Fault> {
         let mut local = [0; STATIONS];
         for (c, row) in self.carts.iter().enumerate() {
-            let [kind, s, t, next @ ..] = row;
-            let (s, t) = (*s as usize, *t as usize);
-            if *kind == 0 {
+            let [first, s, t, next @ ..] = row;
+            ensure(*first < 2 * UNSTEADY, PlaceWords)?;
+            let (kind, s, t) = (first % UNSTEADY, *s as usize, *t as usize);
+            if kind == 0 {
                 ensure(s | t == 0, PlaceWords)?;
                 ensure(next.iter().fold(0, |all, x| all | x) == 0, Cart)?;
                 continue;
             }
-            ensure(*kind <= 3 && (*kind != 1 || t == 0), PlaceWords)?;
+            ensure(kind != 1 || t == 0, PlaceWords)?;
             ensure(s < self.n && t < self.n && c < self.k, Cart)?;
             ensure(next.iter().zip(&self.sent).fold(true, |ok, (x, y)| ok & (x <= y)), Cart)?;
-            if *kind != 3 {
+            if kind != 3 {
                 local[s & 15] |= 1 << c;
             }
-            if *kind != 1 {
+            if kind != 1 {
                 self.movers |= 1 << c;
             }
         }
@@ -344,10 +348,11 @@ impl Floor<'_> {
         let (kind, index, number) = (word & 7, (word >> 3 & 255) as usize, word >> 11);
         if kind == 4 || kind == 5 {
             let way = if kind == 4 { [2, j as u64, i as u64] } else { [3, i as u64, j as u64] };
-            ensure(index < self.k && self.carts[index & 63][..3] == way, HandOff)?;
+            let [first, s, t, next @ ..] = &self.carts[index & 63];
+            ensure(index < self.k && [first % UNSTEADY, *s, *t] == way, HandOff)?;
             ensure(*found >> index & 1 == 0, HandOff)?;
             *found |= 1 << index;
-            let carried = self.registers[index & 63] == self.carts[index & 63][3..];
+            let carried = self.registers[index & 63] == *next;
             ensure(kind == 4 || carried, RegisterRow)?;
             return Ok(());
         }

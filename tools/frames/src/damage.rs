@@ -30,7 +30,7 @@ fn senseless(random: &mut Random) -> Vec<u8> {
     let mut octets: Vec<u8> = (0..length).map(|_| random.octets() as u8).collect();
     if let Some(first) = octets.first_mut() {
         if random.once_in(2) {
-            *first = (random.below(6) as u8) << 4 | (*first & 15);
+            *first = (random.below(7) as u8) << 4 | (*first & 15);
         }
     }
     octets
@@ -74,7 +74,7 @@ fn wild(random: &mut Random) -> Vec<u8> {
         let (one, two) = (CartNo(cart()), CartNo(cart()));
         let text = random.octets().to_be_bytes().repeat(TEXT / 8);
         let text = &text[..random.below(TEXT + 1)];
-        let event = match random.below(20) {
+        let event = match random.below(21) {
             _ if index == 0 && !late => Event::Start { stations, carts },
             0 if random.once_in(10) => Event::Start { stations: station.0 + 1, carts: one.0 + 1 },
             0 | 1 => Event::Enter { station, cart: one },
@@ -83,6 +83,8 @@ fn wild(random: &mut Random) -> Vec<u8> {
             4 if random.once_in(4) => Event::Send { station, set: random.octets(), text },
             4..=5 => Event::Move { cart: one, to },
             6..=11 => Event::Radio { station, cart: one },
+            // A third of the flags are not steady, so that most carts are.
+            12 => Event::Steady { cart: one, steady: !random.once_in(3) },
             _ => Event::Wire { from: station, to },
         };
         put(&event, &mut octets);

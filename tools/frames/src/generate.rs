@@ -11,6 +11,10 @@ use plain::{CartNo, Floor, Place, Refusal, StationNo, Step};
 
 use crate::random::Random;
 
+/// Of so many choices between a flag and a radio step one is a flag. In the mixed stream of the
+/// benchmark one frame in a hundred is then a flag, kind 6.
+const FLAGS: usize = 20;
+
 /// What a stream should be like.
 #[derive(Clone, Copy, Debug)]
 pub struct Wishes {
@@ -105,13 +109,8 @@ impl Generator {
                 return event;
             }
         }
-        // Most carts come at the beginning, the others late.
-        let outside = self.floor.carts() as usize - self.floor.entered().count_ones() as usize;
-        if outside > 0 {
-            let early = 4 * outside > self.floor.carts() as usize;
-            if self.floor.entered() == 0 || self.random.once_in(if early { 2 } else { 400 }) {
-                return self.enter();
-            }
+        if let Some(event) = self.arrival() {
+            return event;
         }
         let sender = self.sender();
         if let (Some(station), true) = (sender, self.random.once_in(2)) {
@@ -122,19 +121,39 @@ impl Generator {
                 return event;
             }
         }
+        if self.random.once_in(FLAGS) {
+            return self.flag();
+        }
         if let Some(event) = self.radio() {
             return event;
         }
-        if let Some(station) = sender {
-            return self.send(station, text);
+        match sender {
+            Some(station) => self.send(station, text),
+            None => self.last(),
         }
-        // With one station and its numbers used up there is nothing left but to be refused.
+    }
+
+    /// What is left where nothing can be sent or received. With one station and its numbers used
+    /// up that is nothing but to be refused.
+    fn last(&mut self) -> Event<'static> {
         let idle = Event::Start { stations: self.floor.stations(), carts: self.floor.carts() };
-        self.wire().or_else(|| self.move_cart()).unwrap_or(idle)
+        let event = self.wire().or_else(|| self.steady_again());
+        event.or_else(|| self.move_cart()).unwrap_or(idle)
     }
 
     fn station(&mut self) -> StationNo {
         StationNo(self.random.below(self.floor.stations() as usize) as u8)
+    }
+
+    /// A cart that enters. Most come at the beginning, the others late.
+    fn arrival(&mut self) -> Option<Event<'static>> {
+        let outside = self.floor.carts() as usize - self.floor.entered().count_ones() as usize;
+        if outside == 0 {
+            return None;
+        }
+        let early = 4 * outside > self.floor.carts() as usize;
+        let now = self.floor.entered() == 0 || self.random.once_in(if early { 2 } else { 400 });
+        now.then(|| self.enter())
     }
 
     fn enter(&mut self) -> Event<'static> {
@@ -200,7 +219,7 @@ impl Generator {
         let first = self.station().0;
         for station in (first..stations).chain(0..first).map(StationNo) {
             let Some(queued) = self.floor.head(station) else { continue };
-            let ready = carts_of(queued)
+            let ready = carts_of(queued & !self.floor.unsteady())
                 .filter(|cart| self.floor.place(*cart) == Place::At(station))
                 .fold(0, |set, cart| set | cart.alone());
             if ready != 0 {
@@ -208,6 +227,27 @@ impl Generator {
             }
         }
         None
+    }
+
+    /// A flag. An unsteady cart holds up its station's queue, so three flags of four, while there
+    /// is such a cart, say that one is steady again.
+    fn flag(&mut self) -> Event<'static> {
+        if !self.random.once_in(4) {
+            if let Some(event) = self.steady_again() {
+                return event;
+            }
+        }
+        let cart = CartNo(self.random.bit_of(self.floor.entered()));
+        Event::Steady { cart, steady: self.random.once_in(8) }
+    }
+
+    fn steady_again(&mut self) -> Option<Event<'static>> {
+        match self.floor.unsteady() {
+            0 => None,
+            unsteady => {
+                Some(Event::Steady { cart: CartNo(self.random.bit_of(unsteady)), steady: true })
+            }
+        }
     }
 
     /// A cart that is at a station and leaves it.
@@ -256,15 +296,28 @@ impl Generator {
             },
             // With two percent of bad events, one frame in 800 is a send without a text.
             10 if entered != 0 => Event::Send { station, set: some.alone(), text: &[] },
+            11 if entered.count_ones() < carts as u32 => {
+                let Event::Enter { cart, .. } = self.enter() else { unreachable!() };
+                Event::Steady { cart, steady: false }
+            }
+            12 if entered != 0 => self.radio_unsteady().unwrap_or_else(|| self.flag()),
             _ => self.wild(text),
         }
+    }
+
+    /// A radio step of a cart that is at a station but not steady.
+    fn radio_unsteady(&self) -> Option<Event<'static>> {
+        carts_of(self.floor.unsteady()).find_map(|cart| match self.floor.place(cart) {
+            Place::At(station) => Some(Event::Radio { station, cart }),
+            _ => None,
+        })
     }
 
     /// An event with random fields, refused or not.
     fn wild<'t>(&mut self, text: &'t mut [u8; TEXT]) -> Event<'t> {
         let (station, to) = (self.near_station(), self.near_station());
         let cart = CartNo(self.random.below((self.floor.carts() as usize + 1).min(64)) as u8);
-        match self.random.below(16) {
+        match self.random.below(17) {
             0 => Event::Start { stations: station.0 + 1, carts: cart.0 + 1 },
             1 => Event::Enter { station, cart },
             2 | 3 => {
@@ -274,6 +327,7 @@ impl Generator {
             }
             4..=8 => Event::Wire { from: station, to },
             9..=12 => Event::Radio { station, cart },
+            13 => Event::Steady { cart, steady: !self.random.once_in(3) },
             _ => Event::Move { cart, to },
         }
     }
@@ -295,6 +349,7 @@ pub fn give(floor: &mut Floor, event: &Event) -> Result<Step, Refusal> {
             floor.radio(station, cart, &mut [0; TEXT]).map(|(step, _)| step)
         }
         Event::Move { cart, to } => floor.move_cart(cart, to),
+        Event::Steady { cart, steady } => floor.set_steady(cart, steady),
     }
 }
 

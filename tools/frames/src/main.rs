@@ -13,7 +13,8 @@ frames gen SEED COUNT [--stations N] [--carts N] [--held H] [--lines L] [--bad P
 frames script < TEXT > FRAMES
     writes the frames of a script, one event on a line: start STATIONS CARTS,
     enter STATION CART, send STATION CARTS TEXT, wire FROM TO, radio STATION CART,
-    move CART TO, octets HEXADECIMAL; CARTS as 0,3 or -, TEXT in hexadecimal or -
+    move CART TO, steady CART FLAG, octets HEXADECIMAL; CARTS as 0,3 or -, TEXT in
+    hexadecimal or -, FLAG 1 or 0
 frames show < FRAMES > TEXT
     writes the script of a stream
 frames case NAME > FRAMES

@@ -8,7 +8,8 @@
 //! wire 1 0           from, to
 //! radio 0 0          station, cart
 //! move 0 1           cart, to
-//! octets 60FF        octets as they stand, for what is no frame of 01
+//! steady 0 1         cart, 1 for steady or 0 for not
+//! octets F0FF        octets as they stand, for what is no frame
 //! ```
 //!
 //! What follows a `#` is a comment. Script and stream say the same: `show` writes the octets from
@@ -64,6 +65,9 @@ fn one_line(words: &[&str], out: &mut Vec<u8>) -> Result<(), String> {
         ["wire", from, to] => Event::Wire { from: station(from)?, to: station(to)? },
         ["radio", at, which] => Event::Radio { station: station(at)?, cart: cart(which)? },
         ["move", which, to] => Event::Move { cart: cart(which)?, to: station(to)? },
+        ["steady", which, flag] => {
+            Event::Steady { cart: cart(which)?, steady: number("flag", flag, 0, 1)? == 1 }
+        }
         ["octets", octets] => {
             out.extend(hexadecimal(octets)?);
             return Ok(());
@@ -74,6 +78,7 @@ fn one_line(words: &[&str], out: &mut Vec<u8>) -> Result<(), String> {
         ["wire", ..] => return Err("wanted: wire FROM TO".into()),
         ["radio", ..] => return Err("wanted: radio STATION CART".into()),
         ["move", ..] => return Err("wanted: move CART TO".into()),
+        ["steady", ..] => return Err("wanted: steady CART FLAG".into()),
         ["octets", ..] => return Err("wanted: octets HEXADECIMAL".into()),
         [word, ..] => return Err(format!("no event is called {word:?}")),
         [] => return Ok(()),
@@ -158,6 +163,7 @@ pub fn show_event(event: &Event) -> String {
         Event::Wire { from, to } => format!("wire {} {}", from.0, to.0),
         Event::Radio { station, cart } => format!("radio {} {}", station.0, cart.0),
         Event::Move { cart, to } => format!("move {} {}", cart.0, to.0),
+        Event::Steady { cart, steady } => format!("steady {} {}", cart.0, steady as u8),
     }
 }
 
@@ -195,6 +201,15 @@ mod tests {
     }
 
     #[test]
+    fn flags() {
+        let text = "steady 63 0\nsteady 0 1\n";
+        assert_eq!(show(&script(text).unwrap()), text);
+        assert_eq!(script(text).unwrap()[..3], [0x60, 0xFC, 0]);
+        assert_eq!(mistake("steady 0 2"), "line 1: flag: \"2\" is not a number from 0 to 1");
+        assert_eq!(mistake("steady 0"), "line 1: wanted: steady CART FLAG");
+    }
+
+    #[test]
     fn mistakes_name_the_line() {
         assert_eq!(mistake("\nwait 1"), "line 2: no event is called \"wait\"");
         assert_eq!(mistake("start 2"), "line 1: wanted: start STATIONS CARTS");
@@ -221,8 +236,12 @@ mod tests {
 
     #[test]
     fn refused_frames_are_kept_as_octets() {
-        for octets in [&[0x60; 40][..], &[1], &[0x20, 0, 33, 0, 0, 0, 0, 0, 0, 0, 0, 0, 0, 0, 0, 1]]
-        {
+        for octets in [
+            &[0xF0; 40][..],
+            &[1],
+            &[0x60, 0, 0x80, 0, 0, 0, 0, 0, 0, 0, 0, 0, 0, 0, 0, 0],
+            &[0x20, 0, 33, 0, 0, 0, 0, 0, 0, 0, 0, 0, 0, 0, 0, 1],
+        ] {
             let mut stream = script("start 3 3\nenter 2 2\n").unwrap();
             stream.extend(octets);
             assert_eq!(script(&show(&stream)).unwrap(), stream);

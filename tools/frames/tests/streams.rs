@@ -85,7 +85,7 @@ fn show_then_script_is_the_identity_on_damaged_streams() {
 }
 
 /// The last refusal that an event can have.
-const LAST_REFUSAL: usize = 24;
+const LAST_REFUSAL: usize = 25;
 
 /// Gives a stream to a floor; answers the accepted and the refused events, the latter by number,
 /// and the most messages held in the last tenth.
@@ -138,7 +138,7 @@ fn no_message_is_held_for_ever() {
         assert!(held < 32, "{stations} stations, {carts} carts: {held} held at the end");
         assert!(counts.sends > 500);
         // Random fields meet every refusal that this floor has.
-        for number in [6, 10, 11, 15, 16, 17, 20, 24] {
+        for number in [6, 10, 11, 15, 16, 17, 20, 24, 25] {
             assert!(refused[number] > 0, "{stations} stations, {carts} carts: no {number}");
         }
     }

@@ -244,6 +244,7 @@ fn nothing_before_a_start() {
     assert_eq!(refusal(f.wire(s(99), s(99))), 5);
     assert_eq!(refusal(f.radio(s(99), c(99), &mut [])), 5);
     assert_eq!(refusal(f.move_cart(c(99), s(99))), 5);
+    assert_eq!(refusal(f.set_steady(c(99), true)), 5);
 }
 
 #[test]
@@ -365,6 +366,70 @@ fn lists_go_in_queue_order() {
 }
 
 #[test]
+fn a_cart_that_is_not_steady_receives_nothing() {
+    let mut f = floor(2, 2);
+    assert_eq!(refusal(f.set_steady(c(2), true)), 9);
+    assert_eq!(refusal(f.set_steady(c(0), true)), 18);
+    f.enter(s(0), c(0)).unwrap();
+    // It counts as steady from its entry. The same flag twice is nothing special.
+    assert_eq!(refusal(f.hand(0, 0)), 17);
+    assert_eq!(answer(f.set_steady(c(0), false)), (0, 0, 0, 0));
+    assert_eq!(answer(f.set_steady(c(0), false)), (0, 0, 0, 0));
+    assert_eq!(refusal(f.hand(0, 0)), 25);
+    assert_eq!(refusal(f.hand(1, 0)), 16);
+    // It is queued all the same.
+    f.send(s(0), 0b01, ONE).unwrap();
+    f.wire(s(0), s(0)).unwrap();
+    assert_eq!(refusal(f.hand(0, 0)), 25);
+    assert_eq!(answer(f.set_steady(c(0), true)), (0, 1, 0, 0));
+    assert_eq!(answer(f.hand(0, 0)), (0, 0, 0, 1));
+}
+
+#[test]
+fn an_unsteady_cart_at_the_head_holds_back_the_entries_behind_it() {
+    let mut f = floor(2, 3);
+    for cart in 0..3 {
+        f.enter(s(0), c(cart)).unwrap();
+    }
+    f.set_steady(c(0), false).unwrap();
+    f.send(s(0), 0b011, ONE).unwrap();
+    f.send(s(0), 0b010, ONE).unwrap();
+    f.wire(s(0), s(0)).unwrap();
+    f.wire(s(0), s(0)).unwrap();
+    // A steady companion in the same entry receives; the ack list waits for cart 0.
+    assert_eq!(answer(f.hand(0, 1)), (0, 0, 0, 0));
+    assert_eq!(refusal(f.hand(0, 1)), 17);
+    // An entry with a smaller key still becomes the head.
+    f.send(s(1), 0b100, ONE).unwrap();
+    f.wire(s(1), s(0)).unwrap();
+    assert_eq!(answer(f.hand(0, 2)), (1, 0, 0, 1));
+    assert_eq!(refusal(f.hand(0, 1)), 17);
+    f.set_steady(c(0), true).unwrap();
+    assert_eq!(answer(f.hand(0, 0)), (0, 0, 1, 1));
+    assert_eq!(answer(f.hand(0, 1)), (0, 1, 0, 1));
+}
+
+#[test]
+fn the_flag_travels_with_the_cart() {
+    let mut f = floor(2, 2);
+    f.enter(s(0), c(0)).unwrap();
+    f.enter(s(0), c(1)).unwrap();
+    f.set_steady(c(0), false).unwrap();
+    f.move_cart(c(0), s(1)).unwrap();
+    f.move_cart(c(1), s(1)).unwrap();
+    // Cart 1 is told while it is leaving, and again while it is travelling: the newest flag holds.
+    assert_eq!(answer(f.set_steady(c(1), false)), (1, 0, 0, 0));
+    assert_eq!(refusal(f.hand(0, 1)), 16);
+    f.wire(s(1), s(0)).unwrap();
+    f.wire(s(1), s(0)).unwrap();
+    assert_eq!(answer(f.set_steady(c(1), true)), (1, 1, 0, 0));
+    f.wire(s(0), s(1)).unwrap();
+    f.wire(s(0), s(1)).unwrap();
+    assert_eq!(refusal(f.hand(1, 0)), 25);
+    assert_eq!(refusal(f.hand(1, 1)), 17);
+}
+
+#[test]
 fn a_multicast_goes_by_its_row_alone() {
     let mut f = floor(2, 5);
     for (cart, station) in [(0, 0), (1, 0), (2, 1), (4, 1)] {
@@ -417,6 +482,7 @@ mod as_worded {
         rows: Vec<Option<[u16; 16]>>,
         /// 0 outside, 1 at, 2 leaving, 3 travelling
         places: Vec<(u8, u8)>,
+        steady: Vec<bool>,
         held: Vec<(Message, Vec<u8>, Vec<u8>, usize)>,
         lines: Vec<Vec<Travelling>>,
         pub sum: u64,
@@ -428,6 +494,7 @@ mod as_worded {
                 posts: vec![Post::default(); stations as usize],
                 rows: vec![None; carts as usize],
                 places: vec![(0, 0); carts as usize],
+                steady: vec![true; carts as usize],
                 held: Vec::new(),
                 lines: vec![Vec::new(); 256],
                 sum: 0,
@@ -623,6 +690,9 @@ mod as_worded {
             if self.places[cart as usize] != (1, station) {
                 return Err(16);
             }
+            if !self.steady[cart as usize] {
+                return Err(25);
+            }
             let here = &mut self.posts[station as usize];
             let Some((message, carts)) = here.queue.first_mut() else { return Err(17) };
             let (message, i) = (*message, message.initiator as usize);
@@ -641,6 +711,15 @@ mod as_worded {
             self.rows[cart as usize] = Some(row);
             self.sum += 1;
             Ok([i as u32, message.number as u32, p, w])
+        }
+
+        pub fn set_steady(&mut self, cart: u8, steady: bool) -> Result<[u32; 4], u8> {
+            self.cart(cart)?;
+            if self.places[cart as usize].0 == 0 {
+                return Err(18);
+            }
+            self.steady[cart as usize] = steady;
+            Ok([cart as u32, steady as u32, 0, 0])
         }
 
         pub fn move_cart(&mut self, cart: u8, to: u8) -> Result<[u32; 4], u8> {
@@ -679,7 +758,7 @@ fn the_same_as_the_worded_steps() {
                 let station = below(stations as u64 + beyond) as u8;
                 let other = below(stations as u64 + beyond) as u8;
                 let cart = below(carts as u64 + beyond) as u8;
-                let (ours, theirs) = match below(20) {
+                let (ours, theirs) = match below(21) {
                     0 => (floor.enter(s(station), c(cart)), worded.enter(station, cart)),
                     1 | 2 => {
                         let mut half = || below(1 << 32);
@@ -695,6 +774,10 @@ fn the_same_as_the_worded_steps() {
                         let carts = floor.head(s(station)).unwrap_or(0);
                         let cart = carts_of(carts).next().map_or(cart, |cart| cart.0);
                         (floor.hand(station, cart), worded.radio(station, cart))
+                    }
+                    10 => {
+                        let steady = below(3) > 0;
+                        (floor.set_steady(c(cart), steady), worded.set_steady(cart, steady))
                     }
                     _ => (floor.wire(s(station), s(other)), worded.wire(station, other)),
                 };
