@@ -8,7 +8,7 @@ use lib.ListN.{length, drop, length-drop}
 use lib.Seq.{drop-append-le, drop-drop}
 use Rattle.protocol.specs.Floor.{limits}
 use Rattle.protocol.specs.Events.{Event}
-use Rattle.protocol.specs.Frames.{Fields, Reading, fieldsOf, unlisted, fieldsRefusal, end, refusedFrame, taken, frameOf, readAt}
+use Rattle.protocol.specs.Frames.{Fields, Reading, fieldsOf, unlisted, lastKind, fieldsRefusal, end, refusedFrame, taken, frameOf, readAt}
 use Rattle.protocol.proofs.Tests.{by-test, by-lt, by-eq}
 use Rattle.frames.proofs.Laws.{no-kind, stray-field, long-text, no-refusal, taken-frame, refused-frame}
 use Rattle.frames.proofs.Stands.{frame-stands}
@@ -110,7 +110,7 @@ stands p q some whole = splits q p ∙ ap (after (checked p)) (by (frameOf limit
 -- WHAT IS KEPT IS SHORT: a frame that is only cut has at most 47 octets
 cut-text-short : (f : Fields) (behind : ℕ) → fieldsRefusal limits f behind ≡ 1 → (behind < f .length) × (f .length ≤ 32)
 cut-text-short f behind e =
-    by-lt 6 (f .kind)
+    by-lt lastKind (f .kind)
     (λ k. absurd (let z : 2 ≡ 1 = no-kind f behind k ∙ e in omega arith))
     (λ k. by-test (eqb (unlisted f) 0)
     (λ u. by-lt 32 (f .length)

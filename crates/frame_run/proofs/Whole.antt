@@ -12,7 +12,7 @@ use Rattle.protocol.specs.Floor.{Floor, limits}
 use Rattle.protocol.specs.Events.{Event}
 use Rattle.protocol.specs.Refusals.{check}
 use Rattle.protocol.specs.Step.{step, answer}
-use Rattle.protocol.specs.Frames.{Fields, Reading, fieldsOf, unlisted, fieldsRefusal, end, refusedFrame, taken, frameOf, readAt}
+use Rattle.protocol.specs.Frames.{Fields, Reading, fieldsOf, unlisted, lastKind, fieldsRefusal, end, refusedFrame, taken, frameOf, readAt}
 use Rattle.protocol.specs.Printed.{lineOf, linesFrom}
 use Rattle.protocol.proofs.Tests.{by-lt, by-eq, clash}
 use Rattle.frames.proofs.Laws.{nothing-left, cut-frame, refused-frame, taken-frame}
@@ -210,7 +210,7 @@ cut-text false false false false e = absurd (omega arith)
 cut-short : (f : Fields) (behind : ℕ) → fieldsRefusal limits f behind ≡ 1 → behind < 32
 unfolding fieldsRefusal
 cut-short f behind e =
-    let z = cut-text (ltb 6 (f .kind)) (not (eqb (unlisted f) 0)) (ltb 32 (f .length)) (ltb behind (f .length)) e in
+    let z = cut-text (ltb lastKind (f .kind)) (not (eqb (unlisted f) 0)) (ltb 32 (f .length)) (ltb behind (f .length)) e in
     let a = ltb-false 32 (f .length) (z .0) in
     let b = ltb-true behind (f .length) (z .1) in
     omega arith

@@ -14,7 +14,7 @@ use Rattle.protocol.proofs.Tests.{by-test, by-lt, on-cond}
 use Rattle.protocol.specs.Floor.{limits}
 use Rattle.protocol.specs.Folds.{isEmpty}
 use Rattle.protocol.specs.Events.{start, enter, send, wire, radio, move, flag}
-use Rattle.protocol.specs.Frames.{Fields, Reading, bigEndian, fieldsOf, unlisted, eventOf, fieldsRefusal, frameRefusal, frameOf, readAt, end, refusedFrame, taken}
+use Rattle.protocol.specs.Frames.{Fields, Reading, bigEndian, fieldsOf, unlisted, eventOf, lastKind, fieldsRefusal, frameRefusal, frameOf, readAt, end, refusedFrame, taken}
 use Rattle.frames.specs.declared.Halves.{Halves}
 use Rattle.frames.specs.Decoded.{lowOctets, fieldsIn}
 
@@ -181,29 +181,29 @@ module _ (f : Fields) where
 -- REFUSALS
 
 module _ (f : Fields) (behind : ℕ) where
-  pub no-kind : 6 < f .kind → 2 ≡ fieldsRefusal limits f behind
+  pub no-kind : lastKind < f .kind → 2 ≡ fieldsRefusal limits f behind
   unfolding fieldsRefusal
-  no-kind k = rw (lt-ltb 6 (f .kind) k) refl
+  no-kind k = rw (lt-ltb lastKind (f .kind) k) refl
 
-  pub stray-field : f .kind ≤ 6 → eqb (unlisted f) 0 ≡ false → 3 ≡ fieldsRefusal limits f behind
+  pub stray-field : f .kind ≤ lastKind → eqb (unlisted f) 0 ≡ false → 3 ≡ fieldsRefusal limits f behind
   unfolding fieldsRefusal
-  stray-field k u = rw (le-ltb 6 (f .kind) k, u) refl
+  stray-field k u = rw (le-ltb lastKind (f .kind) k, u) refl
 
-  pub long-text : f .kind ≤ 6 → eqb (unlisted f) 0 ≡ true → 32 < f .length → 4 ≡ fieldsRefusal limits f behind
+  pub long-text : f .kind ≤ lastKind → eqb (unlisted f) 0 ≡ true → 32 < f .length → 4 ≡ fieldsRefusal limits f behind
   unfolding fieldsRefusal
-  long-text k u t = rw (le-ltb 6 (f .kind) k, u, lt-ltb 32 (f .length) t) refl
+  long-text k u t = rw (le-ltb lastKind (f .kind) k, u, lt-ltb 32 (f .length) t) refl
 
-  pub cut-text : f .kind ≤ 6 → eqb (unlisted f) 0 ≡ true → f .length ≤ 32 → behind < f .length → 1 ≡ fieldsRefusal limits f behind
+  pub cut-text : f .kind ≤ lastKind → eqb (unlisted f) 0 ≡ true → f .length ≤ 32 → behind < f .length → 1 ≡ fieldsRefusal limits f behind
   unfolding fieldsRefusal
-  cut-text k u t b = rw (le-ltb 6 (f .kind) k, u, le-ltb 32 (f .length) t, lt-ltb behind (f .length) b) refl
+  cut-text k u t b = rw (le-ltb lastKind (f .kind) k, u, le-ltb 32 (f .length) t, lt-ltb behind (f .length) b) refl
 
-  pub no-refusal : f .kind ≤ 6 → eqb (unlisted f) 0 ≡ true → f .length ≤ 32 → f .length ≤ behind → 0 ≡ fieldsRefusal limits f behind
+  pub no-refusal : f .kind ≤ lastKind → eqb (unlisted f) 0 ≡ true → f .length ≤ 32 → f .length ≤ behind → 0 ≡ fieldsRefusal limits f behind
   unfolding fieldsRefusal
-  no-refusal k u t b = rw (le-ltb 6 (f .kind) k, u, le-ltb 32 (f .length) t, le-ltb behind (f .length) b) refl
+  no-refusal k u t b = rw (le-ltb lastKind (f .kind) k, u, le-ltb 32 (f .length) t, le-ltb behind (f .length) b) refl
 
 -- what is known of a frame that is not refused
 module _ (f : Fields) (behind : ℕ) (e : fieldsRefusal limits f behind ≡ 0) where
-  kind-known : f .kind ≤ 6
+  kind-known : f .kind ≤ lastKind
   kind-known = by-lt 6 (f .kind) (λ k. absurd (let z : 2 ≡ 0 = no-kind f behind k ∙ e in omega arith)) (λ k. k)
 
   listed : eqb (unlisted f) 0 ≡ true

@@ -66,10 +66,14 @@ pub data Reading : Type 0 where
   refusedFrame : (number : ℕ) → Reading
   taken : Event → (size : ℕ) → Reading
 
+-- "refusal 2 no longer covers a kind once a request defines it": the last that is defined
+abbrev pub lastKind : ℕ
+lastKind = 6
+
 -- the refusal of a frame with these fields and so many octets behind it, 0 if it is taken apart
 unfoldable pub fieldsRefusal : Limits → Fields → ℕ → ℕ
 fieldsRefusal M f behind =
-    check 2 (ltb 6 (f .kind))
+    check 2 (ltb lastKind (f .kind))
     (check 3 (not (eqb (unlisted f) 0))
     (check 4 (ltb (M .text) (f .length))
     (check 1 (ltb behind (f .length)) 0)))
