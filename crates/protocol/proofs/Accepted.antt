@@ -188,7 +188,7 @@ module _ (M : Limits) (F : Floor) (Q : Event → Floor → Answer → Type 0) (b
     (refusing : (e : Event) (r : ℕ) → Q e F (refused r))
     (entering : (t c : ℕ) → MayEnter F t c → Q (enter t c) (onEnter M F t c .floor) (accepted (onEnter M F t c .report)))
     (sending : (s set : ℕ) (text : List ℕ) (m : ℕ) → MaySend M F s set text m
-    → Q (send s set text) (withMessage F m s set text) (accepted (record { kind = 2; a = s; b = F .sent s; p = 0; w = F .stations; text = [] })))
+    → Q (send s set text) (withMessage F m s set text) (accepted (record { kind = 2; a = s; b = F .sent s; p = 0; w = F .stations; q = 0; text = [] })))
     (handling : (i j : ℕ) (r : Record) (l : List Record) → MayWire F i j r l
     → Q (wire i j) (handle M (unlined F i j) i j r .floor) (accepted (handle M (unlined F i j) i j r .report)))
     (handing : (t c buffer m : ℕ) → MayRadio M F t c m → Q (radio t c buffer) (handOver M F m t c .floor) (accepted (handOver M F m t c .report)))

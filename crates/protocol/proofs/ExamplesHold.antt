@@ -10,8 +10,9 @@ use Rattle.protocol.specs.Folds.{count, every, first, listOf, sum}
 use Rattle.protocol.specs.CartSets.{has, minus, setOf, union, with, without}
 use Rattle.protocol.specs.Floor.{Floor, limits, unstarted}
 use Rattle.protocol.specs.Events.{Answer}
-use Rattle.protocol.specs.Handoff.{arrive, bufferedFor, catchUp, catchUpEach, catchUpStop, climb, onEnter, onFlag, onMove, onRegister, passedOver, roomOf, struck}
-use Rattle.protocol.specs.Wired.{buffer, freeRoom, handle, multicastByRow, onAckList, onDelete, onMulticast, onSend, onWire, withMessage}
+use Rattle.protocol.specs.Order.{placeIn}
+use Rattle.protocol.specs.Handoff.{arrive, bufferedFor, catchUp, catchUpEach, catchUpStop, climb, deepest, largestPlace, onEnter, onFlag, onMove, onRegister, passedOver, placeGiven, roomOf, struck}
+use Rattle.protocol.specs.Wired.{buffer, freeRoom, handle, multicastByRow, onAckList, onDelete, onMulticast, onSend, onWire, placeOfNew, withMessage}
 use Rattle.protocol.specs.Wireless.{allAcked, handOver, headAmong, onRadio, queueHead, receive, sendAcks}
 use Rattle.protocol.specs.Deregister.{bufferedRooms, inOrder, insert, isComplete, leave, listsSent, onDeregister, testEach}
 use Rattle.protocol.specs.Claims.{test}
@@ -92,7 +93,7 @@ no-text-blank =
     }
 
 computed : map (λ r. quickOutcome (r .given)) examples ≡ map (λ r. r .shown) examples
-unfolding quickOutcome quickLines quickAnswers quickFloor quickStep quickAnswer refusalIf accept frameOf frameRefusal fieldsRefusal fieldsOf bigEndian unlisted eventOf restOf lineOf decimal decimalDigits hexadecimal onEnter onFlag onSend onWire onRadio onMove handle onMulticast multicastByRow onAckList onDelete onDeregister bufferedRooms inOrder insert isComplete testEach listsSent leave onRegister arrive passedOver catchUpEach catchUp catchUpStop climb bufferedFor roomOf freeRoom struck withMessage buffer receive sendAcks allAcked handOver queueHead headAmong neverEntered passesForm test every count sum first listOf has union minus with without setOf
+unfolding quickOutcome quickLines quickAnswers quickFloor quickStep quickAnswer refusalIf accept frameOf frameRefusal fieldsRefusal fieldsOf bigEndian unlisted eventOf restOf lineOf decimal decimalDigits hexadecimal onEnter onFlag onSend onWire onRadio onMove handle onMulticast multicastByRow onAckList onDelete onDeregister bufferedRooms inOrder insert isComplete testEach listsSent leave onRegister arrive passedOver deepest largestPlace placeGiven placeOfNew placeIn catchUpEach catchUp catchUpStop climb bufferedFor roomOf freeRoom struck withMessage buffer receive sendAcks allAcked handOver queueHead headAmong neverEntered passesForm test every count sum first listOf has union minus with without setOf
 computed = refl
 
 near-the-last : Ready limits nearTheLast
@@ -104,12 +105,12 @@ no-text s = (no-text-blank, no-text-passes)
 -- THE TABLE
 pub table-holds : map (λ r. outcome (r .given)) examples ≡ map (λ r. r .shown) examples
 table-holds =
-    quick-table examples (tt, (from-unstarted, (from-unstarted, (from-unstarted, (from-unstarted, (from-unstarted, (tt, (near-the-last, (from-unstarted, (from-unstarted, (from-unstarted, (from-unstarted, (tt, (no-text, (no-text, (no-text, tt))))))))))))))))
+    quick-table examples (tt, (from-unstarted, (from-unstarted, (from-unstarted, (from-unstarted, (from-unstarted, (tt, (near-the-last, (from-unstarted, (from-unstarted, (from-unstarted, (from-unstarted, (tt, (no-text, (no-text, (no-text, (from-unstarted, tt)))))))))))))))))
     ∙ computed
 
 -- THE CART THAT ROLLS AWAY
 rolls-away : heldOn (quickFloor limits unstarted rollsAway) ≡ 0
-unfolding quickFloor quickStep refusalIf accept onEnter onFlag onSend onWire onRadio onMove handle onMulticast multicastByRow onAckList onDelete onDeregister bufferedRooms inOrder insert isComplete testEach listsSent leave onRegister arrive passedOver catchUpEach catchUp catchUpStop climb bufferedFor roomOf freeRoom struck withMessage buffer receive sendAcks allAcked handOver queueHead headAmong neverEntered every count sum first listOf has union minus with without setOf
+unfolding quickFloor quickStep refusalIf accept onEnter onFlag onSend onWire onRadio onMove handle onMulticast multicastByRow onAckList onDelete onDeregister bufferedRooms inOrder insert isComplete testEach listsSent leave onRegister arrive passedOver deepest largestPlace placeGiven placeOfNew placeIn catchUpEach catchUp catchUpStop climb bufferedFor roomOf freeRoom struck withMessage buffer receive sendAcks allAcked handOver queueHead headAmong neverEntered every count sum first listOf has union minus with without setOf
 rolls-away = refl
 
 pub rolled-away : heldOn (floorAfter limits unstarted rollsAway) ≡ 0

@@ -161,7 +161,7 @@ those-insert F p m (k ∷ l) =
     (λ e. rw e (by-test (p m) (λ a. rw a (omega arith)) (λ a. rw a (omega arith))))
     (λ e. rw e (by-test (p k) (λ a. rw a (omega arith)) (λ a. rw a (omega arith))))
 
-those-count : (F : Floor) (pick p : ℕ → Bool) (n : ℕ) → length (those p (inOrder F pick n)) ≡ count n (λ m. pick m && p m)
+pub those-count : (F : Floor) (pick p : ℕ → Bool) (n : ℕ) → length (those p (inOrder F pick n)) ≡ count n (λ m. pick m && p m)
 unfolding inOrder count
 those-count F pick p zero = refl
 those-count F pick p (suc n) =

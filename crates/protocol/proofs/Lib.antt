@@ -34,6 +34,7 @@ pub mod ExamplesHold
 pub mod InRange
 pub mod Width
 pub mod QueueOrder
+pub mod Places
 pub mod Found
 pub mod Texts
 pub mod Theorems

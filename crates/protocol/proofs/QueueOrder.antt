@@ -84,7 +84,7 @@ head-first M F t m e = let z = head-is F t (M .held) in rw e at z
 -- ROOMS IN QUEUE ORDER
 
 -- each room of a list is ahead of those behind it
-abbrev InQueueOrder : Floor → List ℕ → Type 0
+abbrev pub InQueueOrder : Floor → List ℕ → Type 0
 InQueueOrder F [] = Unit {0}
 InQueueOrder F (m ∷ l) = EachOf (Ahead F m) l × InQueueOrder F l
 
@@ -96,7 +96,7 @@ insert-ordered F m (k ∷ l) O =
     (λ e. let a = stands-ahead F m k e in ((a, each-map l (λ j b. ahead-trans F m k j a b) (O .0)), O))
     (λ e. (insert-each (Ahead F k) F m l (stands-behind F m k e) (O .0), insert-ordered F m l (O .1)))
 
-in-queue-order : (F : Floor) (pick : ℕ → Bool) (n : ℕ) → InQueueOrder F (inOrder F pick n)
+pub in-queue-order : (F : Floor) (pick : ℕ → Bool) (n : ℕ) → InQueueOrder F (inOrder F pick n)
 unfolding inOrder
 in-queue-order F pick zero = tt
 in-queue-order F pick (suc n) = on-cond (InQueueOrder F) (pick n) (λ e. insert-ordered F n (inOrder F pick n) (in-queue-order F pick n)) (λ e. in-queue-order F pick n)

@@ -9,8 +9,9 @@ use borrow.Author.Tests.{eqb-true, le-ltb, ne-eqb, not-true}
 use Rattle.protocol.specs.CartSets.{has, union}
 use Rattle.protocol.specs.Floor.{Floor, Limits, Place, ackList, at, entered, isAt, isLocal, register, setPlace, setTexts}
 use Rattle.protocol.specs.Events.{Done, flag, radio, send}
+use Rattle.protocol.specs.Order.{placeIn}
 use Rattle.protocol.specs.Handoff.{arrive, catchUp, catchUpEach, catchUpStop, entryOf, onMove, onRegister, roomOf, rowOf, struck, withRow}
-use Rattle.protocol.specs.Wired.{buffer, localRow, multicastByRow, onAckList}
+use Rattle.protocol.specs.Wired.{buffer, localRow, multicastByRow, onAckList, placeOfNew}
 use Rattle.protocol.specs.Wireless.{allAcked, handOver, receive, sendAcks, sendAcksIfAll, standsBefore}
 use Rattle.protocol.specs.Deregister.{bufferedRooms, isComplete, leave, onDeregister, sendIfComplete, testEach}
 use Rattle.protocol.specs.Claims.{True}
@@ -116,7 +117,7 @@ row-kept M F local s t n u = on-option (λ (d : Done). localRow (d .floor) u ≡
 pub places-not-asked : (M : Limits) (F : Floor) (x : ℕ → Place) (local s t n : ℕ)
     → (multicastByRow M (setPlace F x) local s t n .floor ≡ setPlace (multicastByRow M F local s t n .floor) x)
     × (multicastByRow M (setPlace F x) local s t n .report ≡ multicastByRow M F local s t n .report)
-unfolding multicastByRow buffer roomOf
+unfolding multicastByRow buffer roomOf placeOfNew placeIn
 places-not-asked M F x local s t n = by-option (roomOf M F s n) (λ q. rw q (refl, refl)) (λ m q. rw q (refl, refl))
 
 -- HOLD WHILE THE VACUUM SETTLES

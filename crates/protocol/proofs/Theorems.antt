@@ -1,5 +1,5 @@
 use mathlib.Core.Path.{_≡_, ap, refl, subst, sym}
-use mathlib.Core.Bool.{_&&_, Bool, cond, false, not, true}
+use mathlib.Core.Bool.{_&&_, Bool, cond, false, not, true, _||_}
 use mathlib.Core.Option.{some}
 use mathlib.Core.List.{_++_, List, [], map, _∷_}
 use Prim.Native.Nat.{_*_, _+_, _-_, _<_, _^_, max, suc, ℕ, _≤_}
@@ -12,10 +12,11 @@ use Rattle.protocol.specs.Folds.{count, isEmpty, sum, update}
 use Rattle.protocol.specs.CartSets.{has}
 use Rattle.protocol.specs.Floor.{Floor, Limits, Place, Record, ackList, at, behead, delete, entered, isAt, isBuffered, isHeld, isLocal, justStarted, kit, limits, limitsOf, mostRecords, multicast, onLines, onTheLines, register, setPlace, setSteady, setTexts, stationOf, unstarted}
 use Rattle.protocol.specs.Events.{Event, Report, accepted, enter, flag, move, radio, refused, send, start, wire}
+use Rattle.protocol.specs.Order.{placeIn}
 use Rattle.protocol.specs.Handoff.{arrive, entryOf, onEnter, onFlag, onRegister, roomOf, rowOf}
 use Rattle.protocol.specs.Wired.{freeRoom, handle, localRow, multicastByRow, onMulticast, onWire}
 use Rattle.protocol.specs.Wireless.{queueHead}
-use Rattle.protocol.specs.Deregister.{bufferedRooms, isComplete, leave, onDeregister, testEach, timesIn}
+use Rattle.protocol.specs.Deregister.{bufferedRooms, inOrder, isComplete, leave, onDeregister, testEach, timesIn}
 use Rattle.protocol.specs.Form.{formRule, passesForm}
 use Rattle.protocol.specs.Blank.{BlankBeyond}
 use Rattle.protocol.specs.Refusals.{neverEntered, noCart, noStation, refusal, refusalIf, strangers, wrongSize}
@@ -46,6 +47,7 @@ use Rattle.protocol.proofs.Width.{numbers-below}
 use Rattle.protocol.proofs.ExamplesHold.{rolled-away, table-holds}
 use Rattle.protocol.proofs.InRange.{in-range, step-most}
 use Rattle.protocol.proofs.QueueOrder.{head-first, tested-in-order}
+use Rattle.protocol.proofs.Places.{head-place, place-is-position, places-most}
 use Rattle.protocol.proofs.Found.{ack-list-room, delete-room, multicast-room}
 use Rattle.protocol.proofs.Texts.{texts-after}
 
@@ -402,6 +404,29 @@ flag-above-one M f behind k h = other-flag-is-3 M f behind k h
 pub flags-unspoken : (M : Limits) (F : Floor) (flags : ℕ → Bool) → (passesForm M (setSteady F flags) ≡ passesForm M F)
     × (((s c : ℕ) → owes M (setSteady F flags) s c ≡ owes M F s c) × (total (setSteady F flags) ≡ total F))
 flags-unspoken M F flags = let z = unspoken M F (setSteady F flags) refl in (z .form, (z .owed, z .sum))
+
+-- HOW DEEP IN THE QUEUE
+
+-- "1 for the head"
+pub place-of-head : (M : Limits) (F : Floor) (t m : ℕ) → queueHead M F t ≡ some m → placeIn M F m t ≡ 1
+place-of-head M F t m e = head-place M F t m e
+
+-- the place of the entry for the message in room m is one more than the number of entries that stand before it: "smallest number first; between
+-- equal numbers the higher initiator stands first"
+pub place-counts : (M : Limits) (F : Floor) (m t : ℕ)
+    → placeIn M F m t ≡ suc (count (M .held) (λ k. not (eqb (F .queue k t) 0) && (ltb (F .number k) (F .number m) || (eqb (F .number k) (F .number m) && ltb (F .initiator m) (F .initiator k)))))
+unfolding placeIn
+place-counts M F m t = refl
+
+-- so on a floor that passes, the entry whose place is p + 1 is found behind p others in the list of the entries in queue order (d, for whoever
+-- looks beyond the list, does not matter)
+pub place-in-queue-order : (M : Limits) (F : Floor) (t m : ℕ) → BlankBeyond M F → passesForm M F ≡ true → m < M .held → eqb (F .queue m t) 0 ≡ false
+    → (p d : ℕ) → placeIn M F m t ≡ suc p → getD (inOrder F (λ k. not (eqb (F .queue k t) 0)) (M .held)) p d ≡ m
+place-in-queue-order M F t m B h lm e p d q = place-is-position M F (form-of M F B (clauses-of M F h)) t m lm e p d q
+
+-- q of any answer is at most the number of rooms
+pub place-in-range : (M : Limits) (F : Floor) (e : Event) (l : Report) → answer M F e ≡ accepted l → l .q ≤ M .held
+place-in-range M F e l a = places-most M F e l a
 
 -- THE EXAMPLES: "The starred examples are gathered as rows of a single proved table over the written steps"
 pub examples-hold : map (λ r. outcome (r .given)) examples ≡ map (λ r. r .shown) examples

@@ -7,8 +7,9 @@ use Rattle.protocol.specs.Folds.{update}
 use Rattle.protocol.specs.CartSets.{without}
 use Rattle.protocol.specs.Floor.{Limits, travelling, register, Floor, setPlace, setQueue, between, push, isBuffered}
 use Rattle.protocol.specs.Events.{Done, done}
+use Rattle.protocol.specs.Order.{standsBefore}
 use Rattle.protocol.specs.Handoff.{rowOf}
-use Rattle.protocol.specs.Wireless.{standsBefore, allAcked, sendAcks}
+use Rattle.protocol.specs.Wireless.{allAcked, sendAcks}
 
 -- ROOMS IN QUEUE ORDER
 
@@ -68,4 +69,4 @@ module _ (M : Limits) where
       let left = leave F i t c in
       let rooms = bufferedRooms left t in
       let listsGone = testEach left t rooms in
-      done (push listsGone (between t i) (register c (rowOf M (F .next c)))) 3 4 c 0 (suc (listsSent left t rooms)) []
+      done (push listsGone (between t i) (register c (rowOf M (F .next c)))) 3 4 c 0 (suc (listsSent left t rooms)) 0 []

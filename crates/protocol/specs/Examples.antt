@@ -1,4 +1,4 @@
--- THE STARRED EXAMPLES K1 to K10, and the further one of a message with no text, as rows of one table.
+-- THE STARRED EXAMPLES K1 to K10, and further ones of a message with no text and of places in rising order, as rows of one table.
 use mathlib.Core.Bool.{Bool, true, cond, _&&_}
 use mathlib.Core.List.{List, [], _∷_, _++_}
 use Prim.Native.Nat.{ℕ, zero, suc}
@@ -55,12 +55,13 @@ octetsOf (letter then rest) = code letter ∷ octetsOf rest
 abbrev pub frame : ℕ → ℕ → ℕ → ℕ → List ℕ
 frame x y z set = x ∷ y ∷ z ∷ replicate 12 0 ++ (set ∷ [])
 
--- an accepted answer: kind, a, b, p, w, text
-abbrev pub yes : ℕ → ℕ → ℕ → ℕ → ℕ → List ℕ → Answer
-yes kind a b p w text = accepted (record { kind = kind; a = a; b = b; p = p; w = w; text = text })
+-- an accepted answer: kind, a, b, p, w, q, text
+abbrev pub yes : ℕ → ℕ → ℕ → ℕ → ℕ → ℕ → List ℕ → Answer
+yes kind a b p w q text = accepted (record { kind = kind; a = a; b = b; p = p; w = w; q = q; text = text })
 
 -- "K1. Two stations, one cart. Frames: start; enter 0 at 0; send from 1 to {0}, text A1; wire 1→1; move 0 to 1; wire 1→0; radio 0, cart 0;
 -- wire 1→0; wire 0→1; radio 1, cart 0; wire 1→1; wire 1→0; wire 1→1. The send is 21 00 01, twelve zero octets, 01 A1; the move begins 50 00 40."
+-- "In K1, lines 5 and 8 have q = 1 and the other accepted lines 0."
 abbrev pub K1 : Row
 K1 =
     record {
@@ -68,7 +69,7 @@ K1 =
           (frame 0x01 0x00 0x00 0 ++ frame 0x10 0x00 0x00 0 ++ frame 0x21 0x00 0x01 1 ++ (0xa1 ∷ []) ++ frame 0x31 0x00 0x40 0 ++ frame 0x50 0x00 0x40 0 ++ frame 0x31 0x00 0x00 0
           ++ frame 0x40 0x00 0x00 0 ++ frame 0x31 0x00 0x00 0 ++ frame 0x30 0x00 0x40 0 ++ frame 0x41 0x00 0x00 0 ++ frame 0x31 0x00 0x40 0 ++ frame 0x31 0x00 0x00 0 ++ frame 0x31 0x00 0x40 0);
       shown = printed
-          (octetsOf "0 0 2 1 0 0\n1 1 0 0 0 0\n2 2 1 0 0 2\n3 3 1 0 0 0\n4 5 0 1 0 1\n5 3 1 0 0 0\n6 no 16\n7 3 4 0 0 1\n8 3 5 0 0 0\n9 4 1 0 0 1 a1\n10 3 2 0 0 2\n11 3 3 0 0 0\n12 3 3 0 0 0\n");
+          (octetsOf "0 0 2 1 0 0 0\n1 1 0 0 0 0 0\n2 2 1 0 0 2 0\n3 3 1 0 0 0 0\n4 5 0 1 0 1 0\n5 3 1 0 0 0 1\n6 no 16\n7 3 4 0 0 1 0\n8 3 5 0 0 0 1\n9 4 1 0 0 1 0 a1\n10 3 2 0 0 2 0\n11 3 3 0 0 0 0\n12 3 3 0 0 0 0\n");
     }
 
 -- a row of events from a floor not yet started
@@ -86,21 +87,21 @@ send0 = send 0 1 (0xa1 ∷ [])
 
 -- "K2. One station, two carts, cart 0 in, three sends to {0}, three wire steps; cart 1 enters: p = 3."
 abbrev pub K2 : Row
-K2 = ask (start 1 2 ∷ enter 0 0 ∷ times 3 send0 ++ times 3 (wire 0 0) ++ (enter 0 1 ∷ [])) 8 (yes 1 0 1 3 0 [] ∷ [])
+K2 = ask (start 1 2 ∷ enter 0 0 ∷ times 3 send0 ++ times 3 (wire 0 0) ++ (enter 0 1 ∷ [])) 8 (yes 1 0 1 3 0 0 [] ∷ [])
 
 -- "K3. Cart 1 local, caught up, not named: the multicast's wire step has p = 1 for it."
 abbrev pub K3 : Row
-K3 = ask (start 1 2 ∷ enter 0 0 ∷ enter 0 1 ∷ send0 ∷ wire 0 0 ∷ []) 4 (yes 3 1 0 1 0 [] ∷ [])
+K3 = ask (start 1 2 ∷ enter 0 0 ∷ enter 0 1 ∷ send0 ∷ wire 0 0 ∷ []) 4 (yes 3 1 0 1 0 1 [] ∷ [])
 
 -- "K4. Number 0 from stations 0 and 1 both queued: station 1's is head", in whichever order the two arrive
 abbrev pub K4 : Event → Event → Row
 K4 one other =
     ask (start 2 1 ∷ enter 0 0 ∷ send 0 1 (0x10 ∷ []) ∷ send 1 1 (0x11 ∷ []) ∷ one ∷ other ∷ radio 0 0 32 ∷ radio 0 0 32 ∷ []) 6
-    (yes 4 1 0 0 1 (0x11 ∷ []) ∷ yes 4 0 0 0 1 (0x10 ∷ []) ∷ [])
+    (yes 4 1 0 0 1 0 (0x11 ∷ []) ∷ yes 4 0 0 0 1 0 (0x10 ∷ []) ∷ [])
 
 -- "K5. Text of 32 accepted, 33 is 4."
 abbrev pub K5 : Row
-K5 = ask (start 1 1 ∷ enter 0 0 ∷ send 0 1 (replicate 32 7) ∷ send 0 1 (replicate 33 7) ∷ []) 2 (yes 2 0 0 0 1 [] ∷ refused 4 ∷ [])
+K5 = ask (start 1 1 ∷ enter 0 0 ∷ send 0 1 (replicate 32 7) ∷ send 0 1 (replicate 33 7) ∷ []) 2 (yes 2 0 0 0 1 0 [] ∷ refused 4 ∷ [])
 
 -- "from a floor written out by the definitions": one station that has sent 65,534 messages, and one cart there that has passed them all
 abbrev pub nearTheLast : Floor
@@ -134,7 +135,7 @@ K6form = record { given = form nearTheLast; shown = passes true }
 
 -- "K6. Number 65,534 accepted, the next send is 13"
 abbrev pub K6 : Row
-K6 = record { given = events nearTheLast (send0 ∷ send0 ∷ []) 0; shown = answered (yes 2 0 65534 0 1 [] ∷ refused 13 ∷ []) }
+K6 = record { given = events nearTheLast (send0 ∷ send0 ∷ []) 0; shown = answered (yes 2 0 65534 0 1 0 [] ∷ refused 13 ∷ []) }
 
 -- 32 messages held, by one station, for one cart
 abbrev pub full : List Event
@@ -144,12 +145,12 @@ full = start 1 1 ∷ enter 0 0 ∷ times 32 send0
 abbrev pub K7 : Row
 K7 =
     ask (full ++ (send0 ∷ times 32 (wire 0 0)) ++ (radio 0 0 32 ∷ wire 0 0 ∷ wire 0 0 ∷ send0 ∷ [])) 34
-    (refused 14 ∷ arrivals 0 32 (yes 4 0 0 0 1 (0xa1 ∷ []) ∷ yes 3 2 0 0 1 [] ∷ yes 3 3 0 0 0 [] ∷ yes 2 0 32 0 1 [] ∷ []))
+    (refused 14 ∷ yes 3 1 0 0 0 1 [] ∷ arrivals 1 31 (yes 4 0 0 0 1 1 (0xa1 ∷ []) ∷ yes 3 2 0 0 1 0 [] ∷ yes 3 3 0 0 0 0 [] ∷ yes 2 0 32 0 1 0 [] ∷ []))
   where
     -- the multicasts with numbers n, n + 1, .. so many of them
     arrivals : ℕ → ℕ → List Answer → List Answer
     arrivals n zero rest = rest
-    arrivals n (suc k) rest = yes 3 1 n 0 0 [] ∷ arrivals (suc n) k rest
+    arrivals n (suc k) rest = yes 3 1 n 0 0 0 [] ∷ arrivals (suc n) k rest
 
 -- "K8. Set empty and 32 held: 11."
 abbrev pub K8 : Row
@@ -157,11 +158,18 @@ K8 = ask (full ++ (send 0 0 [] ∷ [])) 34 (refused 11 ∷ [])
 
 -- "K9. Move during a hand-off: 19; move to its own station: 20."
 abbrev pub K9 : Row
-K9 = ask (start 2 1 ∷ enter 0 0 ∷ move 0 0 ∷ move 0 1 ∷ move 0 0 ∷ []) 2 (refused 20 ∷ yes 5 0 1 0 1 [] ∷ refused 19 ∷ [])
+K9 = ask (start 2 1 ∷ enter 0 0 ∷ move 0 0 ∷ move 0 1 ∷ move 0 0 ∷ []) 2 (refused 20 ∷ yes 5 0 1 0 1 0 [] ∷ refused 19 ∷ [])
 
 -- "K10. Library start with 0 or 17 stations: 7."
 abbrev pub K10 : Row
 K10 = ask (start 0 1 ∷ start 17 1 ∷ []) 0 (refused 7 ∷ refused 7 ∷ [])
+
+-- "as it stands right after the putting", and catch-up is "for every initiator in rising order": the cart arrives where number 0 of stations 0 and 1 waits for it. Its
+-- entry of station 0 is put first, at place 1, and that of station 1 then goes before it, at place 1
+abbrev pub rising : Row
+rising =
+    ask (start 2 1 ∷ enter 0 0 ∷ move 0 1 ∷ send0 ∷ send 1 1 (0xa2 ∷ []) ∷ wire 1 0 ∷ wire 0 1 ∷ wire 1 1 ∷ wire 0 1 ∷ []) 8
+    (yes 3 5 0 0 0 1 [] ∷ [])
 
 -- "Empty messages already held are still handed out, acknowledged and deleted": "a further starred row, set up as K6 is", from a floor written
 -- out by the definitions. One station has sent one message, with no text; it is held, buffered there, and the one cart is queued for it
@@ -200,7 +208,7 @@ abbrev pub noText : Row
 noText =
     record {
       given = framesOn holdsNoText (frame 0x40 0x00 0x00 0 ++ frame 0x30 0x00 0x00 0 ++ frame 0x30 0x00 0x00 0 ++ frame 0x20 0x00 0x00 1);
-      shown = printed (octetsOf "0 4 0 0 0 1 -\n1 3 2 0 0 1\n2 3 3 0 0 0\n3 no 24\n");
+      shown = printed (octetsOf "0 4 0 0 0 1 0 -\n1 3 2 0 0 1 0\n2 3 3 0 0 0 0\n3 no 24\n");
     }
 
 -- acknowledged, it is still held
@@ -215,7 +223,7 @@ noTextGone = record { given = after holdsNoText (radio 0 0 32 ∷ wire 0 0 ∷ w
 abbrev pub examples : List Row
 examples =
     K1 ∷ K2 ∷ K3 ∷ K4 (wire 0 0) (wire 1 0) ∷ K4 (wire 1 0) (wire 0 0) ∷ K5 ∷ K6form ∷ K6 ∷ K7 ∷ K8 ∷ K9 ∷ K10
-    ∷ noTextForm ∷ noText ∷ noTextHeld ∷ noTextGone ∷ []
+    ∷ noTextForm ∷ noText ∷ noTextHeld ∷ noTextGone ∷ rising ∷ []
 
 -- A RUN OF WHICH A THEOREM SPEAKS: "Two carts are local and named. One receives; the other rolls away before it does." Its deregister sends the
 -- first cart's acknowledgement on; it receives at its new station, and every record is handled

@@ -2,13 +2,14 @@
 use mathlib.Core.Bool.{Bool, true, cond, _&&_}
 use mathlib.Core.Option.{Option, none, some}
 use mathlib.Core.List.{List, []}
-use Prim.Native.Nat.{ℕ, zero, suc, _-_}
+use Prim.Native.Nat.{ℕ, zero, suc, _-_, max}
 use lib.Dec.{eqb, ltb}
 use lib.ListN.{getD}
 use Rattle.protocol.specs.Folds.{sum, first, listOf, update, update2, byOption}
 use Rattle.protocol.specs.CartSets.{has, with, without}
 use Rattle.protocol.specs.Floor.{Limits, at, leaving, deregister, Floor, setPlace, setNext, setSteady, setCopy, setQueue, between, push, stationOf, isBuffered, isMessage}
 use Rattle.protocol.specs.Events.{Done, done}
+use Rattle.protocol.specs.Order.{placeIn}
 
 -- where a catch-up stops: the cart's next number there, and the room of the message that it is queued for, if any
 pub record Stop : Type 0 where
@@ -19,11 +20,11 @@ pub record Stop : Type 0 where
 unfoldable pub onMove : Floor → ℕ → ℕ → Done
 onMove F c to =
     let old = stationOf (F .place c) in
-    done (push (setPlace F (update (F .place) c (leaving old to))) (between to old) (deregister c)) 5 c to 0 1 []
+    done (push (setPlace F (update (F .place) c (leaving old to))) (between to old) (deregister c)) 5 c to 0 1 0 []
 
 -- cart c is told steady, or not: "It prints cart and flag with p = 0 and w = 0"
 unfoldable pub onFlag : Floor → ℕ → Bool → Done
-onFlag F c b = done (setSteady F (update (F .steady) c b)) 6 c (cond b 1 0) 0 0 []
+onFlag F c b = done (setSteady F (update (F .steady) c b)) 6 c (cond b 1 0) 0 0 0 []
 
 -- the cart's next numbers become those of the row
 abbrev pub withRow : Floor → ℕ → (ℕ → ℕ) → Floor
@@ -79,13 +80,27 @@ module _ (M : Limits) where
       let caughtUp = catchUpEach (F .stations) (struck (withRow F c row) t c) t c in
       setPlace caughtUp (update (F .place) c (at t))
 
+  -- "Putting a cart in a queue entry now also answers the entry's place .. as it stands right after the putting": that of a catch-up, 0 if it
+  -- does not queue the cart
+  unfoldable pub placeGiven : Floor → ℕ → ℕ → ℕ → ℕ
+  placeGiven F t c s = byOption (catchUpStop F t c s .found) 0 (λ m. placeIn M (catchUp F t c s) m t)
+
+  -- "the largest place given in that step", of the catch-ups for the first n initiators
+  unfoldable pub largestPlace : ℕ → Floor → ℕ → ℕ → ℕ
+  largestPlace zero F t c = 0
+  largestPlace (suc n) F t c = max (largestPlace n F t c) (placeGiven (catchUpEach n F t c) t c n)
+
+  -- and for every initiator, when cart c arrives with that row at station t
+  unfoldable pub deepest : Floor → ℕ → ℕ → (ℕ → ℕ) → ℕ
+  deepest F t c row = largestPlace (F .stations) (struck (withRow F c row) t c) t c
+
   -- "p counts the numbers passed over in this step": how far the arriving cart's next numbers rose
   unfoldable pub passedOver : Floor → ℕ → ℕ → (ℕ → ℕ) → ℕ
   passedOver F t c row = sum (F .stations) (λ s. arrive F t c row .next c s - row s)
 
   -- "Enter (station, cart): as a register with all next numbers 0, handled at once"; "A cart counts as steady from its entry"
   unfoldable pub onEnter : Floor → ℕ → ℕ → Done
-  onEnter F t c = done (setSteady (arrive F t c (λ s. 0)) (update (F .steady) c true)) 1 t c (passedOver F t c (λ s. 0)) 0 []
+  onEnter F t c = done (setSteady (arrive F t c (λ s. 0)) (update (F .steady) c true)) 1 t c (passedOver F t c (λ s. 0)) 0 (deepest F t c (λ s. 0)) []
 
   -- "the cart's whole row of next numbers": one for each station that a floor may have
   abbrev pub rowOf : (ℕ → ℕ) → List ℕ
@@ -93,4 +108,4 @@ module _ (M : Limits) where
 
   -- "Register": of cart c, handled at t
   unfoldable pub onRegister : Floor → ℕ → ℕ → List ℕ → Done
-  onRegister F t c row = done (arrive F t c (entryOf row)) 3 5 c (passedOver F t c (entryOf row)) 0 []
+  onRegister F t c row = done (arrive F t c (entryOf row)) 3 5 c (passedOver F t c (entryOf row)) 0 (deepest F t c (entryOf row)) []

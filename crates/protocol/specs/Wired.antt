@@ -8,6 +8,7 @@ use Rattle.protocol.specs.Folds.{count, first, update, update2, byOption
 use Rattle.protocol.specs.CartSets.{has, union, minus, without, setOf}
 use Rattle.protocol.specs.Floor.{Limits, Record, multicast, ackList, delete, deregister, register, Floor, onStations, onMessages, onCopies, onLines, setExpected, setNext, setAcked, setWaiting, setCopy, setQueue, behead, toEvery, push, isLocal, cartsThat}
 use Rattle.protocol.specs.Events.{Done, done}
+use Rattle.protocol.specs.Order.{placeIn}
 use Rattle.protocol.specs.Handoff.{roomOf, onRegister}
 use Rattle.protocol.specs.Deregister.{onDeregister}
 
@@ -86,13 +87,18 @@ module _ (M : Limits) where
 
   -- "Send (station, set, text)"
   unfoldable pub onSend : Floor → ℕ → ℕ → List ℕ → Done
-  onSend F s set text = byOption (freeRoom F) (done F 2 s 0 0 0 []) (λ m. done (withMessage F m s set text) 2 s (F .sent s) 0 (F .stations) [])
+  onSend F s set text = byOption (freeRoom F) (done F 2 s 0 0 0 0 []) (λ m. done (withMessage F m s set text) 2 s (F .sent s) 0 (F .stations) 0 [])
+
+  -- "the entry's place, .. as it stands right after the putting", of the message that is buffered: one for all carts that are put there, 0 "if no
+  -- cart was queued"
+  unfoldable pub placeOfNew : Floor → ℕ → ℕ → ℕ → ℕ → ℕ → ℕ
+  placeOfNew F local m t s n = cond (eqb (cartsThat F (isQueued F local m s n)) 0) 0 (placeIn M (buffer F local m t s n) m t)
 
   -- "Multicast", with number n, from s, handled at t, once it is known who is local: for any row
   unfoldable pub multicastByRow : Floor → ℕ → ℕ → ℕ → ℕ → Done
   multicastByRow F local s t n =
-      byOption (roomOf M F s n) (done (raiseExpected F t s) 3 1 n 0 0 [])
-      (λ m. done (raiseExpected (buffer F local m t s n) t s) 3 1 n (count (F .carts) (passesOver F local m s n)) 0 [])
+      byOption (roomOf M F s n) (done (raiseExpected F t s) 3 1 n 0 0 0 [])
+      (λ m. done (raiseExpected (buffer F local m t s n) t s) 3 1 n (count (F .carts) (passesOver F local m s n)) 0 (placeOfNew F local m t s n) [])
 
   -- "Multicast": the row is made first
   unfoldable pub onMulticast : Floor → ℕ → ℕ → ℕ → Done
@@ -101,14 +107,14 @@ module _ (M : Limits) where
   -- "Ack list: .. When they make up the whole set, a delete goes to every station", with number n, handled at the initiator s
   unfoldable pub onAckList : Floor → ℕ → ℕ → ℕ → Done
   onAckList F s n carts =
-      byOption (roomOf M F s n) (done F 3 2 n 0 0 [])
+      byOption (roomOf M F s n) (done F 3 2 n 0 0 0 [])
       (λ m. cond (eqb (union (F .acked m) carts) (F .named m))
-      (done (push (addAcks F m carts) (toEvery (F .stations) s) (delete n)) 3 2 n 0 (F .stations) [])
-      (done (addAcks F m carts) 3 2 n 0 0 []))
+      (done (push (addAcks F m carts) (toEvery (F .stations) s) (delete n)) 3 2 n 0 (F .stations) 0 [])
+      (done (addAcks F m carts) 3 2 n 0 0 0 []))
 
   -- "Delete", with number n, from s, handled at t
   unfoldable pub onDelete : Floor → ℕ → ℕ → ℕ → Done
-  onDelete F s t n = byOption (roomOf M F s n) (done F 3 3 n 0 0 []) (λ m. done (unbuffer F m t) 3 3 n 0 0 [])
+  onDelete F s t n = byOption (roomOf M F s n) (done F 3 3 n 0 0 0 []) (λ m. done (unbuffer F m t) 3 3 n 0 0 0 [])
 
   -- the handling of a record from i at j
   unfoldable pub handle : Floor → ℕ → ℕ → Record → Done
@@ -120,4 +126,4 @@ module _ (M : Limits) where
 
   -- "Wire (from, to): the head record of that line is handled at to"
   unfoldable pub onWire : Floor → ℕ → ℕ → Done
-  onWire F i j = byHead (F .lines i j) (done F 3 0 0 0 0 []) (handle (onLines F (behead i j (F .lines))) i j)
+  onWire F i j = byHead (F .lines i j) (done F 3 0 0 0 0 0 []) (handle (onLines F (behead i j (F .lines))) i j)

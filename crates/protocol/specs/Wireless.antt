@@ -3,16 +3,13 @@ use mathlib.Core.Bool.{Bool, cond, _&&_, _||_, not}
 use mathlib.Core.Option.{Option, none, some}
 use mathlib.Core.List.{[]}
 use Prim.Native.Nat.{ℕ, zero, suc, _-_}
-use lib.Dec.{eqb, ltb}
+use lib.Dec.{eqb}
 use Rattle.protocol.specs.Folds.{every, update2, byOption}
 use Rattle.protocol.specs.CartSets.{has, with, without, minus}
 use Rattle.protocol.specs.Floor.{Limits, ackList, Floor, setNext, setCopy, setAcks, setQueue, between, push, isLocal}
 use Rattle.protocol.specs.Events.{Done, done}
-use Rattle.protocol.specs.Handoff.{catchUp}
-
--- "smallest number first; between equal numbers the higher initiator stands first": does the message in room m stand before that in room k
-abbrev pub standsBefore : Floor → ℕ → ℕ → Bool
-standsBefore F m k = ltb (F .number m) (F .number k) || (eqb (F .number m) (F .number k) && ltb (F .initiator k) (F .initiator m))
+pub use Rattle.protocol.specs.Order.{standsBefore}
+use Rattle.protocol.specs.Handoff.{catchUp, placeGiven}
 
 -- the head of the queue at t once room m is looked at too
 abbrev pub headWith : Floor → ℕ → ℕ → Option ℕ → Option ℕ
@@ -61,9 +58,10 @@ module _ (M : Limits) where
   handOver F m t c =
       let s = F .initiator m in
       let received = receive F m t c in
-      let caughtUp = catchUp M (sendAcksIfAll received m t) t c s in
-      done caughtUp 4 s (F .number m) (caughtUp .next c s - suc (F .number m)) (cond (allAcked received m t) 1 0) (F .text m)
+      let acknowledged = sendAcksIfAll received m t in
+      let caughtUp = catchUp M acknowledged t c s in
+      done caughtUp 4 s (F .number m) (caughtUp .next c s - suc (F .number m)) (cond (allAcked received m t) 1 0) (placeGiven M acknowledged t c s) (F .text m)
 
   -- "Radio (station, cart)"
   unfoldable pub onRadio : Floor → ℕ → ℕ → Done
-  onRadio F t c = byOption (queueHead F t) (done F 4 0 0 0 0 []) (λ m. handOver F m t c)
+  onRadio F t c = byOption (queueHead F t) (done F 4 0 0 0 0 0 []) (λ m. handOver F m t c)
