@@ -1,27 +1,30 @@
 -- What the code does for sixteen initiators is the protocol's catch-up for all of them at once.
-use mathlib.Core.Path.{_≡_, refl, sym, ap, ap₂, _∙_}
-use mathlib.Core.Bool.{Bool, true, false, _&&_, _||_}
+use mathlib.Core.Path.{_≡_, refl, sym, ap, ap₂, fun-ext, _∙_}
+use mathlib.Core.Bool.{Bool, true, false, cond, not, _&&_, _||_}
 use mathlib.Core.List.{List}
 use mathlib.Core.Option.{Option, none, some}
-use Prim.Native.Nat.{ℕ, zero, suc, _-_, _<_, _≤_}
+use Prim.Native.Nat.{ℕ, zero, suc, _-_, _<_, _≤_, max}
 use native.Mathlib.Omega.{arith}
 use lib.Dec.{eqb, ltb}
 use lib.ListN.{getD}
 use borrow.Author.Tests.{eqb-true, eq-eqb, lt-ltb, le-ltb, ltb-true}
-use Rattle.protocol.specs.Folds.{sum}
-use Rattle.protocol.specs.CartSets.{has}
+use Rattle.protocol.specs.Folds.{sum, count, byOption}
+use Rattle.protocol.specs.CartSets.{has, with}
 use Rattle.protocol.specs.Floor.{Limits, Floor}
-use Rattle.protocol.specs.Handoff.{Stop, catchUpStop}
+use Rattle.protocol.specs.Order.{placeIn}
+use Rattle.protocol.specs.Handoff.{Stop, catchUpStop, largestPlace}
 use Rattle.protocol.proofs.Tests.{by-test, by-lt, by-eq, same-test, clash, and-left, and-right, or-none}
 use Rattle.protocol.proofs.Counting.{sum-ext}
-use Rattle.protocol.proofs.CatchUp.{foundIs}
-use Rattle.stations.specs.View.{Stations}
-use Rattle.messages.specs.View.{Rooms}
+use Rattle.protocol.proofs.CatchUp.{foundIs, catchUpAtOnce}
+use Rattle.protocol.proofs.Places.{given-at-once}
+use Rattle.stations.specs.View.{Stations, stationsIn}
+use Rattle.messages.specs.View.{roomsIn}
 use Rattle.queue.specs.Rooms.{tablesFloor, roomIn}
+use Rattle.queue.specs.Places.{isBefore, placeAmong}
 use Rattle.queue.proofs.Codes.{room-in, no-room-in}
 use Rattle.catchup.specs.Naming.{Covers}
 use Rattle.catchup.specs.Nearest.{nearestAmong}
-use Rattle.catchup.specs.Arrival.{nearestRow, stopIn, risen, isFound, occurs, OwnRooms}
+use Rattle.catchup.specs.Arrival.{nearestRow, stopIn, risen, isFound, occurs, RoomsBelow, queuedFor, placeFound, deepestTo}
 use Rattle.catchup.proofs.ClosedForm.{IsNearest, nearest-is, Would, would}
 use Rattle.catchup.proofs.RowLaws.{entry-says}
 use Rattle.catchup.proofs.Stops.{Agree, NoneBeyond, row-stops-there, stop-found}
@@ -66,26 +69,20 @@ module _ (F : Floor) (t c : ℕ) (row nearest : List ℕ) (is-nearest : nearest 
       one-more i n d =
           by-lt i n (λ l. lt-ltb i n l ∙ sym (lt-ltb i (suc n) (omega arith))) (λ l. le-ltb i n l ∙ sym (le-ltb i (suc n) (by-eq i n (λ q. absurd (d q)) (λ q. omega arith))))
 
-  -- it is in every set that has all the rooms whose copies name the cart
-  pub own-rooms : (b : ℕ) (R : Rooms) (S : Stations) (set : ℕ) → F .initiator ≡ R .initiator → F .copy ≡ S .copy → Covers b S t c set → OwnRooms b R set nearest
-  own-rooms b R S set er es C = record { inside = C .inside; among = λ m e. among m e; own = λ m e. (rw (← er) (is-low m e), rw (← er) (is-own m e)) }
-    where
-      said : (m : ℕ) → occurs nearest 16 m ≡ true → (ltb (F .initiator m) 16 && isFound (roomIn (getD nearest (F .initiator m) 0)) m) ≡ true
-      said m e = sym (occurs-once 16 (omega arith) m) ∙ e
+  -- a room that one of them says has a copy that names the cart
+  pub found-named : (m : ℕ) → occurs nearest 16 m ≡ true → has (F .copy m t) c ≡ true
+  found-named m e =
+      let i = F .initiator m in
+      let said = sym (occurs-once 16 (omega arith) m) ∙ e in
+      let low = ltb-true i 16 (and-left (ltb i 16) (isFound (roomIn (getD nearest i 0)) m) said) in
+      found-would i low m (and-right (ltb i 16) (isFound (roomIn (getD nearest i 0)) m) said) .in-copy
 
-      is-low : (m : ℕ) → occurs nearest 16 m ≡ true → F .initiator m < 16
-      is-low m e = ltb-true (F .initiator m) 16 (and-left (ltb (F .initiator m) 16) (isFound (roomIn (getD nearest (F .initiator m) 0)) m) (said m e))
-
-      is-found : (m : ℕ) → occurs nearest 16 m ≡ true → isFound (roomIn (getD nearest (F .initiator m) 0)) m ≡ true
-      is-found m e = and-right (ltb (F .initiator m) 16) (isFound (roomIn (getD nearest (F .initiator m) 0)) m) (said m e)
-
-      is-own : (m : ℕ) → occurs nearest 16 m ≡ true → getD nearest (F .initiator m) 0 ≡ m
-      is-own m e = says-room (getD nearest (F .initiator m) 0) m (is-found m e)
-
-      among : (m : ℕ) → occurs nearest 16 m ≡ true → has set m ≡ true
-      among m e =
-          by-test (has set m) (λ y. y)
-          (λ n. clash (has (F .copy m t) c) (found-would (F .initiator m) (is-low m e) m (is-found m e) .in-copy) (rw es (C .others m n)))
+  -- so it is in every set that has all the rooms whose copies name the cart
+  pub found-below : (b : ℕ) (S : Stations) (set : ℕ) → F .copy ≡ S .copy → Covers b S t c set → RoomsBelow b nearest
+  found-below b S set es C m e =
+      C .inside m
+      (by-test (has set m) (λ y. y)
+      (λ n. clash (has (F .copy m t) c) (found-named m e) (rw es (C .others m n))))
 
 -- ON EVERY FLOOR WHOSE STATIONS AND MESSAGES ARE THE TWO TABLES, for a cart with that row of next numbers
 
@@ -101,18 +98,57 @@ module _ (N : Limits) (F : Floor) (stations messages : List ℕ) (agree : Agree 
       sum-ext 16 (λ s. stopIn (tablesFloor stations messages) t row nearest s - getD row s 0) (λ s. catchUpStop N F t c s .upto - F .next c s)
       (λ s h. ap₂ _-_ (all-raised s h) (is-row s h))
 
-  -- the cart is queued for what the protocol's stops find
+  -- what is found for an initiator is what the protocol's stop finds
+  found-there : (s : ℕ) → s < 16 → roomIn (getD nearest s 0) ≡ catchUpStop N F t c s .found
+  found-there s l =
+      sym (stop-found (tablesFloor stations messages) t s (getD row s 0) (roomIn (getD nearest s 0)))
+      ∙ ap (λ (r : Stop). r .found) (row-stops-there N F stations messages agree t c beyond s row nearest is-nearest l (is-row s l))
+
+  -- the cart is queued for what the protocol's stops find, of the first n initiators
+  queued-to : (n : ℕ) → n ≤ 16 → (m : ℕ) → occurs nearest n m ≡ (ltb (F .initiator m) n && foundIs (catchUpStop N F t c (F .initiator m) .found) m)
+  queued-to n h m =
+      occurs-once (tablesFloor stations messages) t c row nearest is-nearest n h m
+      ∙ ap (λ (f : ℕ → ℕ). ltb (f m) n && isFound (roomIn (getD nearest (f m) 0)) m) (sym (agree .initiator))
+      ∙ by-lt (F .initiator m) n
+      (λ l. ap (λ (b : Bool). ltb (F .initiator m) n && b) (same-found (roomIn (getD nearest (F .initiator m) 0)) m ∙ ap (λ (o : Option ℕ). foundIs o m) (found-there (F .initiator m) (omega arith))))
+      (λ l. rw (le-ltb (F .initiator m) n l))
+
   pub all-queued : (m : ℕ) → occurs nearest 16 m ≡ (ltb (F .initiator m) 16 && foundIs (catchUpStop N F t c (F .initiator m) .found) m)
-  all-queued m =
-      occurs-once (tablesFloor stations messages) t c row nearest is-nearest 16 (omega arith) m
-      ∙ ap (λ (f : ℕ → ℕ). ltb (f m) 16 && isFound (roomIn (getD nearest (f m) 0)) m) (sym (agree .initiator))
-      ∙ by-lt (F .initiator m) 16
-      (λ l. ap (λ (b : Bool). ltb (F .initiator m) 16 && b) (found (F .initiator m) l))
-      (λ l. rw (le-ltb (F .initiator m) 16 l))
-    where
-      found : (s : ℕ) → s < 16 → isFound (roomIn (getD nearest s 0)) m ≡ foundIs (catchUpStop N F t c s .found) m
-      found s l =
-          same-found (roomIn (getD nearest s 0)) m
-          ∙ ap (λ (o : Option ℕ). foundIs o m)
-          (sym (stop-found (tablesFloor stations messages) t s (getD row s 0) (roomIn (getD nearest s 0)))
-          ∙ ap (λ (r : Stop). r .found) (row-stops-there N F stations messages agree t c beyond s row nearest is-nearest l (is-row s l)))
+  all-queued m = queued-to 16 (omega arith) m
+
+  -- THE PLACES, where the queues agree too
+  module _ (queues : F .queue ≡ stationsIn stations .queue) where
+    -- the floor once the cart is queued for the first n initiators, as the protocol has it
+    abbrev queuedTo : ℕ → Floor
+    queuedTo n = catchUpAtOnce N F t c (λ s. ltb s n)
+
+    entry-to : (n : ℕ) → n ≤ 16 → (k : ℕ) → queuedFor (stationsIn stations) t c (occurs nearest n) .queue k t ≡ queuedTo n .queue k t
+    entry-to n h k =
+        ap (λ (b : Bool). cond (eqb t t && b) (with (stationsIn stations .queue k t) c) (stationsIn stations .queue k t)) (queued-to n h k)
+        ∙ ap (λ (q : ℕ → ℕ → ℕ). cond (eqb t t && (ltb (F .initiator k) n && foundIs (catchUpStop N F t c (F .initiator k) .found) k)) (with (q k t) c) (q k t)) (sym queues)
+
+    place-to : (n m : ℕ) → n ≤ 16 → placeAmong (queuedFor (stationsIn stations) t c (occurs nearest n)) (roomsIn messages) t m (N .held) ≡ placeIn N (queuedTo n) m t
+    unfolding placeAmong placeIn
+    place-to n m h =
+        ap suc
+        (ap (count (N .held)) (fun-ext (λ k. ap (λ (x : ℕ). not (eqb x 0) && isBefore (roomsIn messages) k m) (entry-to n h k)))
+        ∙ (λ i. count (N .held) (λ k. not (eqb (queuedTo n .queue k t) 0) && (ltb (numbers i k) (numbers i m) || (eqb (numbers i k) (numbers i m) && ltb (initiators i m) (initiators i k))))))
+      where
+        numbers : roomsIn messages .number ≡ F .number
+        numbers = sym (agree .number)
+
+        initiators : roomsIn messages .initiator ≡ F .initiator
+        initiators = sym (agree .initiator)
+
+    -- the largest place, of the first n initiators
+    pub deepest-to : (n : ℕ) → n ≤ 16 → deepestTo (stationsIn stations) (roomsIn messages) t c (N .held) nearest n ≡ largestPlace N n F t c
+    unfolding deepestTo largestPlace
+    deepest-to zero h = refl
+    deepest-to (suc n) h =
+        ap₂ max (deepest-to n (omega arith))
+        (by-found (roomIn (getD nearest n 0)) (catchUpStop N F t c n .found) (found-there n (omega arith)) ∙ sym (given-at-once N n F t c))
+      where
+        by-found : (o p : Option ℕ) → o ≡ p
+            → placeFound (queuedFor (stationsIn stations) t c (occurs nearest (suc n))) (roomsIn messages) t (N .held) o ≡ byOption p 0 (λ m. placeIn N (queuedTo (suc n)) m t)
+        by-found none p e = ap (λ (q : Option ℕ). byOption q 0 (λ m. placeIn N (queuedTo (suc n)) m t)) e
+        by-found (some m) p e = place-to (suc n) m h ∙ ap (λ (q : Option ℕ). byOption q 0 (λ m. placeIn N (queuedTo (suc n)) m t)) e

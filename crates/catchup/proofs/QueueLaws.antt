@@ -3,21 +3,24 @@ use mathlib.Core.Path.{_≡_, refl, sym, ap, _∙_, fun-ext}
 use mathlib.Core.Bool.{Bool, true, false, cond, _&&_, _||_}
 use mathlib.Core.List.{List}
 use mathlib.Core.Option.{Option, some}
-use Prim.Native.Nat.{ℕ, zero, suc, _+_, _<_, _≤_}
+use Prim.Native.Nat.{ℕ, zero, suc, _+_, _-_, _<_, _≤_}
 use native.Mathlib.Numerals.{add-one}
 use native.Mathlib.Omega.{arith}
 use lib.Dec.{eqb, ltb}
-use lib.ListN.{getD}
-use borrow.Author.Tests.{eqb-true, ne-eqb, lt-ltb, le-ltb}
+use lib.ListN.{getD, length, set}
+use lib.Seq.{getD-set-same, getD-set-other}
+use borrow.Author.Tests.{eqb-true, ne-eqb, lt-ltb, le-ltb, ltb-false}
+use Rattle.protocol.specs.Folds.{listOf}
 use Rattle.protocol.specs.CartSets.{has, with}
-use Rattle.protocol.proofs.Tests.{by-test, by-lt, by-eq, clash, and-false, or-right, or-none, eqb-self}
-use Rattle.protocol.proofs.SetLaws.{has-with, same-sets}
+use Rattle.protocol.proofs.Tests.{by-test, by-lt, by-eq, clash, and-false, or-right, or-none, eqb-self, listOf-at}
+use Rattle.protocol.proofs.SetLaws.{has-zero, has-with, with-lt, member-below, same-sets}
 use Rattle.sets.proofs.Walk.{nothing-between}
 use Rattle.stations.specs.View.{Stations, withQueue}
 use Rattle.messages.specs.View.{Rooms}
 use Rattle.queue.specs.Rooms.{roomIn}
+use Rattle.queue.specs.Places.{placeAmong}
 use Rattle.queue.proofs.Codes.{room-in, no-room-in}
-use Rattle.catchup.specs.Arrival.{isFound, occurs, OwnRooms, queuedFor}
+use Rattle.catchup.specs.Arrival.{isFound, occurs, queuedFor, placeFound, deepestTo, noneNear, Marks}
 
 -- A CART IS QUEUED ONCE
 
@@ -72,7 +75,15 @@ queued-twice S t c p q =
     same-queues S t c (λ m. p m || q m) (queuedFor (queuedFor S t c p) t c q) (queuedFor (queuedFor S t c p) t c q .queue) refl
     (λ m u. twice (S .queue m u) c (eqb u t) (p m) (q m))
 
--- ROOM BY ROOM
+-- ITS PLACE, if there is one
+module _ (S : Stations) (R : Rooms) (t n h : ℕ) where
+  pub no-place : 32 ≤ h → 0 ≡ placeFound S R t n (roomIn h)
+  no-place l = rw (no-room-in h l) refl
+
+  pub one-place : h < 32 → placeAmong S R t h n ≡ placeFound S R t n (roomIn h)
+  one-place l = rw (room-in h l) refl
+
+-- INITIATOR BY INITIATOR
 
 -- a word says its room
 pub said-of : (nearest : List ℕ) (n s m : ℕ) → s < n → m < 32 → getD nearest s 0 ≡ m → occurs nearest n m ≡ true
@@ -84,54 +95,63 @@ said-of nearest (suc n) s m l h e =
     (let z : getD nearest n 0 ≡ m = rw q at e in rw (z, room-in m h) (eqb-self m)))
     (λ q. ap (λ (b : Bool). b || isFound (roomIn (getD nearest n 0)) m) (said-of nearest n s m (omega arith) h e))
 
-module _ {b : ℕ} (R : Rooms) (set : ℕ) (nearest : List ℕ) (own : OwnRooms b R set nearest) where
-  -- a room that is not in the set
-  pub said-within : (m : ℕ) → has set m ≡ false → occurs nearest 16 m ≡ false
-  said-within m n = by-test (occurs nearest 16 m) (λ e. clash (has set m) (own .among m e) n) (λ e. e)
-
-  -- a room that its initiator's word does not say
-  module _ (m s : ℕ) (from : s ≡ R .initiator m) where
-    pub not-own : (getD nearest s 0 ≡ m → ⊥) → occurs nearest 16 m ≡ false
-    not-own d = by-test (occurs nearest 16 m) (λ e. absurd (d (rw from (own .own m e .1)))) (λ e. e)
-
-    pub from-nobody : 16 ≤ s → occurs nearest 16 m ≡ false
-    from-nobody l = by-test (occurs nearest 16 m) (λ e. absurd (let z = own .own m e .0 in omega arith)) (λ e. e)
-
-module _ (nearest : List ℕ) where
-  -- the rooms below n that one of the words says
-  abbrev pub saidTo : ℕ → ℕ → Bool
-  saidTo n m = ltb m n && occurs nearest 16 m
-
-  below-more : (m n : ℕ) → (m ≡ n → ⊥) → ltb m (n + 1) ≡ ltb m n
-  below-more m n d = by-lt m n (λ l. lt-ltb m (n + 1) (omega arith) ∙ sym (lt-ltb m n l)) (λ l. le-ltb m (n + 1) (omega arith) ∙ sym (le-ltb m n l))
-
-  one-more : (n : ℕ) (p : ℕ → Bool) → ((m : ℕ) → (m ≡ n → ⊥) → p m ≡ saidTo n m) → p n ≡ occurs nearest 16 n → p ≡ saidTo (n + 1)
-  one-more n p h e =
-      fun-ext (λ m. by-eq m n
-      (λ q. rw (q, lt-ltb n (n + 1) (omega arith)) e)
-      (λ d. h m d ∙ ap (λ (b : Bool). b && occurs nearest 16 m) (sym (below-more m n d))))
-
 module _ (S : Stations) (t c : ℕ) (nearest : List ℕ) where
-  pub queued-start : S ≡ queuedFor S t c (saidTo nearest 0)
-  queued-start = queued-none S t c (saidTo nearest 0) (λ m. rw (le-ltb m 0 (omega arith)))
+  -- for nobody yet
+  pub queued-start : S ≡ queuedFor S t c (occurs nearest 0)
+  unfolding occurs
+  queued-start = queued-none S t c (occurs nearest 0) (λ m. refl)
 
-  -- a room that no word says
-  pub queued-not : (m : ℕ) {T : Stations} → occurs nearest 16 m ≡ false → T ≡ queuedFor S t c (saidTo nearest m) → T ≡ queuedFor S t c (saidTo nearest (m + 1))
-  queued-not m n e = e ∙ ap (queuedFor S t c) (one-more nearest m (saidTo nearest m) (λ k d. refl) (rw (le-ltb m m (omega arith)) (sym n)))
+  -- for one initiator more
+  pub queued-next : (s : ℕ) {T U : Stations} → T ≡ queuedFor S t c (occurs nearest s) → U ≡ queuedFor T t c (isFound (roomIn (getD nearest s 0))) → U ≡ queuedFor S t c (occurs nearest (suc s))
+  unfolding occurs
+  queued-next s e f =
+      f ∙ ap (λ (X : Stations). queuedFor X t c (isFound (roomIn (getD nearest s 0)))) e
+      ∙ queued-twice S t c (occurs nearest s) (isFound (roomIn (getD nearest s 0)))
 
-  -- a room that one says
-  pub queued-one : (m : ℕ) {T U : Stations} → occurs nearest 16 m ≡ true → T ≡ queuedFor S t c (saidTo nearest m) → U ≡ queuedFor T t c (isFound (some m))
-      → U ≡ queuedFor S t c (saidTo nearest (m + 1))
-  queued-one m y e f =
-      f ∙ ap (λ (X : Stations). queuedFor X t c (isFound (some m))) e ∙ queued-twice S t c (saidTo nearest m) (isFound (some m))
-      ∙ ap (queuedFor S t c) (one-more nearest m (λ k. saidTo nearest m k || eqb k m) (λ k d. rw (ne-eqb k m d) (or-none (saidTo nearest m k))) (or-right (saidTo nearest m m) (eqb m m) (eqb-self m) ∙ sym y))
-
-  -- the rooms that a walk skips
-  pub queued-skips : (a b : ℕ) {T : Stations} → a ≤ b → ((m : ℕ) → a ≤ m → m < b → occurs nearest 16 m ≡ false) → T ≡ queuedFor S t c (saidTo nearest a) → T ≡ queuedFor S t c (saidTo nearest b)
+  -- from one initiator to another, where none between them has found a message
+  pub queued-skips : (a b : ℕ) {T : Stations} → a ≤ b → ((s : ℕ) → a ≤ s → s < b → 32 ≤ getD nearest s 0) → T ≡ queuedFor S t c (occurs nearest a) → T ≡ queuedFor S t c (occurs nearest b)
+  unfolding occurs
   queued-skips a b l h e =
-      e ∙ sym (nothing-between (λ n. queuedFor S t c (saidTo nearest n)) a b l (λ m k q. ap (λ (n : ℕ). queuedFor S t c (saidTo nearest n)) (sym (add-one m)) ∙ sym (queued-not m (h m k q) refl)))
+      e ∙ sym (nothing-between (λ k. queuedFor S t c (occurs nearest k)) a b l
+      (λ s k q. ap (queuedFor S t c) (fun-ext (λ m. rw (no-room-in (getD nearest s 0) (h s k q)) (or-none (occurs nearest s m))))))
 
-  -- no word says a room from k on
-  pub queued-all : (k : ℕ) {T : Stations} → ((m : ℕ) → k ≤ m → occurs nearest 16 m ≡ false) → T ≡ queuedFor S t c (saidTo nearest k) → T ≡ queuedFor S t c (occurs nearest 16)
-  queued-all k h e =
-      e ∙ ap (queuedFor S t c) (fun-ext (λ m. by-lt m k (λ l. rw (lt-ltb m k l)) (λ l. rw (le-ltb m k l) (sym (h m l)))))
+  pub deepest-skips : (R : Rooms) (n a b x : ℕ) → a ≤ b → ((s : ℕ) → a ≤ s → s < b → 32 ≤ getD nearest s 0) → x ≡ deepestTo S R t c n nearest a → x ≡ deepestTo S R t c n nearest b
+  unfolding deepestTo
+  deepest-skips R n a b x l h e =
+      e ∙ sym (nothing-between (λ k. deepestTo S R t c n nearest k) a b l
+      (λ s k q. let z : placeFound (queuedFor S t c (occurs nearest (suc s))) R t n (roomIn (getD nearest s 0)) ≡ 0 = rw (no-room-in (getD nearest s 0) (h s k q)) refl in omega (arith, z)))
+
+  -- and the largest place with its own
+  pub deepest-next : (R : Rooms) (n s x y z : ℕ) {U : Stations} → U ≡ queuedFor S t c (occurs nearest (suc s)) → x ≡ deepestTo S R t c n nearest s
+      → y ≡ placeFound U R t n (roomIn (getD nearest s 0)) → z ≡ x + (y - x) → z ≡ deepestTo S R t c n nearest (suc s)
+  unfolding deepestTo
+  deepest-next R n s x y z e p q r =
+      let w = q ∙ ap (λ (X : Stations). placeFound X R t n (roomIn (getD nearest s 0))) e in
+      omega (arith, p, w, r)
+
+-- WHICH INITIATORS HAVE FOUND ONE
+
+pub marks-none : Marks noneNear 0
+unfolding listOf
+marks-none =
+    record {
+      word = omega arith;
+      marked = λ s l. let far : getD noneNear s 0 ≡ 32 = listOf-at 16 (λ k. 32) 0 s l in has-zero s ∙ sym (le-ltb (getD noneNear s 0) 32 (omega (arith, far)));
+    }
+
+pub marks-one : (nearest : List ℕ) (found s m : ℕ) → length nearest ≡ 16 → s < 16 → m < 32 → Marks nearest found → Marks (set nearest s m) (with found s)
+marks-one nearest found s m long l h M =
+    record {
+      word = with-lt 16 found s (M .word) l;
+      marked = λ u k. has-with found s u
+          ∙ by-eq u s
+          (λ q. rw q (or-right (has found s) (eqb s s) (eqb-self s) ∙ sym (ap (λ (x : ℕ). ltb x 32) (getD-set-same nearest s m 0 (omega (arith, long))) ∙ lt-ltb m 32 h)))
+          (λ q. rw (ne-eqb s u (λ e. q (sym e))) (or-none (has found u)) ∙ M .marked u k ∙ ap (λ (x : ℕ). ltb x 32) (sym (getD-set-other nearest s u m 0 q)));
+    }
+
+-- what is not marked has found none
+pub not-marked : (nearest : List ℕ) (found s : ℕ) → Marks nearest found → s < 16 → has found s ≡ false → 32 ≤ getD nearest s 0
+not-marked nearest found s M l e = ltb-false (getD nearest s 0) 32 (sym (M .marked s l) ∙ e)
+
+pub marks-inside : (nearest : List ℕ) (found : ℕ) → Marks nearest found → (s : ℕ) → has found s ≡ true → s < 16
+marks-inside nearest found M s e = member-below 16 found s (M .word) e

@@ -1,9 +1,9 @@
 -- CATCH-UP FOR SIXTEEN INITIATORS AT ONCE: a row has an entry for each.
 use mathlib.Core.Path.{_≡_}
 use mathlib.Core.Bool.{Bool, true, false, cond, _&&_, _||_}
-use mathlib.Core.List.{List}
+use mathlib.Core.List.{List, [], _∷_}
 use mathlib.Core.Option.{Option, none, some}
-use Prim.Native.Nat.{ℕ, zero, suc, _+_, _-_, _<_, _≤_}
+use Prim.Native.Nat.{ℕ, zero, suc, _+_, _-_, _^_, _<_, _≤_, max}
 use lib.Dec.{eqb, ltb, leb}
 use lib.ListN.{getD}
 use Rattle.protocol.specs.CartSets.{has, with}
@@ -12,6 +12,7 @@ use Rattle.protocol.specs.Floor.{Floor}
 use Rattle.stations.specs.View.{Stations}
 use Rattle.messages.specs.View.{Rooms}
 use Rattle.queue.specs.Rooms.{roomCode, roomIn}
+use Rattle.queue.specs.Places.{placeAmong}
 use Rattle.catchup.specs.Nearest.{nearestAmong, stopBy}
 
 -- does the message in room m, which names the cart, stop it at t from x on and before u
@@ -52,11 +53,18 @@ unfoldable pub occurs : List ℕ → ℕ → ℕ → Bool
 occurs nearest zero m = false
 occurs nearest (suc n) m = occurs nearest n m || isFound (roomIn (getD nearest n 0)) m
 
--- each room that one of the words says is in the set, whose rooms are below n, and its initiator's own word says it
-pub record OwnRooms (n : ℕ) (R : Rooms) (set : ℕ) (nearest : List ℕ) : Type 0 where
-  pub inside : (m : ℕ) → has set m ≡ true → m < n
-  pub among : (m : ℕ) → occurs nearest 16 m ≡ true → has set m ≡ true
-  pub own : (m : ℕ) → occurs nearest 16 m ≡ true → (R .initiator m < 16) × (getD nearest (R .initiator m) 0 ≡ m)
+-- the words where no message is the nearest of any initiator
+abbrev pub noneNear : List ℕ
+noneNear = 32 ∷ 32 ∷ 32 ∷ 32 ∷ 32 ∷ 32 ∷ 32 ∷ 32 ∷ 32 ∷ 32 ∷ 32 ∷ 32 ∷ 32 ∷ 32 ∷ 32 ∷ 32 ∷ []
+
+-- the set has the initiators whose word says a room
+pub record Marks (nearest : List ℕ) (found : ℕ) : Type 0 where
+  pub word : found < 2 ^ 16
+  pub marked : (s : ℕ) → s < 16 → has found s ≡ ltb (getD nearest s 0) 32
+
+-- each room that one of the words says is below n
+abbrev pub RoomsBelow : ℕ → List ℕ → Type 0
+RoomsBelow n nearest = (m : ℕ) → occurs nearest 16 m ≡ true → m < n
 
 -- cart c is queued at station t for the message in each room that passes
 abbrev pub queuedFor : Stations → ℕ → ℕ → (ℕ → Bool) → Stations
@@ -69,3 +77,15 @@ queuedFor S t c which =
       acks = S .acks;
       queue = λ m u. cond (eqb u t && which m) (with (S .queue m u) c) (S .queue m u);
     }
+
+-- the place of the entry for the message that was found, 0 where none was; n rooms have messages
+abbrev pub placeFound : Stations → Rooms → ℕ → ℕ → Option ℕ → ℕ
+placeFound S R t n none = 0
+placeFound S R t n (some m) = placeAmong S R t m n
+
+-- "the largest place given in that step", where cart c is queued at t for the nearest messages of the first k initiators, one after the other: each place
+-- "as it stands right after the putting"
+unfoldable pub deepestTo : Stations → Rooms → ℕ → ℕ → ℕ → List ℕ → ℕ → ℕ
+deepestTo S R t c n nearest zero = 0
+deepestTo S R t c n nearest (suc k) =
+    max (deepestTo S R t c n nearest k) (placeFound (queuedFor S t c (occurs nearest (suc k))) R t n (roomIn (getD nearest k 0)))

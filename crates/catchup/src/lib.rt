@@ -10,11 +10,12 @@ ghost use Prim.Native.Nat.{ℕ, _+_, _-_, _<_, _≤_};
 ghost use Rattle.protocol.specs.CartSets.{has};
 ghost use Rattle.protocol.specs.Folds.{listOf};
 ghost use Rattle.stations.specs.View.{initiators, rooms, HasStation, stationsIn, namingIn, Leaves};
-ghost use Rattle.messages.specs.View.{roomsIn};
+ghost use Rattle.messages.specs.View.{HasRoom, roomsIn};
 ghost use Rattle.queue.specs.Rooms.{tablesFloor, roomCount, HasRooms, roomCode, roomIn};
+ghost use Rattle.queue.specs.Places.{placeAmong};
 ghost use Rattle.catchup.specs.Naming.{Covers, namedBy};
 ghost use Rattle.catchup.specs.Nearest.{wouldStop, nearerWith, nearestAmong, stopBy};
-ghost use Rattle.catchup.specs.Arrival.{stopsBefore, levelIn, nearestRow, stopIn, Rises, rise, isFound, occurs, OwnRooms, queuedFor};
+ghost use Rattle.catchup.specs.Arrival.{stopsBefore, levelIn, nearestRow, stopIn, Rises, rise, isFound, occurs, RoomsBelow, Marks, queuedFor, placeFound, deepestTo};
 
 // Would the message in room m stop the cart at the station, on its way up from the next number among those of the initiator?
 fn would_stop(
@@ -126,7 +127,7 @@ pub fn initiator_for(
     products::INITIATORS as u64
 }
 
-// The later of two numbers.
+// The later of two numbers, or of two places.
 fn later(a: u64, b: u64) -> u64
     ensures { λ r. ⌜ r ≡ a + (b - a) ⌝ }
 {
@@ -165,13 +166,14 @@ fn stops_before(messages: &[u64], station: Station, m: usize, next: u64, upto: u
     sets::has(messages::waiting_of(messages, m), station.0)
 }
 
-// Where each next number stops, and the nearest message of each initiator.
+// Where each next number stops, the nearest message of each initiator, and which initiators have one.
 pub struct Stopped {
     pub upto: [u64; 16],
     pub nearest: [usize; 16],
+    pub found: u64,
 }
 
-// Both are found in one pass over the rooms that may name the cart, for a cart with that row of next numbers. A message has one initiator, so only
+// All are found in one pass over the rooms that may name the cart, for a cart with that row of next numbers. A message has one initiator, so only
 // its entries can change, and they are not touched unless it stops the cart sooner. Of two with the same number the one in the earlier room
 // stays, as the protocol's loop finds it.
 pub fn stops_of(
@@ -186,9 +188,11 @@ pub fn stops_of(
     requires { ⌜ HasStation (now stations) (station .0) × HasRooms (now messages) × (station .0 < 16) × (cart .0 < 64) ⌝ }
     ensures { λ r. ⌜ r .nearest ≡ nearestRow (tablesFloor (now (stations .entry)) (now (messages .entry))) (station .0) (cart .0) row 32 ⌝ }
     ensures { λ r. ⌜ r .upto ≡ listOf 16 (stopIn (tablesFloor (now (stations .entry)) (now (messages .entry))) (station .0) row (r .nearest)) ⌝ }
+    ensures { λ r. ⌜ Marks (r .nearest) (r .found) ⌝ }
 {
     let mut upto = levels(stations, station, row);
     let mut nearest = [queue::NONE; 16];
+    let mut found: u64 = 0;
     let mut left = naming;
     while 0 < left {
         let m = sets::first(left) as usize;
@@ -198,10 +202,15 @@ pub fn stops_of(
             if stops_before(messages, station, m, row[s], upto[s]) {
                 upto[s] = messages::number_of(messages, m).0;
                 nearest[s] = m;
+                found = sets::with_member(found, s as u64);
             }
         }
     }
-    Stopped { upto, nearest }
+    Stopped {
+        upto,
+        nearest,
+        found,
+    }
 }
 
 // "the numbers passed over in this step": how far a row of next numbers rises.
@@ -236,47 +245,64 @@ pub fn stop_of(
     later(next, stations::expected_of(stations, station, initiator))
 }
 
-// The cart is queued for the message in room m.
-fn enqueue_for(stations: &mut [u64], station: Station, cart: CartNumber, m: usize)
-    requires { ⌜ HasStation (now stations) (station .0) × (cart .0 < 64) × (m < rooms) ⌝ }
+// The cart is queued for the message in room m. "Putting a cart in a queue entry now also answers the entry's place, .. as it stands right after the
+// putting".
+fn enqueue_for(
+    stations: &mut [u64],
+    messages: &[u64],
+    station: Station,
+    cart: CartNumber,
+    m: usize,
+) -> u64
+    requires { ⌜ HasStation (now stations) (station .0) × HasRooms (now messages) × (cart .0 < 64) × HasRoom (now messages) m ⌝ }
     ensures { λ _. ⌜ Leaves (now (stations .entry)) (now (stations .exit)) (queuedFor (stationsIn (now (stations .entry))) (station .0) (cart .0) (isFound (some m))) ⌝ }
+    ensures { λ r. ⌜ r ≡ placeAmong (stationsIn (now (stations .exit))) (roomsIn (now (messages .entry))) (station .0) m (roomCount (now (messages .entry))) ⌝ }
 {
     let carts = sets::with_member(stations::queue_of(stations, m, station), cart.0);
     stations::put_queue(stations, m, station, carts);
+    queue::place_of(stations, messages, station, m)
 }
 
-// "queue the cart for it": for the nearest message, if there is one.
-pub fn enqueue(stations: &mut [u64], station: Station, cart: CartNumber, nearest: usize)
-    requires { ⌜ HasStation (now stations) (station .0) × (cart .0 < 64) ⌝ }
+// "queue the cart for it": for the nearest message, if there is one. Answers the entry's place, or 0.
+pub fn enqueue(
+    stations: &mut [u64],
+    messages: &[u64],
+    station: Station,
+    cart: CartNumber,
+    nearest: usize,
+) -> u64
+    requires { ⌜ HasStation (now stations) (station .0) × HasRooms (now messages) × (cart .0 < 64) × (nearest < 32 → nearest < roomCount (now messages)) ⌝ }
     ensures { λ _. ⌜ Leaves (now (stations .entry)) (now (stations .exit)) (queuedFor (stationsIn (now (stations .entry))) (station .0) (cart .0) (isFound (roomIn nearest))) ⌝ }
+    ensures { λ r. ⌜ r ≡ placeFound (stationsIn (now (stations .exit))) (roomsIn (now (messages .entry))) (station .0) (roomCount (now (messages .entry))) (roomIn nearest) ⌝ }
 {
-    if nearest < queue::NONE {
-        enqueue_for(stations, station, cart, nearest);
+    if queue::NONE <= nearest {
+        return 0;
     }
+    enqueue_for(stations, messages, station, cart, nearest)
 }
 
-// The cart is queued for each nearest message. Each is in a room that may name the cart, and is its own initiator's.
+// The cart is queued for each nearest message, the initiators in rising order; only those that have one are looked at. Answers "the largest place given
+// in that step": a later entry may come to stand before an earlier one, so the order shows.
 pub fn enqueue_all(
     stations: &mut [u64],
     messages: &[u64],
     station: Station,
     cart: CartNumber,
-    naming: u64,
     nearest: [usize; 16],
-)
-    requires { ⌜ OwnRooms (roomCount (now messages)) (roomsIn (now messages)) naming nearest ⌝ }
+    found: u64,
+) -> u64
+    requires { ⌜ RoomsBelow (roomCount (now messages)) nearest × Marks nearest found ⌝ }
     requires { ⌜ HasStation (now stations) (station .0) × HasRooms (now messages) × (cart .0 < 64) ⌝ }
     ensures { λ _. ⌜ Leaves (now (stations .entry)) (now (stations .exit)) (queuedFor (stationsIn (now (stations .entry))) (station .0) (cart .0) (occurs nearest 16)) ⌝ }
+    ensures { λ r. ⌜ r ≡ deepestTo (stationsIn (now (stations .entry))) (roomsIn (now (messages .entry))) (station .0) (cart .0) (roomCount (now (messages .entry))) nearest 16 ⌝ }
 {
-    let mut left = naming;
+    let mut deepest: u64 = 0;
+    let mut left = found;
     while 0 < left {
-        let m = sets::first(left) as usize;
+        let s = sets::first(left) as usize;
         left = sets::without_first(left);
-        let s = messages::initiator_of(messages, m).0 as usize;
-        if s < products::INITIATORS {
-            if nearest[s] == m {
-                enqueue_for(stations, station, cart, m);
-            }
-        }
+        let place = enqueue(stations, messages, station, cart, nearest[s]);
+        deepest = later(deepest, place);
     }
+    deepest
 }

@@ -18,7 +18,7 @@ use Rattle.view.proofs.Standing.{Standing, standing}
 use Rattle.handoff.specs.Arrived.{Entered}
 use Rattle.handoff.proofs.EnterIs.{enter-ready, enter-fits, enter-rooms, enter-is, enter-reports}
 use Rattle.reports.specs.declared.Effect.{Effect}
-use Rattle.reports.specs.Effects.{passing}
+use Rattle.reports.specs.Effects.{queueing}
 use Rattle.event_answers.specs.Answers.{says}
 use Rattle.event_answers.specs.Met.{Met}
 use Rattle.event_answers.proofs.Meets.{refusal-standing, meets-done, meets-counted}
@@ -36,10 +36,10 @@ module _ (P : Product) (S C M W T : List ℕ) (t c : ℕ) (p : passesForm (limit
   pub enter-asks : (HasStation S t × HasRow C c × HasRooms M × (t < 16) × (c < 64)) × (((s : ℕ) → s < 16 → stationsIn S .expected t s ≤ 4294967295) × ((m : ℕ) → has (namingIn (stationsIn S) t c) m ≡ true → m < roomCount M))
   enter-asks = (enter-ready L X t c may, (enter-fits L X t c may, enter-rooms L X t c may))
 
-  pub meets-enter : (S′ C′ : List ℕ) (f : Effect) → Entered S S′ C C′ M t c (f .passed) → f ≡ passing (f .passed)
+  pub meets-enter : (S′ C′ : List ℕ) (f : Effect) → Entered S S′ C C′ M t c (f .passed) (f .place) → f ≡ queueing (f .passed) (f .place)
       → Met L (lent P S′ C′ M W T) (enter t c) (says 1 t c f)
   unfolding accept
   meets-enter S′ C′ f entered counted =
-      meets-counted L (lent P S′ C′ M W T) (enter t c) 1 t c f (passing (f .passed)) counted
+      meets-counted L (lent P S′ C′ M W T) (enter t c) 1 t c f (queueing (f .passed) (f .place)) counted
       (meets-done L (enter t c) (lent P S′ C′ M W T) _ refl (refusal-standing L (enter t c) p ∙ sym free)
-      (enter-is S S′ C C′ M W T t c (f .passed) X may entered) (sym (enter-reports S S′ C C′ M W T t c (f .passed) X may entered)))
+      (enter-is S S′ C C′ M W T t c (f .passed) (f .place) X may entered) (sym (enter-reports S S′ C C′ M W T t c (f .passed) (f .place) X may entered)))

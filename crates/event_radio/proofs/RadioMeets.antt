@@ -228,11 +228,11 @@ module _ (P : Product) (S C M W T : List ℕ) (t c buffer : ℕ) (p : passesForm
             pub in-a-room : m < 32
             in-a-room = is-room
 
-            pub meets-radio : (S′ C′ W′ : List ℕ) (f : Effect) → HandedOver S S′ C C′ M W W′ m s n t c (f .passed) (f .records)
+            pub meets-radio : (S′ C′ W′ : List ℕ) (f : Effect) → HandedOver S S′ C C′ M W W′ m s n t c (f .passed) (f .records) (f .place)
                 → Met L (lent P S′ C′ M W′ T) (radio t c buffer) (acceptedIn (values 4 s n f) (take size (drop (m * longest) T)))
             unfolding accept textIn
             meets-radio S′ C′ W′ f over =
-                let over₀ : HandedOver S S′ C C′ M W W′ m (roomsIn M .initiator m) (roomsIn M .number m) t c (f .passed) (f .records) = rw (es, en) at over in
+                let over₀ : HandedOver S S′ C C′ M W W′ m (roomsIn M .initiator m) (roomsIn M .number m) t c (f .passed) (f .records) (f .place) = rw (es, en) at over in
                 meets-done L (radio t c buffer) (lent P S′ C′ M W′ T) _ refl (refusal-standing L (radio t c buffer) p ∙ sym served-is ∙ free)
-                (radio-is S S′ C C′ M W W′ T m t c (f .passed) (f .records) X may over₀)
-                (rw (es, en, ez) (sym (radio-reports S S′ C C′ M W W′ T m t c (f .passed) (f .records) X may over₀)))
+                (radio-is S S′ C C′ M W W′ T m t c (f .passed) (f .records) (f .place) X may over₀)
+                (rw (es, en, ez) (sym (radio-reports S S′ C C′ M W W′ T m t c (f .passed) (f .records) (f .place) X may over₀)))

@@ -94,5 +94,5 @@ module _ (P : Product) (S C M W T : List ℕ) (n k : ℕ) (ok : Bool) (lengths-a
           met : refusal (limitsOf P) (floorIn L) (start n k) ≡ 0
           met = rw (right, ne-eqb (headIn S .mark) 1 fresh, sym size-is, e) refl
 
-          says-so : _≡_ {A = Report} (record { kind = 0; a = n; b = k; p = 0; w = 0; text = [] }) (accept (limitsOf P) (floorIn L) (start n k) .report)
+          says-so : _≡_ {A = Report} (record { kind = 0; a = n; b = k; p = 0; w = 0; q = 0; text = [] }) (accept (limitsOf P) (floorIn L) (start n k) .report)
           says-so = refl

@@ -39,7 +39,7 @@ use Rattle.handoff.specs.Arrived.{Arrived}
 use Rattle.handoff.proofs.DeregisterIs.{deregister-ready, register-has-room, deregister-is, deregister-reports}
 use Rattle.handoff.proofs.RegisterIs.{register-ready, register-fits, register-rooms, register-is, register-reports}
 use Rattle.reports.specs.declared.Effect.{Effect}
-use Rattle.reports.specs.Effects.{nothing, passing, putting}
+use Rattle.reports.specs.Effects.{nothing, putting, queueing}
 use Rattle.event_answers.specs.Answers.{says}
 use Rattle.event_answers.specs.Met.{Met}
 use Rattle.event_answers.proofs.Meets.{meets-done, meets-counted}
@@ -78,7 +78,7 @@ module _ (P : Product) (S C M W W₁ T : List ℕ) (i j : ℕ) (said : word.Reco
 
   -- the step of its kind is the event, with what it counted
   meets : (L′ : Lent) (kind x : ℕ) (f g : Effect) → L′ .product ≡ P → f ≡ g → floorIn L′ ≡ onWire (limitsOf P) F i j .floor
-      → onWire (limitsOf P) F i j .report ≡ record { kind = 3; a = kind; b = x; p = g .passed; w = g .records; text = [] } → Met L L′ (wire i j) (says 3 kind x f)
+      → onWire (limitsOf P) F i j .report ≡ record { kind = 3; a = kind; b = x; p = g .passed; w = g .records; q = g .place; text = [] } → Met L L′ (wire i j) (says 3 kind x f)
   unfolding accept
   meets L′ kind x f g same counted floor report =
       meets-counted L L′ (wire i j) 3 kind x f g counted (meets-done L (wire i j) L′ _ same passes floor (sym report))
@@ -90,15 +90,15 @@ module _ (P : Product) (S C M W W₁ T : List ℕ) (i j : ℕ) (said : word.Reco
       omega arith
 
   pub multicast-asks : kindOf (said .0) ≡ 1
-      → (HasStation S j × (i < 16) × (stationsIn S .expected j i < 4294967296)) × (((c : ℕ) → has (stationsIn S .local j) c ≡ true → HasRow C c) × HasRoom M m × (m < 32) × (n < 4294967296))
+      → (HasStation S j × (i < 16) × (stationsIn S .expected j i < 4294967296)) × (((c : ℕ) → has (stationsIn S .local j) c ≡ true → HasRow C c) × HasRoom M m × (m < 32) × (n < 4294967296) × HasRooms M)
   multicast-asks k = asks.multicast-asks S C M W W₁ T X i j (off .from) (off .to) said rest (off .top) (off .popped) k
 
-  pub meets-multicast : kindOf (said .0) ≡ 1 → (S′ C′ : List ℕ) (x : ℕ) (f : Effect) → x ≡ n → Buffered S S′ C C′ M (stationsIn S .local j) m n i j (f .passed) → f ≡ passing (f .passed)
+  pub meets-multicast : kindOf (said .0) ≡ 1 → (S′ C′ : List ℕ) (x : ℕ) (f : Effect) → x ≡ n → Buffered S S′ C C′ M (stationsIn S .local j) m n i j (f .passed) (f .place) → f ≡ queueing (f .passed) (f .place)
       → Met L (lent P S′ C′ M W₁ T) (wire i j) (says 3 1 x f)
   meets-multicast k S′ C′ x f e b counted =
-      meets (lent P S′ C′ M W₁ T) 1 x f (passing (f .passed)) refl counted
-      (multicast-is S S′ C C′ M W W₁ T X i j (off .from) (off .to) said rest (off .top) k (off .popped) (f .passed) b)
-      (rw e (multicast-report S S′ C C′ M W W₁ T X i j (off .from) (off .to) said rest (off .top) k (off .popped) (f .passed) b))
+      meets (lent P S′ C′ M W₁ T) 1 x f (queueing (f .passed) (f .place)) refl counted
+      (multicast-is S S′ C C′ M W W₁ T X i j (off .from) (off .to) said rest (off .top) k (off .popped) (f .passed) (f .place) b)
+      (rw e (multicast-report S S′ C C′ M W W₁ T X i j (off .from) (off .to) said rest (off .top) k (off .popped) (f .passed) (f .place) b))
 
   -- AN ACK LIST; y is how many stations the code read
   pub ack-list-asks : kindOf (said .0) ≡ 2 → (y : ℕ) → y ≡ headIn S .stations
@@ -172,11 +172,11 @@ module _ (P : Product) (S C M W W₁ T : List ℕ) (i j : ℕ) (said : word.Reco
       row-asks = (register-asks .0 .4, let a = X .lengths .lines in let b = off .popped .words in omega arith)
 
       -- where the code read it, once the record is off its line
-      pub meets-register : (S′ C′ r : List ℕ) (f : Effect) → r ≡ listOf 16 (registersIn W₁ x) → Arrived S S′ C C′ M j x r (f .passed) → f ≡ passing (f .passed)
+      pub meets-register : (S′ C′ r : List ℕ) (f : Effect) → r ≡ listOf 16 (registersIn W₁ x) → Arrived S S′ C C′ M j x r (f .passed) (f .place) → f ≡ queueing (f .passed) (f .place)
           → Met L (lent P S′ C′ M W₁ T) (wire i j) (says 3 5 x f)
       meets-register S′ C′ r f e b counted =
           let same : r ≡ row = e ∙ ap (λ (g : ℕ → ℕ → ℕ). listOf 16 (g x)) (off .popped .registers) in
-          let b′ : Arrived S S′ C C′ M j x row (f .passed) = subst (λ (z : List ℕ). Arrived S S′ C C′ M j x z (f .passed)) same b in
-          meets (lent P S′ C′ M W₁ T) 5 x f (passing (f .passed)) refl counted
-          (register-is S S′ C C′ M W W₁ T x i j (f .passed) row left X may-register (off .popped) b′)
-          (register-reports S S′ C C′ M W W₁ T x i j (f .passed) row left X may-register (off .popped) b′)
+          let b′ : Arrived S S′ C C′ M j x row (f .passed) (f .place) = subst (λ (z : List ℕ). Arrived S S′ C C′ M j x z (f .passed) (f .place)) same b in
+          meets (lent P S′ C′ M W₁ T) 5 x f (queueing (f .passed) (f .place)) refl counted
+          (register-is S S′ C C′ M W W₁ T x i j (f .passed) (f .place) row left X may-register (off .popped) b′)
+          (register-reports S S′ C C′ M W W₁ T x i j (f .passed) (f .place) row left X may-register (off .popped) b′)

@@ -1,4 +1,4 @@
--- WHAT A CALL FROM ANOTHER LANGUAGE IS TOLD: the answer of its event, in seven words.
+-- WHAT A CALL FROM ANOTHER LANGUAGE IS TOLD: the answer of its event, in eight words.
 use mathlib.Core.Path.{_≡_}
 use mathlib.Core.List.{List}
 use Prim.Native.Nat.{ℕ}
@@ -11,13 +11,15 @@ use Rattle.event_answers.specs.Answers.{answerIn, toldOf}
 use Rattle.event_answers.specs.Met.{Met}
 use Rattle.event_answers.specs.Delivered.{Delivered}
 
--- the first seven words are these, and the others as they were
-unfoldable pub sevenWords : List ℕ → ℕ → ℕ → ℕ → ℕ → ℕ → ℕ → ℕ → List ℕ
-sevenWords out refusal kind a b p w size = set (set (set (set (set (set (set out 0 refusal) 1 kind) 2 a) 3 b) 4 p) 5 w) 6 size
+-- the first eight words are these, and the others as they were
+unfoldable pub answerRow : List ℕ → ℕ → ℕ → ℕ → ℕ → ℕ → ℕ → ℕ → ℕ → List ℕ
+answerRow out refusal kind a b p w q size = set (set (set (set (set (set (set (set out 0 refusal) 1 kind) 2 a) 3 b) 4 p) 5 w) 6 q) 7 size
 
--- a refusal's number, or 0; "kind, a, b, p, w"; how many octets of text
+-- a refusal's number, or 0; "kind, a, b, p, w", q; how many octets of text
 abbrev pub wordsOf : List ℕ → Told → List ℕ
-wordsOf out r = sevenWords out (r .refusal) (r .report .kind) (r .report .a) (r .report .b) (r .report .effect .passed) (r .report .effect .records) (r .size)
+wordsOf out r =
+    answerRow out (r .refusal) (r .report .kind) (r .report .a) (r .report .b)
+    (r .report .effect .passed) (r .report .effect .records) (r .report .effect .place) (r .size)
 
 abbrev pub answerWords : List ℕ → Answer → List ℕ
 answerWords out a = wordsOf out (toldOf a)

@@ -1,5 +1,5 @@
 // The events under C names, for bench/events, which tries them on damaged floors and measures them. Each does what it calls does, on a floor
-// lent by a program in another language. An answer cannot cross as it is, so each asks for seven words to put it into: this crate is for
+// lent by a program in another language. An answer cannot cross as it is, so each asks for eight words to put it into: this crate is for
 // measuring alone, and asks for them by `requires`. A name with `step` leaves the form test out and asks for a floor that events can go on with.
 use event_answers::Answer;
 use ids::CartNumber;
@@ -14,12 +14,22 @@ ghost use Rattle.protocol.specs.Floor.{wholeFloor};
 ghost use Rattle.protocol.specs.Events.{start, enter, send, wire, move, flag};
 ghost use Rattle.view.specs.View.{lent};
 ghost use Rattle.event_answers.specs.Met.{Ready};
-ghost use Rattle.exported_events.specs.Words.{sevenWords, answerWords, Answered, AnsweredText};
+ghost use Rattle.exported_events.specs.Words.{answerRow, answerWords, Answered, AnsweredText};
 
-// Seven words, at the front of the lent ones.
-fn put_words(out: &mut [u64], refusal: u64, kind: u64, a: u64, b: u64, p: u64, w: u64, size: u64)
-    requires { ⌜ 7 ≤ length (now out) ⌝ }
-    ensures { λ _. ⌜ now (out .exit) ≡ sevenWords (now (out .entry)) refusal kind a b p w size ⌝ }
+// Eight words, at the front of the lent ones.
+fn put_words(
+    out: &mut [u64],
+    refusal: u64,
+    kind: u64,
+    a: u64,
+    b: u64,
+    p: u64,
+    w: u64,
+    q: u64,
+    size: u64,
+)
+    requires { ⌜ 8 ≤ length (now out) ⌝ }
+    ensures { λ _. ⌜ now (out .exit) ≡ answerRow (now (out .entry)) refusal kind a b p w q size ⌝ }
     ensures { λ _. ⌜ length (now (out .exit)) ≡ length (now (out .entry)) ⌝ }
 {
     out[0] = refusal;
@@ -28,12 +38,13 @@ fn put_words(out: &mut [u64], refusal: u64, kind: u64, a: u64, b: u64, p: u64, w
     out[3] = b;
     out[4] = p;
     out[5] = w;
-    out[6] = size;
+    out[6] = q;
+    out[7] = size;
 }
 
-// The words of an answer: the refusal's number, or 0; "kind, a, b, p, w"; how many octets of text.
+// The words of an answer: the refusal's number, or 0; "kind, a, b, p, w", q; how many octets of text.
 fn put_answer_words(out: &mut [u64], answer: Answer)
-    requires { ⌜ 7 ≤ length (now out) ⌝ }
+    requires { ⌜ 8 ≤ length (now out) ⌝ }
     ensures { λ _. ⌜ now (out .exit) ≡ answerWords (now (out .entry)) answer ⌝ }
     ensures { λ _. ⌜ length (now (out .exit)) ≡ length (now (out .entry)) ⌝ }
 {
@@ -48,6 +59,7 @@ fn put_answer_words(out: &mut [u64], answer: Answer)
         report.b,
         effect.passed,
         effect.records,
+        effect.place,
         told.size as u64,
     );
 }
@@ -64,7 +76,7 @@ pub extern "C" fn mekhturia_start(
     k: u64,
     out: &mut [u64],
 )
-    requires { ⌜ 7 ≤ length (now out) ⌝ }
+    requires { ⌜ 8 ≤ length (now out) ⌝ }
     ensures { λ _. ⌜ Answered (lent wholeFloor (now (stations .entry)) (now (carts .entry)) (now (messages .entry)) (now (lines .entry)) (now (texts .entry))) (lent wholeFloor (now (stations .exit)) (now (carts .exit)) (now (messages .exit)) (now (lines .exit)) (now (texts .entry))) (start n k) [] (now (out .entry)) (now (out .exit)) ⌝ }
 {
     let answer = controller::start(stations, carts, messages, lines, texts, n, k);
@@ -83,7 +95,7 @@ pub extern "C" fn mekhturia_enter(
     cart: u64,
     out: &mut [u64],
 )
-    requires { ⌜ 7 ≤ length (now out) ⌝ }
+    requires { ⌜ 8 ≤ length (now out) ⌝ }
     ensures { λ _. ⌜ Answered (lent wholeFloor (now (stations .entry)) (now (carts .entry)) (now (messages .entry)) (now (lines .entry)) (now (texts .entry))) (lent wholeFloor (now (stations .exit)) (now (carts .exit)) (now (messages .entry)) (now (lines .entry)) (now (texts .entry))) (enter station cart) [] (now (out .entry)) (now (out .exit)) ⌝ }
 {
     let answer = controller::enter(
@@ -111,7 +123,7 @@ pub extern "C" fn mekhturia_send(
     text: &[u8],
     out: &mut [u64],
 )
-    requires { ⌜ 7 ≤ length (now out) ⌝ }
+    requires { ⌜ 8 ≤ length (now out) ⌝ }
     ensures { λ _. ⌜ Answered (lent wholeFloor (now (stations .entry)) (now (carts .entry)) (now (messages .entry)) (now (lines .entry)) (now (texts .entry))) (lent wholeFloor (now (stations .exit)) (now (carts .entry)) (now (messages .exit)) (now (lines .exit)) (now (texts .exit))) (send station set (now (text .entry))) [] (now (out .entry)) (now (out .exit)) ⌝ }
 {
     let answer = controller::send(
@@ -139,7 +151,7 @@ pub extern "C" fn mekhturia_wire(
     to: u64,
     out: &mut [u64],
 )
-    requires { ⌜ 7 ≤ length (now out) ⌝ }
+    requires { ⌜ 8 ≤ length (now out) ⌝ }
     ensures { λ _. ⌜ Answered (lent wholeFloor (now (stations .entry)) (now (carts .entry)) (now (messages .entry)) (now (lines .entry)) (now (texts .entry))) (lent wholeFloor (now (stations .exit)) (now (carts .exit)) (now (messages .exit)) (now (lines .exit)) (now (texts .entry))) (wire from to) [] (now (out .entry)) (now (out .exit)) ⌝ }
 {
     let answer = controller::wire(
@@ -167,7 +179,7 @@ pub extern "C" fn mekhturia_radio(
     buffer: &mut [u8],
     out: &mut [u64],
 )
-    requires { ⌜ 7 ≤ length (now out) ⌝ }
+    requires { ⌜ 8 ≤ length (now out) ⌝ }
     ensures { λ _. ⌜ AnsweredText (lent wholeFloor (now (stations .entry)) (now (carts .entry)) (now (messages .entry)) (now (lines .entry)) (now (texts .entry))) (lent wholeFloor (now (stations .exit)) (now (carts .exit)) (now (messages .entry)) (now (lines .exit)) (now (texts .entry))) station cart (now (buffer .entry)) (now (buffer .exit)) (now (out .entry)) (now (out .exit)) ⌝ }
 {
     let answer = controller::radio(
@@ -195,7 +207,7 @@ pub extern "C" fn mekhturia_move(
     to: u64,
     out: &mut [u64],
 )
-    requires { ⌜ 7 ≤ length (now out) ⌝ }
+    requires { ⌜ 8 ≤ length (now out) ⌝ }
     ensures { λ _. ⌜ Answered (lent wholeFloor (now (stations .entry)) (now (carts .entry)) (now (messages .entry)) (now (lines .entry)) (now (texts .entry))) (lent wholeFloor (now (stations .entry)) (now (carts .exit)) (now (messages .entry)) (now (lines .exit)) (now (texts .entry))) (move cart to) [] (now (out .entry)) (now (out .exit)) ⌝ }
 {
     let answer = controller::move_cart(
@@ -222,7 +234,7 @@ pub extern "C" fn mekhturia_flag(
     steady: u64,
     out: &mut [u64],
 )
-    requires { ⌜ 7 ≤ length (now out) ⌝ }
+    requires { ⌜ 8 ≤ length (now out) ⌝ }
     ensures { λ _. ⌜ Answered (lent wholeFloor (now (stations .entry)) (now (carts .entry)) (now (messages .entry)) (now (lines .entry)) (now (texts .entry))) (lent wholeFloor (now (stations .entry)) (now (carts .exit)) (now (messages .entry)) (now (lines .entry)) (now (texts .entry))) (flag cart (not (eqb steady 0))) [] (now (out .entry)) (now (out .exit)) ⌝ }
 {
     let answer = controller::flag_cart(
@@ -250,7 +262,7 @@ pub extern "C" fn mekhturia_step_enter(
     out: &mut [u64],
 )
     requires { ⌜ Ready (lent wholeFloor (now stations) (now carts) (now messages) (now lines) (now texts)) ⌝ }
-    requires { ⌜ 7 ≤ length (now out) ⌝ }
+    requires { ⌜ 8 ≤ length (now out) ⌝ }
     ensures { λ _. ⌜ Answered (lent wholeFloor (now (stations .entry)) (now (carts .entry)) (now (messages .entry)) (now (lines .entry)) (now (texts .entry))) (lent wholeFloor (now (stations .exit)) (now (carts .exit)) (now (messages .entry)) (now (lines .entry)) (now (texts .entry))) (enter station cart) [] (now (out .entry)) (now (out .exit)) ⌝ }
 {
     let answer = event_carts::enter(
@@ -280,7 +292,7 @@ pub extern "C" fn mekhturia_step_send(
 )
     requires { ⌜ Ready (lent wholeFloor (now stations) (now carts) (now messages) (now lines) (now texts)) ⌝ }
     requires { ⌜ length (now text) ≤ 32 ⌝ }
-    requires { ⌜ 7 ≤ length (now out) ⌝ }
+    requires { ⌜ 8 ≤ length (now out) ⌝ }
     ensures { λ _. ⌜ Answered (lent wholeFloor (now (stations .entry)) (now (carts .entry)) (now (messages .entry)) (now (lines .entry)) (now (texts .entry))) (lent wholeFloor (now (stations .exit)) (now (carts .entry)) (now (messages .exit)) (now (lines .exit)) (now (texts .exit))) (send station set (now (text .entry))) [] (now (out .entry)) (now (out .exit)) ⌝ }
 {
     let answer = event_send::send(
@@ -310,7 +322,7 @@ pub extern "C" fn mekhturia_step_wire(
     out: &mut [u64],
 )
     requires { ⌜ Ready (lent wholeFloor (now stations) (now carts) (now messages) (now lines) (now texts)) ⌝ }
-    requires { ⌜ 7 ≤ length (now out) ⌝ }
+    requires { ⌜ 8 ≤ length (now out) ⌝ }
     ensures { λ _. ⌜ Answered (lent wholeFloor (now (stations .entry)) (now (carts .entry)) (now (messages .entry)) (now (lines .entry)) (now (texts .entry))) (lent wholeFloor (now (stations .exit)) (now (carts .exit)) (now (messages .exit)) (now (lines .exit)) (now (texts .entry))) (wire from to) [] (now (out .entry)) (now (out .exit)) ⌝ }
 {
     let answer = event_wire::wire(
@@ -339,7 +351,7 @@ pub extern "C" fn mekhturia_step_radio(
     out: &mut [u64],
 )
     requires { ⌜ Ready (lent wholeFloor (now stations) (now carts) (now messages) (now lines) (now texts)) ⌝ }
-    requires { ⌜ 7 ≤ length (now out) ⌝ }
+    requires { ⌜ 8 ≤ length (now out) ⌝ }
     ensures { λ _. ⌜ AnsweredText (lent wholeFloor (now (stations .entry)) (now (carts .entry)) (now (messages .entry)) (now (lines .entry)) (now (texts .entry))) (lent wholeFloor (now (stations .exit)) (now (carts .exit)) (now (messages .entry)) (now (lines .exit)) (now (texts .entry))) station cart (now (buffer .entry)) (now (buffer .exit)) (now (out .entry)) (now (out .exit)) ⌝ }
 {
     let answer = event_radio::radio_into(
@@ -368,7 +380,7 @@ pub extern "C" fn mekhturia_step_move(
     out: &mut [u64],
 )
     requires { ⌜ Ready (lent wholeFloor (now stations) (now carts) (now messages) (now lines) (now texts)) ⌝ }
-    requires { ⌜ 7 ≤ length (now out) ⌝ }
+    requires { ⌜ 8 ≤ length (now out) ⌝ }
     ensures { λ _. ⌜ Answered (lent wholeFloor (now (stations .entry)) (now (carts .entry)) (now (messages .entry)) (now (lines .entry)) (now (texts .entry))) (lent wholeFloor (now (stations .entry)) (now (carts .exit)) (now (messages .entry)) (now (lines .exit)) (now (texts .entry))) (move cart to) [] (now (out .entry)) (now (out .exit)) ⌝ }
 {
     let answer = event_carts::move_cart(
@@ -396,7 +408,7 @@ pub extern "C" fn mekhturia_step_flag(
     out: &mut [u64],
 )
     requires { ⌜ Ready (lent wholeFloor (now stations) (now carts) (now messages) (now lines) (now texts)) ⌝ }
-    requires { ⌜ 7 ≤ length (now out) ⌝ }
+    requires { ⌜ 8 ≤ length (now out) ⌝ }
     ensures { λ _. ⌜ Answered (lent wholeFloor (now (stations .entry)) (now (carts .entry)) (now (messages .entry)) (now (lines .entry)) (now (texts .entry))) (lent wholeFloor (now (stations .entry)) (now (carts .exit)) (now (messages .entry)) (now (lines .entry)) (now (texts .entry))) (flag cart (not (eqb steady 0))) [] (now (out .entry)) (now (out .exit)) ⌝ }
 {
     let answer = event_carts::flag_cart(

@@ -11,11 +11,13 @@ use borrow.Author.Tests.{eq-eqb, ne-eqb}
 use Rattle.protocol.proofs.Tests.{by-lt}
 use Rattle.protocol.specs.Events.{Report, Answer, accepted, refused}
 use Rattle.protocol.specs.Printed.{digitChar, decimal, hexadecimal, field, textField, reportFields, restOf, lineOf}
-use Rattle.frame_lines.specs.Lines.{written, Wrote, Began, fourOctets}
+use Rattle.frame_lines.specs.Lines.{written, Wrote, Began, fourOctets, longestNumber, longestField, shortField, longestPair, longestHead, longestNumbers}
+use Rattle.frame_lines.specs.Lines.{textOctets, textDigits, longestText, longestFields, longestRest, longestNo, shortRest}
 use Rattle.frame_lines.proofs.Octets.{wrote-one, wrote-all, wrote-then, wrote-wider, began-all, began-then, began-more, pair-stored}
 use Rattle.frame_lines.proofs.Numbers.{digit-small, decimal-one, some-digit, word-of, digit-written, hex-length, hex-front}
 
-pub field-written : (n : ℕ) (l : List ℕ) (at : ℕ) {l₁ : List ℕ} {next : ℕ} → at + 21 ≤ length l → Wrote 20 (decimal n) (set l at 32) l₁ (at + 1) next → Wrote 21 (field n) l l₁ at next
+pub field-written : (n : ℕ) (l : List ℕ) (at : ℕ) {l₁ : List ℕ} {next : ℕ} → at + longestField ≤ length l
+    → Wrote longestNumber (decimal n) (set l at 32) l₁ (at + 1) next → Wrote longestField (field n) l l₁ at next
 field-written n l at h w = wrote-then (omega arith) (wrote-one l at 32 (at + 1) (omega arith) refl) w
 
 -- a number of one digit
@@ -26,15 +28,15 @@ field-short n x l at h i e =
     (digit-written (set l at 32) (at + 1) n x (at + 2) i (simp length-set (omega arith)) e (omega arith))
 
 -- a number by the table
-pub field-spelled : (n : ℕ) (l : List ℕ) (at : ℕ) {l₁ : List ℕ} {next : ℕ} → at + 5 ≤ length l → Began 3 4 (decimal n) (set l at 32) l₁ (at + 1) next
-    → Began 3 5 (field n) l l₁ at next
+pub field-spelled : (n : ℕ) (l : List ℕ) (at : ℕ) {l₁ : List ℕ} {next : ℕ} → at + shortField ≤ length l → Began 3 4 (decimal n) (set l at 32) l₁ (at + 1) next
+    → Began 3 shortField (field n) l l₁ at next
 field-spelled n l at h w = began-more (began-all 3 (omega arith) (wrote-one l at 32 (at + 1) (omega arith) refl)) w
 
 -- two of them, in a word
-pub fields-short : (x y : ℕ) (l l₁ : List ℕ) (at : ℕ) → at + 42 ≤ length l → x < 10 → y < 10
-    → l₁ ≡ written l at (fourOctets (807415840 + x * 256 + y * 16777216)) → Wrote 42 (field x ++ field y) l l₁ at (at + 4)
+pub fields-short : (x y : ℕ) (l l₁ : List ℕ) (at : ℕ) → at + longestPair ≤ length l → x < 10 → y < 10
+    → l₁ ≡ written l at (fourOctets (807415840 + x * 256 + y * 16777216)) → Wrote longestPair (field x ++ field y) l l₁ at (at + 4)
 fields-short x y l l₁ at h i j q =
-    subst (λ (a : List ℕ). Wrote 42 a l l₁ at (at + 4)) (ap₂ (λ (a b : List ℕ). (32 ∷ a) ++ (32 ∷ b)) (sym (decimal-one x i)) (sym (decimal-one y j)))
+    subst (λ (a : List ℕ). Wrote longestPair a l l₁ at (at + 4)) (ap₂ (λ (a b : List ℕ). (32 ∷ a) ++ (32 ∷ b)) (sym (decimal-one x i)) (sym (decimal-one y j)))
     (wrote-all l at (32 ∷ digitChar x ∷ 32 ∷ digitChar y ∷ []) (omega arith) refl (omega arith) (q ∙ ap (λ (a : List ℕ). written l at a) octets))
   where
     octets : fourOctets (807415840 + x * 256 + y * 16777216) ≡ 32 ∷ digitChar x ∷ 32 ∷ digitChar y ∷ []
@@ -43,24 +45,30 @@ fields-short x y l l₁ at h i j q =
         let b = digit-small y j in
         word-of _ 32 (digitChar x) 32 (digitChar y) (omega arith) (omega arith) (omega arith) (omega arith)
 
+-- two pairs of fields are four fields
+pub four-joined : (x y z w : ℕ) {over most : ℕ} {l l₁ : List ℕ} {at next : ℕ} → Began over most (field x ++ field y ++ (field z ++ field w)) l l₁ at next
+    → Began over most (field x ++ field y ++ field z ++ field w) l l₁ at next
+four-joined x y z w {over} {most} {l} {l₁} {at} {next} u =
+    subst (λ (a : List ℕ). Began over most a l l₁ at next) (sym (append-assoc (field x ++ field y) (field z) (field w))) u
+
 -- A TEXT
 
 none-of : (room : List ℕ) (size : ℕ) → size ≡ 0 → take size room ≡ []
 none-of room zero e = refl
 none-of room (suc size) e = absurd (omega arith)
 
-pub text-empty : (room l : List ℕ) (at size : ℕ) → size ≡ 0 → at + 65 ≤ length l
-    → Wrote 65 (textField (take size room)) l (set (set l at 32) (at + 1) 45) at (at + 2)
+pub text-empty : (room l : List ℕ) (at size : ℕ) → size ≡ 0 → at + longestText ≤ length l
+    → Wrote longestText (textField (take size room)) l (set (set l at 32) (at + 1) 45) at (at + 2)
 text-empty room l at size e h = rw (none-of room size e) (wrote-wider (omega arith) (pair-stored l at 32 45 (omega arith)))
 
-some-text : (text l l₁ : List ℕ) (at next : ℕ) → 0 < length text → at + 65 ≤ length l → Wrote 64 (hexadecimal text) (set l at 32) l₁ (at + 1) next
-    → Wrote 65 (textField text) l l₁ at next
+some-text : (text l l₁ : List ℕ) (at next : ℕ) → 0 < length text → at + longestText ≤ length l → Wrote textDigits (hexadecimal text) (set l at 32) l₁ (at + 1) next
+    → Wrote longestText (textField text) l l₁ at next
 some-text [] l l₁ at next e h w = absurd (omega arith)
 some-text (x ∷ text) l l₁ at next e h w = wrote-then (omega arith) (wrote-one l at 32 (at + 1) (omega arith) refl) w
 
 -- the first digits of a room
-pub text-some : (room digits l l₁ : List ℕ) (at size : ℕ) → (size ≡ 0 → ⊥) → size ≤ 32 → length room ≡ 32 → at + 65 ≤ length l
-    → digits ≡ hexadecimal room → l₁ ≡ written (set l at 32) (at + 1) (take (2 * size) digits) → Wrote 65 (textField (take size room)) l l₁ at (at + 1 + 2 * size)
+pub text-some : (room digits l l₁ : List ℕ) (at size : ℕ) → (size ≡ 0 → ⊥) → size ≤ textOctets → length room ≡ textOctets → at + longestText ≤ length l
+    → digits ≡ hexadecimal room → l₁ ≡ written (set l at 32) (at + 1) (take (2 * size) digits) → Wrote longestText (textField (take size room)) l l₁ at (at + 1 + 2 * size)
 text-some room digits l l₁ at size e k r h d q =
     some-text (take size room) l l₁ at (at + 1 + 2 * size) (let z = few in let y = some in omega arith) h
     (wrote-all (set l at 32) (at + 1) (hexadecimal (take size room))
@@ -78,8 +86,12 @@ text-some room digits l l₁ at size e k r h d q =
 
 -- A REPORT
 
+-- kind, a, b, p; and behind them w and q
+abbrev headOf : Report → List ℕ
+headOf r = field (r .kind) ++ field (r .a) ++ field (r .b) ++ field (r .p)
+
 abbrev numbers : Report → List ℕ
-numbers r = field (r .kind) ++ field (r .a) ++ field (r .b) ++ field (r .p) ++ field (r .w)
+numbers r = headOf r ++ field (r .w) ++ field (r .q)
 
 -- two fields cover three octets, and so do all
 fields-long : (x y : ℕ) → 3 ≤ length (field x ++ field y)
@@ -87,42 +99,40 @@ fields-long x y = let z = length-append (field x) (field y) in let a = some-digi
 
 report-long : (r : Report) → 3 ≤ length (reportFields r)
 report-long r =
-    let z = fields-long (r .kind) (r .a) in
-    let y = length-append (field (r .kind) ++ field (r .a)) (field (r .b)) in
-    let x = length-append (field (r .kind) ++ field (r .a) ++ field (r .b)) (field (r .p)) in
-    let w = length-append (field (r .kind) ++ field (r .a) ++ field (r .b) ++ field (r .p)) (field (r .w)) in
+    let z = fields-long (r .w) (r .q) in
+    let y = length-append (headOf r) (field (r .w) ++ field (r .q)) in
+    let x = ap (λ (l : List ℕ). length l) (append-assoc (headOf r) (field (r .w)) (field (r .q))) in
     let v = length-append (numbers r) (cond (eqb (r .kind) 4) (textField (r .text)) []) in
     omega arith
 
-module _ (r : Report) {l l₁ l₂ : List ℕ} {at p₁ p₂ : ℕ} (room : at + 170 ≤ length l)
-    (head : Began 3 63 (field (r .kind) ++ field (r .a) ++ field (r .b)) l l₁ at p₁)
-    (last : Wrote 42 (field (r .p) ++ field (r .w)) l₁ l₂ p₁ p₂) where
-  numbers-written : Wrote 105 (numbers r) l l₂ at p₂
+module _ (r : Report) {l l₁ l₂ : List ℕ} {at p₁ p₂ : ℕ} (room : at + longestFields ≤ length l) (head : Began 3 longestHead (headOf r) l l₁ at p₁)
+    (last : Wrote longestPair (field (r .w) ++ field (r .q)) l₁ l₂ p₁ p₂) where
+  numbers-written : Wrote longestNumbers (numbers r) l l₂ at p₂
   numbers-written =
-      subst (λ (x : List ℕ). Wrote 105 x l l₂ at p₂)
-      (sym (append-assoc (field (r .kind) ++ field (r .a) ++ field (r .b)) (field (r .p)) (field (r .w))))
-      (began-then (fields-long (r .p) (r .w)) head last)
+      subst (λ (x : List ℕ). Wrote longestNumbers x l l₂ at p₂) (sym (append-assoc (headOf r) (field (r .w)) (field (r .q))))
+      (began-then (fields-long (r .w) (r .q)) head last)
 
-  pub with-text : {l₃ : List ℕ} {next : ℕ} → r .kind ≡ 4 → Wrote 65 (textField (r .text)) l₂ l₃ p₂ next → Wrote 170 (reportFields r) l l₃ at next
+  pub with-text : {l₃ : List ℕ} {next : ℕ} → r .kind ≡ 4 → Wrote longestText (textField (r .text)) l₂ l₃ p₂ next
+      → Wrote longestFields (reportFields r) l l₃ at next
   with-text {l₃} {next} k t =
-      subst (λ (x : Bool). Wrote 170 (numbers r ++ cond x (textField (r .text)) []) l l₃ at next) (sym (eq-eqb (r .kind) 4 k))
+      subst (λ (x : Bool). Wrote longestFields (numbers r ++ cond x (textField (r .text)) []) l l₃ at next) (sym (eq-eqb (r .kind) 4 k))
       (wrote-then (omega arith) numbers-written t)
 
-  pub without-text : (r .kind ≡ 4 → ⊥) → Wrote 170 (reportFields r) l l₂ at p₂
+  pub without-text : (r .kind ≡ 4 → ⊥) → Wrote longestFields (reportFields r) l l₂ at p₂
   without-text k =
-      subst (λ (x : Bool). Wrote 170 (numbers r ++ cond x (textField (r .text)) []) l l₂ at p₂) (sym (ne-eqb (r .kind) 4 k))
-      (subst (λ (x : List ℕ). Wrote 170 x l l₂ at p₂) (sym (append-nil (numbers r))) (wrote-wider (omega arith) numbers-written))
+      subst (λ (x : Bool). Wrote longestFields (numbers r ++ cond x (textField (r .text)) []) l l₂ at p₂) (sym (ne-eqb (r .kind) 4 k))
+      (subst (λ (x : List ℕ). Wrote longestFields x l l₂ at p₂) (sym (append-nil (numbers r))) (wrote-wider (omega arith) numbers-written))
 
 -- LINES
 
 -- the rest of a line
-pub accepted-ended : (r : Report) {l l₁ : List ℕ} {at q : ℕ} → at + 171 ≤ length l → Wrote 170 (reportFields r) l l₁ at q
-    → Wrote 171 (restOf (accepted r)) l (set l₁ q 10) at (q + 1)
+pub accepted-ended : (r : Report) {l l₁ : List ℕ} {at q : ℕ} → at + longestRest ≤ length l → Wrote longestFields (reportFields r) l l₁ at q
+    → Wrote longestRest (restOf (accepted r)) l (set l₁ q 10) at (q + 1)
 unfolding restOf
 accepted-ended r {l} {l₁} {at} {q} h v = wrote-then (omega arith) v (wrote-one l₁ q 10 (q + 1) (let z = v .few in let y = v .kept in omega arith) refl)
 
-pub refused-ended : (number : ℕ) {l l₁ l₂ : List ℕ} {at p q : ℕ} → at + 25 ≤ length l → Wrote 3 (32 ∷ 110 ∷ 111 ∷ []) l l₁ at p → Wrote 21 (field number) l₁ l₂ p q
-    → Wrote 25 (restOf (refused number)) l (set l₂ q 10) at (q + 1)
+pub refused-ended : (number : ℕ) {l l₁ l₂ : List ℕ} {at p q : ℕ} → at + shortRest ≤ length l → Wrote longestNo (32 ∷ 110 ∷ 111 ∷ []) l l₁ at p
+    → Wrote longestField (field number) l₁ l₂ p q → Wrote shortRest (restOf (refused number)) l (set l₂ q 10) at (q + 1)
 unfolding restOf
 refused-ended number {l} {l₁} {l₂} {at} {p} {q} h v w =
     let both = wrote-then (omega arith) v w in
@@ -135,7 +145,7 @@ rest-long (accepted r) = let z = length-append (reportFields r) (10 ∷ []) in l
 rest-long (refused n) = let z = length-append (32 ∷ 110 ∷ 111 ∷ field n) (10 ∷ []) in omega arith
 
 -- the index and the rest are the line
-pub line-written : (index : ℕ) (a : Answer) {most : ℕ} {l l₁ l₂ : List ℕ} {at p q : ℕ} → Began 3 20 (decimal index) l l₁ at p → Wrote most (restOf a) l₁ l₂ p q
-    → Wrote (20 + most) (lineOf index a) l l₂ at q
+pub line-written : (index : ℕ) (a : Answer) {most : ℕ} {l l₁ l₂ : List ℕ} {at p q : ℕ} → Began 3 longestNumber (decimal index) l l₁ at p
+    → Wrote most (restOf a) l₁ l₂ p q → Wrote (longestNumber + most) (lineOf index a) l l₂ at q
 unfolding lineOf
 line-written index a u v = began-then (rest-long a) u v

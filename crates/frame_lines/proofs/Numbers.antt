@@ -11,7 +11,7 @@ use lib.Seq.{take-suc, take-all, take-nil, take-at, getD-set-same, getD-set-othe
 use borrow.Author.Tests.{lt-ltb, le-ltb}
 use Rattle.protocol.proofs.Tests.{by-test, by-lt}
 use Rattle.protocol.specs.Printed.{digitChar, decimalDigits, decimal, hexadecimal}
-use Rattle.frame_lines.specs.Lines.{written, Wrote, Began, Spells, lastDigits, fourOctets}
+use Rattle.frame_lines.specs.Lines.{written, Wrote, Began, Spells, lastDigits, fourOctets, longestNumber, textOctets, textDigits}
 use Rattle.frame_lines.proofs.Octets.{written-none, written-whole, written-last, wrote-one, wrote-all, wrote-join, began-some, began-then, pair-stored, four-stored}
 
 -- DIGITS
@@ -117,8 +117,8 @@ few-digits (suc j) n h =
     (λ s. let z = length-one n s in omega arith)
     (λ s. let z = length-more n s in let w = few-digits j (n / 10) (omega arith) in omega arith)
 
-pub at-most-twenty : (n : ℕ) → n < 18446744073709551616 → length (decimal n) ≤ 20
-at-most-twenty n h = few-digits 19 n (let z : 18446744073709551616 ≤ 10 ^ 20 = omega arith in omega arith)
+pub number-long : (n : ℕ) → n < 18446744073709551616 → length (decimal n) ≤ longestNumber
+number-long n h = few-digits 19 n (let z : 18446744073709551616 ≤ 10 ^ 20 = omega arith in omega arith)
 
 -- all its digits are its last ones
 last-all : (k n : ℕ) → n < k → decimal n ≡ lastDigits (length (decimal n)) n
@@ -438,13 +438,13 @@ hex-more text i x h e =
     ∙ sym (hex-append (take i text) (getD text i 0 ∷ []))
     ∙ ap (λ (k : List ℕ). hexadecimal k) (sym (take-suc text i 0 h) ∙ ap (λ (n : ℕ). take n text) (sym (add-one i)))
 
-pub hex-stored : (text l l₁ : List ℕ) (i x u v : ℕ) → i < 32 → length text ≡ 32 → length l ≡ 64
+pub hex-stored : (text l l₁ : List ℕ) (i x u v : ℕ) → i < textOctets → length text ≡ textOctets → length l ≡ textDigits
     → x ≡ getD text i 0 → u ≡ digitChar (x / 16) → v ≡ digitChar (x % 16)
-    → Wrote 64 (hexadecimal (take i text)) l l₁ 0 (2 * i)
-    → Wrote 64 (hexadecimal (take (i + 1) text)) l (set (set l₁ (2 * i) u) (2 * i + 1) v) 0 (2 * (i + 1))
+    → Wrote textDigits (hexadecimal (take i text)) l l₁ 0 (2 * i)
+    → Wrote textDigits (hexadecimal (take (i + 1) text)) l (set (set l₁ (2 * i) u) (2 * i + 1) v) 0 (2 * (i + 1))
 hex-stored text l l₁ i x u v h t r e eu ev w =
-    subst (λ (a : List ℕ). Wrote 64 a l (set (set l₁ (2 * i) u) (2 * i + 1) v) 0 (2 * (i + 1))) line
-    (wrote-join 64 (omega arith) (omega arith) w two)
+    subst (λ (a : List ℕ). Wrote textDigits a l (set (set l₁ (2 * i) u) (2 * i + 1) v) 0 (2 * (i + 1))) line
+    (wrote-join textDigits (omega arith) (omega arith) w two)
   where
     line : hexadecimal (take i text) ++ (u ∷ v ∷ []) ≡ hexadecimal (take (i + 1) text)
     line = ap₂ (λ (y z : ℕ). hexadecimal (take i text) ++ (y ∷ z ∷ [])) eu ev ∙ hex-more text i x (omega arith) e
@@ -455,7 +455,7 @@ hex-stored text l l₁ i x u v h t r e eu ev w =
         (let z : 2 * i + 2 ≡ 2 * (i + 1) = omega arith in z)
         (pair-stored l₁ (2 * i) u v (let k = w .kept in omega arith))
 
-pub hex-none : (text l : List ℕ) → Wrote 64 (hexadecimal (take 0 text)) l l 0 0
+pub hex-none : (text l : List ℕ) → Wrote textDigits (hexadecimal (take 0 text)) l l 0 0
 unfolding hexadecimal
 hex-none text l = record { octets = sym (written-none l 0); behind = refl; few = omega arith; kept = refl }
 
@@ -464,7 +464,7 @@ unfolding hexadecimal
 hex-length [] = refl
 hex-length (x ∷ text) = let z = hex-length text in omega arith
 
-pub hex-done : (text l l₁ : List ℕ) (i : ℕ) → i ≡ 32 → length text ≡ 32 → length l ≡ 64 → Wrote 64 (hexadecimal (take i text)) l l₁ 0 (2 * i)
+pub hex-done : (text l l₁ : List ℕ) (i : ℕ) → i ≡ textOctets → length text ≡ textOctets → length l ≡ textDigits → Wrote textDigits (hexadecimal (take i text)) l l₁ 0 (2 * i)
     → l₁ ≡ hexadecimal text
 hex-done text l l₁ i e t r w =
     w .octets

@@ -233,28 +233,28 @@ written-again l at a k h =
     past : drop k (drop (at + length a) l) ≡ drop (at + length a + k) l
     past = drop-drop k (at + length a) l
 
--- all of d is written, and what stood behind the first of it is put back
-pub front-copied : (l l₁ l₂ d b b₁ : List ℕ) (at count : ℕ) → at + 128 ≤ length l → length d ≡ 64 → count ≤ 64 → length b ≡ 64
-    → b₁ ≡ written b 0 (take 64 (drop (at + count) l)) → l₁ ≡ written l at (take 64 (drop 0 d)) → l₂ ≡ written l₁ (at + count) (take 64 (drop 0 b₁))
+-- all of d, so many octets, is written, and what stood behind the first of it is put back
+pub front-copied : (many : ℕ) (l l₁ l₂ d b b₁ : List ℕ) (at count : ℕ) → at + many + many ≤ length l → length d ≡ many → count ≤ many → length b ≡ many
+    → b₁ ≡ written b 0 (take many (drop (at + count) l)) → l₁ ≡ written l at (take many (drop 0 d)) → l₂ ≡ written l₁ (at + count) (take many (drop 0 b₁))
     → l₂ ≡ written l at (take count d)
-front-copied l l₁ l₂ d b b₁ at count h m i n p q r =
+front-copied many l l₁ l₂ d b b₁ at count h m i n p q r =
     r
     ∙ ap₂ (λ (x y : List ℕ). written x (at + count) y) (q ∙ ap (λ (x : List ℕ). written l at x) (take-all d m)) kept
     ∙ written-over l at d old count (omega arith) (omega arith) (let z = long in omega arith)
-    ∙ ap (λ (k : ℕ). written l at (take count d ++ take 64 (drop (at + k) l))) (sym front)
-    ∙ written-again l at (take count d) 64 (let z = front in omega arith)
+    ∙ ap (λ (k : ℕ). written l at (take count d ++ take many (drop (at + k) l))) (sym front)
+    ∙ written-again l at (take count d) many (let z = front in omega arith)
   where
-    take-all : (x : List ℕ) → length x ≡ 64 → take 64 x ≡ x
+    take-all : (x : List ℕ) → length x ≡ many → take many x ≡ x
     take-all x e = ap (λ (k : ℕ). take k x) (sym e) ∙ take-length x
 
     front : length (take count d) ≡ count
     front = length-take-le count d (omega arith)
 
     old : List ℕ
-    old = take 64 (drop (at + count) l)
+    old = take many (drop (at + count) l)
 
-    long : length old ≡ 64
-    long = length-take-le 64 (drop (at + count) l) (let z = length-drop (at + count) l in omega arith)
+    long : length old ≡ many
+    long = length-take-le many (drop (at + count) l) (let z = length-drop (at + count) l in omega arith)
 
-    kept : take 64 (drop 0 b₁) ≡ old
-    kept = ap (λ (x : List ℕ). take 64 x) (p ∙ written-whole b old (long ∙ sym n)) ∙ take-all old long
+    kept : take many (drop 0 b₁) ≡ old
+    kept = ap (λ (x : List ℕ). take many x) (p ∙ written-whole b old (long ∙ sym n)) ∙ take-all old long

@@ -28,26 +28,77 @@ pub record Began (over most : ℕ) (line l l′ : List ℕ) (at next : ℕ) : Ty
 
 -- LINES
 
--- the longest line: a number has at most 20 digits, and a text at most 32 octets
+-- How many octets each part of a line has at most, each but the smallest as the sum of what it consists of: no proof and no contract has the sums
+-- themselves, so a longer line is a change here and of the constants in src/lib.rt.
+
+-- a number below 2 ^ 64
+abbrev pub longestNumber : ℕ
+longestNumber = 20
+
+-- a text, before it is printed
+abbrev pub textOctets : ℕ
+textOctets = 32
+
+-- a blank and a number
+abbrev pub longestField : ℕ
+longestField = 1 + longestNumber
+
+-- a blank and a number that the table has
+abbrev pub shortField : ℕ
+shortField = 1 + 4
+
+-- the numbers "kind, a, b, p", then "w" and "q"
+abbrev pub longestHead : ℕ
+longestHead = 4 * longestField
+
+abbrev pub longestPair : ℕ
+longestPair = 2 * longestField
+
+abbrev pub longestNumbers : ℕ
+longestNumbers = longestHead + longestPair
+
+-- a text's digits, two for each octet, and a blank before them
+abbrev pub textDigits : ℕ
+textDigits = 2 * textOctets
+
+abbrev pub longestText : ℕ
+longestText = 1 + textDigits
+
+-- the numbers and the text; then the line end, and before all this the index
+abbrev pub longestFields : ℕ
+longestFields = longestNumbers + longestText
+
 abbrev pub longestRest : ℕ
-longestRest = 5 * 21 + 65 + 1
+longestRest = longestFields + 1
 
 abbrev pub longestLine : ℕ
-longestLine = 20 + longestRest
+longestLine = longestNumber + longestRest
 
--- the room that a line is written in: 64 octets are moved behind the text, and put back
+-- the rooms that these are written in, where a text is among them: as many octets as the longest text has digits are moved behind it, and put back
+abbrev pub digitsRoom : ℕ
+digitsRoom = textDigits + textDigits
+
+abbrev pub textRoom : ℕ
+textRoom = longestText + textDigits
+
+abbrev pub fieldsRoom : ℕ
+fieldsRoom = longestFields + textDigits
+
 abbrev pub restRoom : ℕ
-restRoom = longestRest + 64
+restRoom = longestRest + textDigits
 
 abbrev pub lineRoom : ℕ
-lineRoom = 20 + restRoom
+lineRoom = longestNumber + restRoom
 
--- the longest line of a refusal
+-- the line of a refusal: a blank and "no", a number and the line end
+abbrev pub longestNo : ℕ
+longestNo = 3
+
 abbrev pub shortRest : ℕ
-shortRest = 3 + 21 + 1
+shortRest = longestNo + longestField + 1
 
 abbrev pub longestRefusal : ℕ
-longestRefusal = 20 + shortRest
+longestRefusal = longestNumber + shortRest
 
 -- the last k decimal digits of n
 unfoldable pub lastDigits : ℕ → ℕ → List ℕ

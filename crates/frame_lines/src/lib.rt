@@ -1,5 +1,5 @@
-// The printed run: "prints one line each: index from 0, kind, a, b, p, w. Refused: index, no, refusal". A line is written into octets that
-// the caller lends; everything before it and behind it stays.
+// The printed run: "prints one line each: index from 0, kind, a, b, p, w. Refused: index, no, refusal", and "each accepted line gains a field q
+// after w". A line is written into octets that the caller lends; everything before it and behind it stays.
 use reports::Report;
 ghost use mathlib.Core.Path.{_≡_};
 ghost use mathlib.Core.Bool.{true, cond};
@@ -10,11 +10,26 @@ ghost use lib.ListN.{length, take, drop};
 ghost use Rattle.protocol.specs.Events.{refused};
 ghost use Rattle.protocol.specs.Printed.{digitChar, decimal, hexadecimal, field, textField, reportFields, restOf, lineOf};
 ghost use Rattle.reports.specs.Effects.{reportIn, acceptedIn};
-ghost use Rattle.frame_lines.specs.Lines.{written, Wrote, Began, Spells, Tabled, lastDigits, fourOctets, longestRest, restRoom, shortRest, longestRefusal};
+ghost use Rattle.frame_lines.specs.Lines.{written, Wrote, Began, Spells, Tabled, lastDigits, fourOctets};
+ghost use Rattle.frame_lines.specs.Lines.{longestNumber, longestField, shortField, longestPair, longestHead, textOctets, textDigits, longestText, longestFields, longestRest};
+ghost use Rattle.frame_lines.specs.Lines.{digitsRoom, textRoom, fieldsRoom, restRoom, longestNo, shortRest, longestRefusal};
 
-// The room that a line is written in. The longest line has 191 octets: six numbers of 20 digits, five blanks before them, a blank and a text of 32
-// octets, and the line end. As many octets as the longest text has digits are moved behind it, and put back.
-pub const LINE_ROOM: usize = 255;
+// The longest number has so many digits.
+const LONGEST_NUMBER: usize = 20;
+
+// So many numbers stand behind the index, each with a blank before it: kind, a, b, p, w and q.
+const FIELDS: usize = 6;
+
+// The longest text has so many octets, and each is printed as two digits.
+const TEXT_OCTETS: usize = 32;
+
+const TEXT_DIGITS: usize = 2 * TEXT_OCTETS;
+
+// The longest line: the index, the numbers, a blank and the text, and the line end.
+const LONGEST_LINE: usize = LONGEST_NUMBER + FIELDS * (1 + LONGEST_NUMBER) + 1 + TEXT_DIGITS + 1;
+
+// The room that a line is written in. As many octets as the longest text has digits are moved behind it, and put back.
+pub const LINE_ROOM: usize = LONGEST_LINE + TEXT_DIGITS;
 
 // So many numbers are spelled in the lent table: those of at most four digits.
 const NUMBERS: usize = 10000;
@@ -42,7 +57,7 @@ fn digit(d: u64) -> u8
 
 // How many decimal digits a number has. A division takes off four of them.
 fn digits_of(n: u64) -> usize
-    ensures { λ r. ⌜ (r ≡ length (decimal n)) × (r ≤ 20) ⌝ }
+    ensures { λ r. ⌜ (r ≡ length (decimal n)) × (r ≤ longestNumber) ⌝ }
 {
     let mut count: usize = 1;
     let mut left = n;
@@ -138,8 +153,8 @@ fn put_small(out: &mut [u8], at: usize, n: u64) -> usize
 
 // A number in decimal. Most have at most four digits, and few have more than eight, which are stored from the right.
 fn put_decimal(out: &mut [u8], at: usize, n: u64) -> usize
-    requires { ⌜ at + 20 ≤ length (now out) ⌝ }
-    ensures { λ r. ⌜ Wrote 20 (decimal n) (now (out .entry)) (now (out .exit)) at r ⌝ }
+    requires { ⌜ at + longestNumber ≤ length (now out) ⌝ }
+    ensures { λ r. ⌜ Wrote longestNumber (decimal n) (now (out .entry)) (now (out .exit)) at r ⌝ }
 {
     if n < 10000 {
         return put_small(out, at, n);
@@ -219,8 +234,8 @@ fn copy_part(out: &mut [u8], at: usize, from: &[u8], first: usize, count: usize)
 
 // THE INDEX, with which a line begins. Few have more than eight digits. Up to three octets behind it become blanks: the rest of the line covers them.
 pub fn put_index(out: &mut [u8], at: usize, numbers: &[u64], n: u64) -> usize
-    requires { ⌜ (at + 20 ≤ length (now out)) × Tabled (now numbers) ⌝ }
-    ensures { λ r. ⌜ Began 3 20 (decimal n) (now (out .entry)) (now (out .exit)) at r ⌝ }
+    requires { ⌜ (at + longestNumber ≤ length (now out)) × Tabled (now numbers) ⌝ }
+    ensures { λ r. ⌜ Began 3 longestNumber (decimal n) (now (out .entry)) (now (out .exit)) at r ⌝ }
 {
     if n < 10000 {
         return put_spelled(out, at, numbers, n);
@@ -245,8 +260,8 @@ fn put_one(out: &mut [u8], at: usize, n: u64) -> usize
 
 // A blank and a number.
 fn put_field(out: &mut [u8], at: usize, n: u64) -> usize
-    requires { ⌜ at + 21 ≤ length (now out) ⌝ }
-    ensures { λ r. ⌜ Wrote 21 (field n) (now (out .entry)) (now (out .exit)) at r ⌝ }
+    requires { ⌜ at + longestField ≤ length (now out) ⌝ }
+    ensures { λ r. ⌜ Wrote longestField (field n) (now (out .entry)) (now (out .exit)) at r ⌝ }
 {
     if n < 10 {
         return put_one(out, at, n);
@@ -255,10 +270,10 @@ fn put_field(out: &mut [u8], at: usize, n: u64) -> usize
     put_decimal(out, at + 1, n)
 }
 
-// Two of them. Most often both have one digit: then one word holds blank, digit, blank and digit.
+// Two of them, and nothing behind them changes. Most often both have one digit: then one word holds blank, digit, blank and digit.
 fn put_two_fields(out: &mut [u8], at: usize, x: u64, y: u64) -> usize
-    requires { ⌜ at + 42 ≤ length (now out) ⌝ }
-    ensures { λ r. ⌜ Wrote 42 (field x ++ field y) (now (out .entry)) (now (out .exit)) at r ⌝ }
+    requires { ⌜ at + longestPair ≤ length (now out) ⌝ }
+    ensures { λ r. ⌜ Wrote longestPair (field x ++ field y) (now (out .entry)) (now (out .exit)) at r ⌝ }
 {
     if x < 10 {
         if y < 10 {
@@ -272,16 +287,16 @@ fn put_two_fields(out: &mut [u8], at: usize, x: u64, y: u64) -> usize
 
 // A blank and a number of at most four digits, by the table.
 fn put_short(out: &mut [u8], at: usize, numbers: &[u64], n: u64) -> usize
-    requires { ⌜ (at + 5 ≤ length (now out)) × Tabled (now numbers) × (n < 10000) ⌝ }
-    ensures { λ r. ⌜ Began 3 5 (field n) (now (out .entry)) (now (out .exit)) at r ⌝ }
+    requires { ⌜ (at + shortField ≤ length (now out)) × Tabled (now numbers) × (n < 10000) ⌝ }
+    ensures { λ r. ⌜ Began 3 shortField (field n) (now (out .entry)) (now (out .exit)) at r ⌝ }
 {
     out[at] = b' ';
     put_spelled(out, at + 1, numbers, n)
 }
 
-// Has kind one digit, and have a and b at most four?
+// Has kind one digit, and have a, b and p at most four?
 fn are_short(r: Report) -> bool
-    ensures { λ s. ⌜ (s ≡ true → (r .kind < 10) × (r .a < 10000) × (r .b < 10000)) ⌝ }
+    ensures { λ s. ⌜ (s ≡ true → (r .kind < 10) × (r .a < 10000) × (r .b < 10000) × (r .effect .passed < 10000)) ⌝ }
 {
     if 9 < r.kind {
         return false;
@@ -289,30 +304,34 @@ fn are_short(r: Report) -> bool
     if 9999 < r.a {
         return false;
     }
-    r.b < 10000
+    if 9999 < r.b {
+        return false;
+    }
+    r.effect.passed < 10000
 }
 
-// Kind, a and b.
+// Kind, a, b and p. By the table they leave up to three blanks behind them, which w and q cover.
 fn put_head(out: &mut [u8], at: usize, numbers: &[u64], r: Report) -> usize
-    requires { ⌜ (at + 63 ≤ length (now out)) × Tabled (now numbers) ⌝ }
-    ensures { λ n. ⌜ Began 3 63 (field (r .kind) ++ field (r .a) ++ field (r .b)) (now (out .entry)) (now (out .exit)) at n ⌝ }
+    requires { ⌜ (at + longestHead ≤ length (now out)) × Tabled (now numbers) ⌝ }
+    ensures { λ n. ⌜ Began 3 longestHead (field (r .kind) ++ field (r .a) ++ field (r .b) ++ field (r .effect .passed)) (now (out .entry)) (now (out .exit)) at n ⌝ }
 {
     if !are_short(r) {
         let a = put_two_fields(out, at, r.kind, r.a);
-        return put_field(out, a, r.b);
+        return put_two_fields(out, a, r.b, r.effect.passed);
     }
     let kind = put_one(out, at, r.kind);
     let a = put_short(out, kind, numbers, r.a);
-    put_short(out, a, numbers, r.b)
+    let b = put_short(out, a, numbers, r.b);
+    put_short(out, b, numbers, r.effect.passed)
 }
 
 // A room's octets in lower-case hexadecimal, all of them: the loop has a constant length, so the compiler makes straight code of it.
 fn room_digits(digits: &mut [u8], room: &[u8])
-    requires { ⌜ (length (now digits) ≡ 64) × (length (now room) ≡ 32) ⌝ }
+    requires { ⌜ (length (now digits) ≡ textDigits) × (length (now room) ≡ textOctets) ⌝ }
     ensures { λ r. ⌜ now (digits .exit) ≡ hexadecimal (now (room .entry)) ⌝ }
 {
     let mut i: usize = 0;
-    while i < 32 {
+    while i < TEXT_OCTETS {
         let x = wide(room[i]);
         digits[2 * i] = digit(x / 16);
         digits[2 * i + 1] = digit(x % 16);
@@ -323,32 +342,32 @@ fn room_digits(digits: &mut [u8], room: &[u8])
 // The first digits of a room, so many. How many is not to be guessed, so all are moved, and what stood behind those is put back: there is no
 // branch that asks.
 fn copy_digits(out: &mut [u8], at: usize, digits: &[u8], count: usize)
-    requires { ⌜ (at + 128 ≤ length (now out)) × (length (now digits) ≡ 64) × (count ≤ 64) ⌝ }
+    requires { ⌜ (at + digitsRoom ≤ length (now out)) × (length (now digits) ≡ textDigits) × (count ≤ textDigits) ⌝ }
     ensures { λ r. ⌜ now (out .exit) ≡ written (now (out .entry)) at (take count (now (digits .entry))) ⌝ }
 {
-    let mut behind = [0u8; 64];
-    copy_part(&mut behind, 0, out, at + count, 64);
-    copy_part(out, at, digits, 0, 64);
-    copy_part(out, at + count, &behind, 0, 64);
+    let mut behind = [0u8; TEXT_DIGITS];
+    copy_part(&mut behind, 0, out, at + count, TEXT_DIGITS);
+    copy_part(out, at, digits, 0, TEXT_DIGITS);
+    copy_part(out, at + count, &behind, 0, TEXT_DIGITS);
 }
 
 // A blank and a text, the first octets of its room: "in lower-case hexadecimal, - if empty".
 fn put_text(out: &mut [u8], at: usize, room: &[u8], size: usize) -> usize
-    requires { ⌜ (at + 129 ≤ length (now out)) × (length (now room) ≡ 32) × (size ≤ 32) ⌝ }
-    ensures { λ r. ⌜ Wrote 65 (textField (take size (now (room .entry)))) (now (out .entry)) (now (out .exit)) at r ⌝ }
+    requires { ⌜ (at + textRoom ≤ length (now out)) × (length (now room) ≡ textOctets) × (size ≤ textOctets) ⌝ }
+    ensures { λ r. ⌜ Wrote longestText (textField (take size (now (room .entry)))) (now (out .entry)) (now (out .exit)) at r ⌝ }
 {
     out[at] = b' ';
     if size == 0 {
         out[at + 1] = b'-';
         return at + 2;
     }
-    let mut digits = [0u8; 64];
+    let mut digits = [0u8; TEXT_DIGITS];
     room_digits(&mut digits, room);
     copy_digits(out, at + 1, &digits, 2 * size);
     at + 1 + 2 * size
 }
 
-// "kind, a, b, p, w", and "Radio adds the text".
+// "kind, a, b, p, w", q, and "Radio adds the text", which "remains last".
 fn put_fields(
     out: &mut [u8],
     at: usize,
@@ -357,15 +376,15 @@ fn put_fields(
     room: &[u8],
     size: usize,
 ) -> usize
-    requires { ⌜ (at + 234 ≤ length (now out)) × Tabled (now numbers) × (length (now room) ≡ 32) × (size ≤ 32) ⌝ }
-    ensures { λ n. ⌜ Wrote 170 (reportFields (reportIn r (take size (now (room .entry))))) (now (out .entry)) (now (out .exit)) at n ⌝ }
+    requires { ⌜ (at + fieldsRoom ≤ length (now out)) × Tabled (now numbers) × (length (now room) ≡ textOctets) × (size ≤ textOctets) ⌝ }
+    ensures { λ n. ⌜ Wrote longestFields (reportFields (reportIn r (take size (now (room .entry))))) (now (out .entry)) (now (out .exit)) at n ⌝ }
 {
-    let b = put_head(out, at, numbers, r);
-    let w = put_two_fields(out, b, r.effect.passed, r.effect.records);
+    let p = put_head(out, at, numbers, r);
+    let q = put_two_fields(out, p, r.effect.records, r.effect.place);
     if r.kind == 4 {
-        return put_text(out, w, room, size);
+        return put_text(out, q, room, size);
     }
-    w
+    q
 }
 
 // THE REST OF THE LINE of an accepted event, behind its index; of a radio step with the text that was handed over, which is lent with all its room.
@@ -378,7 +397,7 @@ pub fn end_accepted(
     room: &[u8],
     size: usize,
 ) -> usize
-    requires { ⌜ (at + restRoom ≤ length (now out)) × Tabled (now numbers) × (length (now room) ≡ 32) × (size ≤ 32) ⌝ }
+    requires { ⌜ (at + restRoom ≤ length (now out)) × Tabled (now numbers) × (length (now room) ≡ textOctets) × (size ≤ textOctets) ⌝ }
     ensures { λ n. ⌜ Wrote longestRest (restOf (acceptedIn r (take size (now (room .entry))))) (now (out .entry)) (now (out .exit)) at n ⌝ }
 {
     let fields = put_fields(out, at, numbers, r, room, size);
@@ -388,8 +407,8 @@ pub fn end_accepted(
 
 // A blank and the word.
 fn put_no(out: &mut [u8], at: usize) -> usize
-    requires { ⌜ at + 3 ≤ length (now out) ⌝ }
-    ensures { λ r. ⌜ Wrote 3 (32 ∷ 110 ∷ 111 ∷ []) (now (out .entry)) (now (out .exit)) at r ⌝ }
+    requires { ⌜ at + longestNo ≤ length (now out) ⌝ }
+    ensures { λ r. ⌜ Wrote longestNo (32 ∷ 110 ∷ 111 ∷ []) (now (out .entry)) (now (out .exit)) at r ⌝ }
 {
     out[at] = b' ';
     out[at + 1] = b'n';

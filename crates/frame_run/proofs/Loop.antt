@@ -109,12 +109,12 @@ module _ (input : List ℕ) (index : ℕ) (last : Bool) (L₀ : Lent) (out₀ : 
 pub not-going : (p : Progress) (n : ℕ) → (p .state ≡ 0 → ⊥) → false ≡ (eqb (p .state) 0 && leb (p .written + lineRoom) n)
 not-going p n h = rw (ne-eqb (p .state) 0 h) refl
 
-pub by-room : (p : Progress) (n : ℕ) → p .state ≡ 0 → p .written ≤ n → leb 255 (n - p .written) ≡ (eqb (p .state) 0 && leb (p .written + lineRoom) n)
+pub by-room : (p : Progress) (n : ℕ) → p .state ≡ 0 → p .written ≤ n → leb lineRoom (n - p .written) ≡ (eqb (p .state) 0 && leb (p .written + lineRoom) n)
 by-room p n e h =
     rw (eq-eqb (p .state) 0 e)
-    (by-lt (n - p .written) 255
-    (λ l. lt-leb 255 (n - p .written) l ∙ sym (lt-leb (p .written + lineRoom) n (omega arith)))
-    (λ l. le-leb 255 (n - p .written) l ∙ sym (le-leb (p .written + lineRoom) n (omega arith))))
+    (by-lt (n - p .written) lineRoom
+    (λ l. lt-leb lineRoom (n - p .written) l ∙ sym (lt-leb (p .written + lineRoom) n (omega arith)))
+    (λ l. le-leb lineRoom (n - p .written) l ∙ sym (le-leb (p .written + lineRoom) n (omega arith))))
 
 -- tables of ready floors are equally long
 module _ (L L′ : Lent) (R : CanRun L) (R′ : CanRun L′) where

@@ -17,7 +17,7 @@ ghost use Rattle.view.specs.View.{lent};
 ghost use Rattle.event_answers.specs.Answers.{toldOf};
 ghost use Rattle.event_answers.specs.Met.{Met};
 ghost use Rattle.frames.specs.Decoded.{eventIn, sizeOf};
-ghost use Rattle.frame_lines.specs.Lines.{Tabled, Wrote, Began, longestRest, restRoom, longestRefusal, lineRoom};
+ghost use Rattle.frame_lines.specs.Lines.{Tabled, Wrote, Began, longestNumber, longestRest, restRoom, longestRefusal, lineRoom};
 ghost use Rattle.frame_run.specs.CanRun.{CanRun};
 ghost use Rattle.frame_run.specs.Dispatched.{dispatchedIn, Within};
 ghost use Rattle.frame_run.specs.Went.{Took, Turned, Went};
@@ -66,9 +66,9 @@ fn dispatch(
 ) -> Dispatched
     requires { ⌜ CanRun (lent wholeFloor (now stations) (now carts) (now messages) (now lines) (now texts)) ⌝ }
     requires { ⌜ (at + sizeOf e ≤ length (now input)) × (sizeOf e ≤ 48) ⌝ }
-    requires { ⌜ (line + 20 ≤ length (now output)) × Tabled (now numbers) ⌝ }
+    requires { ⌜ (line + longestNumber ≤ length (now output)) × Tabled (now numbers) ⌝ }
     ensures { λ r. ⌜ Within r × Met (lent wholeFloor (now (stations .entry)) (now (carts .entry)) (now (messages .entry)) (now (lines .entry)) (now (texts .entry))) (lent wholeFloor (now (stations .exit)) (now (carts .exit)) (now (messages .exit)) (now (lines .exit)) (now (texts .exit))) (eventIn (drop at (now (input .entry))) e) (dispatchedIn (now (texts .exit)) r) ⌝ }
-    ensures { λ r. ⌜ Began 3 20 (decimal index) (now (output .entry)) (now (output .exit)) line (r .next) ⌝ }
+    ensures { λ r. ⌜ Began 3 longestNumber (decimal index) (now (output .entry)) (now (output .exit)) line (r .next) ⌝ }
 {
     match e {
         Event::Start(n, k) => {

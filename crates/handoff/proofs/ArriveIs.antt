@@ -2,7 +2,8 @@
 use mathlib.Core.Path.{_≡_, refl, sym, ap, _∙_, fun-ext}
 use mathlib.Core.Bool.{Bool, true, false, cond, _&&_, not}
 use mathlib.Core.List.{List}
-use Prim.Native.Nat.{ℕ, _+_, _-_, _<_, _≤_}
+use mathlib.Core.Option.{Option, none, some}
+use Prim.Native.Nat.{ℕ, suc, _+_, _-_, _<_, _≤_}
 use native.Mathlib.Omega.{arith}
 use lib.Dec.{eqb, ltb}
 use lib.ListN.{getD}
@@ -10,13 +11,15 @@ use borrow.Author.Tests.{ltb-true, lt-ltb, le-ltb, ne-eqb}
 use Rattle.protocol.specs.Folds.{sum, update}
 use Rattle.protocol.specs.CartSets.{has, with, without, setOf}
 use Rattle.protocol.specs.Floor.{Limits, Floor, Carts, Record, at, localTo, limitsOf, Product}
-use Rattle.protocol.specs.Handoff.{Stop, withRow, struck, catchUpStop, arrive, passedOver}
+use Rattle.protocol.specs.Handoff.{Stop, withRow, struck, bufferedFor, catchUpStop, catchUpEach, arrive, passedOver, placeGiven, largestPlace, deepest}
 use Rattle.protocol.proofs.SetLaws.{has-setOf, has-zero, has-without, without-lt}
 use Rattle.protocol.proofs.Tests.{by-test, by-lt, by-eq, clash, and-right, and-second-false, eqb-self, on-update, listOf-at, listOf-past}
 use Rattle.protocol.proofs.Counting.{sum-ext}
+use Rattle.protocol.proofs.Places.{given-at-once}
+use Rattle.sets.proofs.Walk.{nothing-between}
 use Rattle.protocol.proofs.Updates.{counts-up-le}
 use Rattle.protocol.proofs.InRange.{in-range}
-use Rattle.protocol.proofs.CatchUp.{catch-up-ascent, stops-at, foundIs, found-is, docked, stopAt, arrive-at-once}
+use Rattle.protocol.proofs.CatchUp.{catch-up-ascent, stop-same, stops-at, foundIs, found-is, docked, stopAt, arrive-at-once}
 use Rattle.protocol.specs.Form.{multicastNumbers}
 use Rattle.stations.specs.View.{Stations, HasStation, headIn, stationsIn, namingIn}
 use Rattle.stations.proofs.TableLaws.{copy-beyond}
@@ -28,10 +31,10 @@ use Rattle.view.proofs.Room.{sum-less}
 use Rattle.view.proofs.Laid.{Laid, local-stays, local-joins, laid-carts}
 use Rattle.view.proofs.Standing.{Standing, few-stations, few-carts}
 use Rattle.queue.specs.Rooms.{tablesFloor, roomCount, HasRooms}
-use Rattle.catchup.specs.Arrival.{stopIn, occurs}
+use Rattle.catchup.specs.Arrival.{stopIn, occurs, deepestTo}
 use Rattle.catchup.proofs.NamingLaws.{naming-inside, naming-covers}
 use Rattle.catchup.proofs.Stops.{Agree, NoneBeyond}
-use Rattle.catchup.proofs.AllAtOnce.{all-raised, all-passed, all-queued, own-rooms}
+use Rattle.catchup.proofs.AllAtOnce.{all-raised, all-passed, all-queued, found-named, deepest-to}
 use Rattle.handoff.specs.Struck.{isPassed, struckFrom}
 use Rattle.handoff.specs.Arrived.{joined, Arrived}
 
@@ -59,6 +62,10 @@ parts-ready L X t c lt lc =
     let k = few-carts L X in
     (omega arith, omega arith, omega arith, omega arith, omega arith)
 
+-- the messages' table has the product's rooms
+pub all-rooms : (L : Lent) → Standing L → roomCount (L .messages) ≡ L .product .held
+all-rooms L X = let a = X .lengths .messages in omega arith
+
 -- no room beyond the limit has a copy that names a cart
 pub none-beyond : (L : Lent) → Standing L → (t : ℕ) → t < floorIn L .stations → (m : ℕ) → L .product .held ≤ m → stationsIn (L .stations) .copy m t ≡ 0
 none-beyond L X t lt m l =
@@ -76,11 +83,11 @@ rooms-there L X t c lt m h =
     omega arith
 
 -- FROM THE FLOOR OF THE PARTS, with any marks and any lines: cart c arrives at station t with that row of next numbers
-module _ (Q : Limits) (S S′ C C′ M T : List ℕ) (lengths words : Bool) (lines : ℕ → ℕ → List Record) (t c : ℕ) (row : List ℕ) (entries : ℕ → ℕ) (p : ℕ)
+module _ (Q : Limits) (S S′ C C′ M T : List ℕ) (lengths words : Bool) (lines : ℕ → ℕ → List Record) (t c : ℕ) (row : List ℕ) (entries : ℕ → ℕ) (p q : ℕ)
     (is-row : (s : ℕ) → getD row s 0 ≡ entries s) (no-more : (s : ℕ) → 16 ≤ s → entries s ≡ 0)
     (beyond : (Q .held ≤ 32) × ((m : ℕ) → Q .held ≤ m → stationsIn S .copy m t ≡ 0))
     (few : headIn S .stations ≤ 16) (idle : (s : ℕ) → headIn S .stations ≤ s → stationsIn S .expected t s ≡ 0)
-    (there : Arrived S S′ C C′ M t c row p) where
+    (there : Arrived S S′ C C′ M t c row p q) where
   abbrev G : Floor
   G = floorOf lengths words (headIn S) (stationsIn S) (cartsIn C) (roomsIn M) (textsIn T (roomsIn M)) lines
 
@@ -160,6 +167,20 @@ module _ (Q : Limits) (S S′ C C′ M T : List ℕ) (lengths words : Bool) (lin
   unfolding struck
   nexts d s = by-test (eqb d c) (λ q. rw q (entry s)) (λ q. rw q)
 
+  -- and no message stops it
+  none-found : (s : ℕ) → n ≤ s → stop s .found ≡ none
+  unfolding struck
+  none-found s l = by-found (stop s .found) refl
+    where
+      by-found : (o : Option ℕ) → stop s .found ≡ o → o ≡ none
+      by-found none e = refl
+      by-found (some m) e =
+          let k = stops-at Q D t c s (stop s .upto) m (catch-up-ascent Q D t c s .stop m e) in
+          let i = k .is-initiator in
+          let z = ltb-true (R .number m) (stationsIn S .expected t (R .initiator m)) (and-right (has (R .waiting m) t) (ltb (R .number m) (stationsIn S .expected t (R .initiator m))) (k .buffered)) in
+          let y : stationsIn S .expected t (R .initiator m) ≡ 0 = idle (R .initiator m) (omega (arith, l, i)) in
+          absurd (omega arith)
+
   -- THE QUEUES
   fewer : (m : ℕ) → (ltb (R .initiator m) 16 && foundIs (stop (R .initiator m) .found) m) ≡ (ltb (R .initiator m) n && foundIs (stop (R .initiator m) .found) m)
   unfolding struck
@@ -169,11 +190,7 @@ module _ (Q : Limits) (S S′ C C′ M T : List ℕ) (lengths words : Bool) (lin
       by-lt i n
       (λ l. rw (lt-ltb i n l, lt-ltb i 16 (omega arith)))
       (λ l. by-test f
-      (λ e. let q = found-is (stop i .found) m e in
-      let k = stops-at Q D t c i (stop i .upto) m (catch-up-ascent Q D t c i .stop m q) .buffered in
-      let z = ltb-true (R .number m) (stationsIn S .expected t i) (and-right (has (R .waiting m) t) (ltb (R .number m) (stationsIn S .expected t i)) k) in
-      let y = idle i l in
-      absurd (omega arith))
+      (λ e. let z : none ≡ some m = sym (none-found i l) ∙ found-is (stop i .found) m e in let x : _≡_ {A = ℕ} 0 1 = cc in absurd (omega arith))
       (λ e. and-second-false (ltb i 16) f e ∙ sym (and-second-false (ltb i n) f e)))
 
   queued : (m u : ℕ) → joined (struckFrom (stationsIn S) R t c row) t c N .queue m u ≡ stopAt D stop t c (λ s. ltb s n) .queue m u
@@ -234,14 +251,41 @@ module _ (Q : Limits) (S S′ C C′ M T : List ℕ) (lengths words : Bool) (lin
       all : 16 ≡ n + (16 - n)
       all = omega arith
 
+  -- THE PLACES: the queues of a cart that is struck, before it is at the station
+  abbrev D₀ : Floor
+  D₀ = struck (withRow G c entries) t c
+
+  -- where it is makes no difference to where catch-up stops
+  same-stop : (s : ℕ) → catchUpStop Q D₀ t c s ≡ stop s
+  unfolding struck bufferedFor
+  same-stop s = stop-same Q D₀ D t c s (λ k. refl) refl refl
+
+  -- of a station that there is not, no place is given
+  none-given : (s : ℕ) → n ≤ s → largestPlace Q (suc s) D₀ t c ≡ largestPlace Q s D₀ t c
+  unfolding largestPlace
+  none-given s l =
+      let none-there : catchUpStop Q D₀ t c s .found ≡ none = ap (λ (r : Stop). r .found) (same-stop s) ∙ none-found s l in
+      let z : placeGiven Q (catchUpEach Q s D₀ t c) t c s ≡ 0 = given-at-once Q s D₀ t c ∙ rw none-there refl in
+      omega (arith, z)
+
+  -- "the largest place given in that step", where the table has as many rooms as messages may be held
+  pub deepest-is : roomCount M ≡ Q .held → q ≡ deepest Q G t c entries
+  unfolding struck deepest
+  deepest-is rooms =
+      let agree₀ : Agree D₀ (tablesFloor K M) = record { expected = agree .expected; initiator = refl; number = refl; waiting = refl; copy = agree .copy } in
+      there .docked .deepest
+      ∙ ap (λ (k : ℕ). deepestTo (stationsIn K) R t c k N 16) rooms
+      ∙ deepest-to Q D₀ K M agree₀ t c beyond′ row N (there .docked .is-nearest) (λ s h. next-is s) (sym (ap (λ (X : Stations). X .queue) (there .docked .is-struck))) 16 (omega arith)
+      ∙ nothing-between (λ k. largestPlace Q k D₀ t c) n 16 few (λ s l h. none-given s l)
+
 -- nothing, either way
 pub none-either-way : (b : Bool) (x : ℕ) → x ≡ 0 → cond b x 0 ≡ 0
 none-either-way true x e = e
 none-either-way false x e = refl
 
 -- HOW THE WORDS LIE afterwards, for a cart that was local nowhere
-module _ {P : Product} (S S′ C C′ M W T : List ℕ) (X : Laid (lent P S C M W T)) (t c : ℕ) (lt : t < P .stations) (lc : c < 64) (row : List ℕ) (p : ℕ)
-    (nowhere : (u : ℕ) → localTo (cartsIn C .place c) u ≡ false) (there : Arrived S S′ C C′ M t c row p) where
+module _ {P : Product} (S S′ C C′ M W T : List ℕ) (X : Laid (lent P S C M W T)) (t c : ℕ) (lt : t < P .stations) (lc : c < 64) (row : List ℕ) (p q : ℕ)
+    (nowhere : (u : ℕ) → localTo (cartsIn C .place c) u ≡ false) (there : Arrived S S′ C C′ M t c row p q) where
   locals : (u : ℕ) → u < P .stations → stationsIn S′ .local u ≡ setOf 64 (λ d. localTo (cartsIn C′ .place d) u)
   locals u l =
       ap (λ (Z : Stations). Z .local u) (there .docked .stations ∙ ap (λ (Z : Stations). joined Z t c (there .docked .nearest)) (there .docked .is-struck))
@@ -274,8 +318,7 @@ module _ {P : Product} (S S′ C C′ M W T : List ℕ) (X : Laid (lent P S C M 
       not-said : (m : ℕ) → m < 32 → P .held ≤ m → occurs N 16 m ≡ false
       not-said m lm l =
           by-test (occurs N 16 m)
-          (λ e. let own = own-rooms (tablesFloor K M) t c row N (there .docked .is-nearest) 32 (roomsIn M) (stationsIn K) (namingIn (stationsIn K) t c) refl refl (naming-covers K t c 32 (naming-inside K t c) _ refl) in
-          let y : has (stationsIn K .copy m t) c ≡ true = sym (has-setOf 32 (λ r. has (stationsIn K .copy r t) c) m lm) ∙ own .among m e in
+          (λ e. let y : has (stationsIn K .copy m t) c ≡ true = found-named (tablesFloor K M) t c row N (there .docked .is-nearest) m e in
           let z : stationsIn K .copy m t ≡ 0 = ap (λ (Z : Stations). Z .copy m t) (there .docked .is-struck) ∙ copy-none m t (X .few t m lt lm l .0) in
           clash (has 0 c) (rw z at y) (has-zero c))
           (λ e. e)

@@ -363,6 +363,6 @@ module _ {P : Product} (S S′ C C′ M W W₁ W′ T : List ℕ) (c i t w : ℕ
       let d = gone .count in
       omega arith
 
-  pub deregister-reports : onWire (limitsOf P) (floorIn L) i t .report ≡ record { kind = 3; a = 4; b = c; p = 0; w = w; text = [] }
+  pub deregister-reports : onWire (limitsOf P) (floorIn L) i t .report ≡ record { kind = 3; a = 4; b = c; p = 0; w = w; q = 0; text = [] }
   unfolding onDeregister
-  deregister-reports = ap (λ (d : Done). d .report) (handled L X c i t rest may) ∙ (λ k. record { kind = 3; a = 4; b = c; p = 0; w = records k; text = [] })
+  deregister-reports = ap (λ (d : Done). d .report) (handled L X c i t rest may) ∙ (λ k. record { kind = 3; a = 4; b = c; p = 0; w = records k; q = 0; text = [] })

@@ -23,7 +23,7 @@ use Rattle.view.proofs.Laid.{Laid, words-right, laid-flags}
 use Rattle.view.proofs.Standing.{Standing, few-stations, few-carts}
 use Rattle.queue.specs.Rooms.{roomCount, HasRooms}
 use Rattle.handoff.specs.Arrived.{allZero, Arrived, Entered}
-use Rattle.handoff.proofs.ArriveIs.{expected-fits, parts-ready, none-beyond, rooms-there, expects-none, arrived-is, passed-is, laid-there}
+use Rattle.handoff.proofs.ArriveIs.{expected-fits, parts-ready, none-beyond, rooms-there, expects-none, arrived-is, passed-is, deepest-is, all-rooms, laid-there}
 
 -- WHAT THE ENTER REQUIRES of the parts
 module _ (L : Lent) (X : Standing L) (t c : ℕ) (may : MayEnter (floorIn L) t c) where
@@ -42,8 +42,8 @@ module _ (L : Lent) (X : Standing L) (t c : ℕ) (may : MayEnter (floorIn L) t c
   pub enter-fits : (s : ℕ) → s < 16 → stationsIn (L .stations) .expected t s ≤ 4294967295
   enter-fits = expected-fits L X t (may .station)
 
-module _ {P : Product} (S S′ C C′ M W T : List ℕ) (t c p : ℕ) (X : Standing (lent P S C M W T)) (may : MayEnter (floorIn (lent P S C M W T)) t c)
-    (entered : Entered S S′ C C′ M t c p) where
+module _ {P : Product} (S S′ C C′ M W T : List ℕ) (t c p q : ℕ) (X : Standing (lent P S C M W T)) (may : MayEnter (floorIn (lent P S C M W T)) t c)
+    (entered : Entered S S′ C C′ M t c p q) where
   abbrev L : Lent
   L = lent P S C M W T
 
@@ -57,7 +57,7 @@ module _ {P : Product} (S S′ C C′ M W T : List ℕ) (t c p : ℕ) (X : Stand
   abbrev A : List ℕ
   A = entered .there
 
-  abbrev there : Arrived S S′ C A M t c allZero p
+  abbrev there : Arrived S S′ C A M t c allZero p q
   there = entered .arrived
 
   lc : c < 64
@@ -84,7 +84,7 @@ module _ {P : Product} (S S′ C C′ M W T : List ℕ) (t c p : ℕ) (X : Stand
 
   pub laid : Laid L′
   laid =
-      laid-flags S′ A M W T (laid-there S S′ C A M W T (X .laid) t c lt′ lc allZero p (λ u. ap (λ (q : Place). localTo q u) out) there)
+      laid-flags S′ A M W T (laid-there S S′ C A M W T (X .laid) t c lt′ lc allZero p q (λ u. ap (λ (q : Place). localTo q u) out) there)
       C′ c (entered .steady .canonical) (ap (λ (K : Carts). K .place) (entered .steady .carts))
 
   zeros : (s : ℕ) → getD allZero s 0 ≡ 0
@@ -100,18 +100,20 @@ module _ {P : Product} (S S′ C C′ M W T : List ℕ) (t c p : ℕ) (X : Stand
     where
       arrived : floorOf (lengthsIn L) (wordsIn L) (headIn S′) (stationsIn S′) (cartsIn A) (roomsIn M) (textsIn T (roomsIn M)) (linesIn W) ≡ arrive (limitsOf P) F t c (λ s. 0)
       arrived =
-          arrived-is (limitsOf P) S S′ C A M T (lengthsIn L) (wordsIn L) (linesIn W) t c allZero (λ s. 0) p
+          arrived-is (limitsOf P) S S′ C A M T (lengthsIn L) (wordsIn L) (linesIn W) t c allZero (λ s. 0) p q
           zeros (λ s l. refl) (P .held-fit, none-beyond L X t (may .station)) (few-stations L X) (expects-none L X t (may .station)) there
 
-  pub enter-reports : onEnter (limitsOf (L .product)) F t c .report ≡ record { kind = 1; a = t; b = c; p = p; w = 0; text = [] }
+  pub enter-reports : onEnter (limitsOf (L .product)) F t c .report ≡ record { kind = 1; a = t; b = c; p = p; w = 0; q = q; text = [] }
   unfolding onEnter
   enter-reports =
       λ i. record {
         kind = 1;
         a = t;
         b = c;
-        p = sym (passed-is (limitsOf P) S S′ C A M T (lengthsIn L) (wordsIn L) (linesIn W) t c allZero (λ s. 0) p
+        p = sym (passed-is (limitsOf P) S S′ C A M T (lengthsIn L) (wordsIn L) (linesIn W) t c allZero (λ s. 0) p q
             zeros (λ s l. refl) (P .held-fit, none-beyond L X t (may .station)) (few-stations L X) (expects-none L X t (may .station)) there) i;
         w = 0;
+        q = sym (deepest-is (limitsOf P) S S′ C A M T (lengthsIn L) (wordsIn L) (linesIn W) t c allZero (λ s. 0) p q
+            zeros (λ s l. refl) (P .held-fit, none-beyond L X t (may .station)) (few-stations L X) (expects-none L X t (may .station)) there (all-rooms L X)) i;
         text = [];
       }

@@ -54,6 +54,6 @@ module _ {P : Product} (S C C′ M W T : List ℕ) (c : ℕ) (b : Bool) (X : Sta
       (headIn S) (stationsIn S) (flagged .carts i) (roomsIn M) (textsIn T (roomsIn M)) (linesIn W)
 
 -- "It prints cart and flag with p = 0 and w = 0"
-pub flag-reports : (F : Floor) (c : ℕ) (b : Bool) → onFlag F c b .report ≡ record { kind = 6; a = c; b = cond b 1 0; p = 0; w = 0; text = [] }
+pub flag-reports : (F : Floor) (c : ℕ) (b : Bool) → onFlag F c b .report ≡ record { kind = 6; a = c; b = cond b 1 0; p = 0; w = 0; q = 0; text = [] }
 unfolding onFlag
 flag-reports F c b = refl

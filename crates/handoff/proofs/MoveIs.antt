@@ -120,6 +120,6 @@ module _ {P : Product} (S C C′ M W W′ T : List ℕ) (c old to : ℕ) (X : St
       (headIn S) (stationsIn S) (moved .carts i) (roomsIn M) (textsIn T (roomsIn M)) (lines i))
 
 -- "5": move; one record is put on the lines
-pub move-reports : (F : Floor) (c to : ℕ) → onMove F c to .report ≡ record { kind = 5; a = c; b = to; p = 0; w = 1; text = [] }
+pub move-reports : (F : Floor) (c to : ℕ) → onMove F c to .report ≡ record { kind = 5; a = c; b = to; p = 0; w = 1; q = 0; text = [] }
 unfolding onMove
 move-reports F c to = refl

@@ -28,7 +28,7 @@ use Rattle.view.proofs.Laid.{Laid, words-right, laid-pop}
 use Rattle.view.proofs.Standing.{Standing, few-stations, few-carts}
 use Rattle.queue.specs.Rooms.{roomCount, HasRooms}
 use Rattle.handoff.specs.Arrived.{Arrived}
-use Rattle.handoff.proofs.ArriveIs.{expected-fits, parts-ready, none-beyond, rooms-there, expects-none, arrived-is, passed-is, laid-there}
+use Rattle.handoff.proofs.ArriveIs.{expected-fits, parts-ready, none-beyond, rooms-there, expects-none, arrived-is, passed-is, deepest-is, all-rooms, laid-there}
 
 -- WHAT IS KNOWN where the register of cart c is the head of the line from i to t
 module _ (L : Lent) (X : Standing L) (c i t : ℕ) (row : List ℕ) (rest : List Record) (may : MayWire (floorIn L) i t (register c row) rest) where
@@ -66,9 +66,9 @@ module _ (L : Lent) (X : Standing L) (c i t : ℕ) (row : List ℕ) (rest : List
   pub register-fits : (s : ℕ) → s < 16 → stationsIn (L .stations) .expected t s ≤ 4294967295
   register-fits = expected-fits L X t (may .to)
 
-module _ {P : Product} (S S′ C C′ M W W₁ T : List ℕ) (c i t p : ℕ) (row : List ℕ) (rest : List Record) (X : Standing (lent P S C M W T))
+module _ {P : Product} (S S′ C C′ M W W₁ T : List ℕ) (c i t p q : ℕ) (row : List ℕ) (rest : List Record) (X : Standing (lent P S C M W T))
     (may : MayWire (floorIn (lent P S C M W T)) i t (register c row) rest) (pop : Popped W W₁ (i * 16 + t))
-    (there : Arrived S S′ C C′ M t c row p) where
+    (there : Arrived S S′ C C′ M t c row p q) where
   abbrev L : Lent
   L = lent P S C M W T
 
@@ -105,7 +105,7 @@ module _ {P : Product} (S S′ C C′ M W W₁ T : List ℕ) (c i t p : ℕ) (ro
   nowhere u = ap (λ (q : Place). localTo q u) (is-travelling L X c i t row rest may)
 
   pub laid : Laid L′
-  laid = laid-there S S′ C C′ M W₁ T popped t c lt′ lc row p nowhere there
+  laid = laid-there S S′ C C′ M W₁ T popped t c lt′ lc row p q nowhere there
 
   lines : linesIn W₁ ≡ behead i t (linesIn W)
   lines = pop-view W W₁ i t li lt pop
@@ -124,25 +124,27 @@ module _ {P : Product} (S S′ C C′ M W W₁ T : List ℕ) (c i t p : ℕ) (ro
   arrived =
       (λ k. floorOf ((lengths-right L′ lengths ∙ sym (lengths-right L (X .lengths))) k) ((words-right L′ laid ∙ sym (words-right L (X .laid))) k)
       (headIn S′) (stationsIn S′) (cartsIn C′) (roomsIn M) (textsIn T (roomsIn M)) (lines k))
-      ∙ arrived-is (limitsOf P) S S′ C C′ M T (lengthsIn L) (wordsIn L) (behead i t (linesIn W)) t c row (entryOf row) p
+      ∙ arrived-is (limitsOf P) S S′ C C′ M T (lengthsIn L) (wordsIn L) (behead i t (linesIn W)) t c row (entryOf row) p q
       (λ s. refl) no-more (P .held-fit, none-beyond L X t (may .to)) (few-stations L X) (expects-none L X t (may .to)) there
 
   -- "Register": the cart is struck, catches up, and is at this station
   pub register-is : floorIn L′ ≡ onWire (limitsOf (L .product)) (floorIn L) i t .floor
   register-is = arrived ∙ ap (λ (d : Done). d .floor) (sym handled)
 
-  reported : onRegister (limitsOf (L .product)) (unlined (floorIn L) i t) t c row .report ≡ record { kind = 3; a = 5; b = c; p = p; w = 0; text = [] }
+  reported : onRegister (limitsOf (L .product)) (unlined (floorIn L) i t) t c row .report ≡ record { kind = 3; a = 5; b = c; p = p; w = 0; q = q; text = [] }
   unfolding onRegister
   reported =
       λ k. record {
         kind = 3;
         a = 5;
         b = c;
-        p = sym (passed-is (limitsOf P) S S′ C C′ M T (lengthsIn L) (wordsIn L) (behead i t (linesIn W)) t c row (entryOf row) p
+        p = sym (passed-is (limitsOf P) S S′ C C′ M T (lengthsIn L) (wordsIn L) (behead i t (linesIn W)) t c row (entryOf row) p q
             (λ s. refl) no-more (P .held-fit, none-beyond L X t (may .to)) (few-stations L X) (expects-none L X t (may .to)) there) k;
         w = 0;
+        q = sym (deepest-is (limitsOf P) S S′ C C′ M T (lengthsIn L) (wordsIn L) (behead i t (linesIn W)) t c row (entryOf row) p q
+            (λ s. refl) no-more (P .held-fit, none-beyond L X t (may .to)) (few-stations L X) (expects-none L X t (may .to)) there (all-rooms L X)) k;
         text = [];
       }
 
-  pub register-reports : onWire (limitsOf (L .product)) (floorIn L) i t .report ≡ record { kind = 3; a = 5; b = c; p = p; w = 0; text = [] }
+  pub register-reports : onWire (limitsOf (L .product)) (floorIn L) i t .report ≡ record { kind = 3; a = 5; b = c; p = p; w = 0; q = q; text = [] }
   register-reports = ap (λ (d : Done). d .report) handled ∙ reported

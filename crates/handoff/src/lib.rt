@@ -17,20 +17,21 @@ ghost use Rattle.lines.specs.Lines.{used};
 ghost use Rattle.lines.specs.Words.{capacity};
 ghost use Rattle.queue.specs.Rooms.{roomCount, HasRooms};
 ghost use Rattle.queue.specs.Keys.{KeyedRooms};
-ghost use Rattle.reports.specs.Effects.{nothing, passing, putting};
+ghost use Rattle.reports.specs.Effects.{nothing, putting, queueing};
 ghost use Rattle.catchup.specs.Naming.{Covers};
-ghost use Rattle.catchup.specs.Arrival.{OwnRooms};
+ghost use Rattle.catchup.specs.Arrival.{RoomsBelow, Marks, deepestTo};
 ghost use Rattle.handoff.specs.Moved.{Moved};
 ghost use Rattle.handoff.specs.Flagged.{Flagged};
 ghost use Rattle.handoff.specs.Forwarded.{HeldRooms, goes, orderedRooms, ListsGone};
 ghost use Rattle.handoff.specs.Left.{unqueued, left, listsGoing, Left};
 ghost use Rattle.handoff.specs.Struck.{isBelow, struckIn, struckFrom};
-ghost use Rattle.handoff.specs.Arrived.{joined, Docked, Arrived, Entered};
+ghost use Rattle.handoff.specs.Arrived.{settled, joined, Docked, Arrived, Entered};
 
-// A row of next numbers after catch-up, and "the numbers passed over in this step".
+// A row of next numbers after catch-up, "the numbers passed over in this step", and "the largest place given in that step, 0 if no cart was queued".
 struct Caught {
     row: [u64; 16],
     passed: u64,
+    place: u64,
 }
 
 // "Move (cart, to): a deregister goes from to to the old station; the cart is leaving."
@@ -278,25 +279,35 @@ fn strike(
     ahead
 }
 
-// The cart is queued for each nearest message, and is on the station's local list.
+// The cart is on the station's local list.
+fn settle(stations: &mut [u64], station: Station, cart: CartNumber)
+    requires { ⌜ HasStation (now stations) (station .0) × (cart .0 < 64) ⌝ }
+    ensures { λ _. ⌜ Leaves (now (stations .entry)) (now (stations .exit)) (settled (stationsIn (now (stations .entry))) (station .0) (cart .0)) ⌝ }
+{
+    let local = sets::with_member(stations::local_of(stations, station), cart.0);
+    stations::put_local(stations, station, local);
+}
+
+// The cart is queued for each nearest message, and is on the station's local list. Answers the largest place that it was given.
 fn join(
     stations: &mut [u64],
     messages: &[u64],
     station: Station,
     cart: CartNumber,
-    naming: u64,
     nearest: [usize; 16],
-)
-    requires { ⌜ OwnRooms (roomCount (now messages)) (roomsIn (now messages)) naming nearest ⌝ }
+    found: u64,
+) -> u64
+    requires { ⌜ RoomsBelow (roomCount (now messages)) nearest × Marks nearest found ⌝ }
     requires { ⌜ HasStation (now stations) (station .0) × HasRooms (now messages) × (cart .0 < 64) ⌝ }
     ensures { λ _. ⌜ Leaves (now (stations .entry)) (now (stations .exit)) (joined (stationsIn (now (stations .entry))) (station .0) (cart .0) nearest) ⌝ }
+    ensures { λ r. ⌜ r ≡ deepestTo (stationsIn (now (stations .entry))) (roomsIn (now (messages .entry))) (station .0) (cart .0) (roomCount (now (messages .entry))) nearest 16 ⌝ }
 {
-    catchup::enqueue_all(stations, messages, station, cart, naming, nearest);
-    let local = sets::with_member(stations::local_of(stations, station), cart.0);
-    stations::put_local(stations, station, local);
+    let place = catchup::enqueue_all(stations, messages, station, cart, nearest, found);
+    settle(stations, station, cart);
+    place
 }
 
-// A cart that no copy here names is struck from none, and no message stops it before the expected numbers.
+// A cart that no copy here names is struck from none, no message stops it before the expected numbers, and it is queued for none.
 fn dock_unnamed(
     stations: &mut [u64],
     messages: &[u64],
@@ -307,14 +318,14 @@ fn dock_unnamed(
     requires { ⌜ HasStation (now stations) (station .0) × HasRooms (now messages) × (station .0 < 16) × (cart .0 < 64) ⌝ }
     requires { ⌜ ((s : ℕ) → s < initiators → stationsIn (now stations) .expected (station .0) s ≤ 4294967295) ⌝ }
     requires { ⌜ Covers (roomCount (now messages)) (stationsIn (now stations)) (station .0) (cart .0) 0 ⌝ }
-    ensures { λ r. ⌜ Docked (now (stations .entry)) (now (stations .exit)) (now (messages .entry)) (station .0) (cart .0) row (r .row) (r .passed) ⌝ }
+    ensures { λ r. ⌜ Docked (now (stations .entry)) (now (stations .exit)) (now (messages .entry)) (station .0) (cart .0) row (r .row) (r .passed) (r .place) ⌝ }
 {
     let upto = catchup::levels(stations, station, row);
-    let nearest = [queue::NONE; 16];
-    join(stations, messages, station, cart, 0, nearest);
+    settle(stations, station, cart);
     Caught {
         row: upto,
         passed: catchup::passed_over(row, upto),
+        place: 0,
     }
 }
 
@@ -329,7 +340,7 @@ fn dock(
     requires { ⌜ HasStation (now stations) (station .0) × HasRooms (now messages) × (station .0 < 16) × (cart .0 < 64) ⌝ }
     requires { ⌜ ((s : ℕ) → s < initiators → stationsIn (now stations) .expected (station .0) s ≤ 4294967295) ⌝ }
     requires { ⌜ ((m : ℕ) → has (namingIn (stationsIn (now stations)) (station .0) (cart .0)) m ≡ true → m < roomCount (now messages)) ⌝ }
-    ensures { λ r. ⌜ Docked (now (stations .entry)) (now (stations .exit)) (now (messages .entry)) (station .0) (cart .0) row (r .row) (r .passed) ⌝ }
+    ensures { λ r. ⌜ Docked (now (stations .entry)) (now (stations .exit)) (now (messages .entry)) (station .0) (cart .0) row (r .row) (r .passed) (r .place) ⌝ }
 {
     let naming = stations::rooms_naming(stations, station, cart);
     if naming == 0 {
@@ -339,10 +350,12 @@ fn dock(
     let stopped = catchup::stops_of(stations, messages, station, cart, ahead, row);
     let nearest = stopped.nearest;
     let upto = stopped.upto;
-    join(stations, messages, station, cart, ahead, nearest);
+    let found = stopped.found;
+    let place = join(stations, messages, station, cart, nearest, found);
     Caught {
         row: upto,
         passed: catchup::passed_over(row, upto),
+        place,
     }
 }
 
@@ -378,14 +391,14 @@ pub fn on_register(
     requires { ⌜ HasStation (now stations) (station .0) × HasRow (now carts) (number .0) × HasRooms (now messages) × (station .0 < 16) × (number .0 < 64) ⌝ }
     requires { ⌜ ((s : ℕ) → s < initiators → stationsIn (now stations) .expected (station .0) s ≤ 4294967295) ⌝ }
     requires { ⌜ ((m : ℕ) → has (namingIn (stationsIn (now stations)) (station .0) (number .0)) m ≡ true → m < roomCount (now messages)) ⌝ }
-    ensures { λ r. ⌜ Arrived (now (stations .entry)) (now (stations .exit)) (now (carts .entry)) (now (carts .exit)) (now (messages .entry)) (station .0) (number .0) row (r .passed) ⌝ }
-    ensures { λ r. ⌜ r ≡ passing (r .passed) ⌝ }
+    ensures { λ r. ⌜ Arrived (now (stations .entry)) (now (stations .exit)) (now (carts .entry)) (now (carts .exit)) (now (messages .entry)) (station .0) (number .0) row (r .passed) (r .place) ⌝ }
+    ensures { λ r. ⌜ r ≡ queueing (r .passed) (r .place) ⌝ }
 {
     let caught = dock(stations, messages, station, number, row);
     let upto = caught.row;
     let cart = carts::cart_at(carts, number);
     carts::put_cart(carts, number, cart.arrive(station, upto));
-    reports::passing(caught.passed)
+    reports::queueing(caught.passed, caught.place)
 }
 
 // "Enter (station, cart): as a register with all next numbers 0, handled at once"; "A cart counts as steady from its entry".
@@ -399,8 +412,8 @@ pub fn on_enter(
     requires { ⌜ HasStation (now stations) (station .0) × HasRow (now carts) (number .0) × HasRooms (now messages) × (station .0 < 16) × (number .0 < 64) ⌝ }
     requires { ⌜ ((s : ℕ) → s < initiators → stationsIn (now stations) .expected (station .0) s ≤ 4294967295) ⌝ }
     requires { ⌜ ((m : ℕ) → has (namingIn (stationsIn (now stations)) (station .0) (number .0)) m ≡ true → m < roomCount (now messages)) ⌝ }
-    ensures { λ r. ⌜ Entered (now (stations .entry)) (now (stations .exit)) (now (carts .entry)) (now (carts .exit)) (now (messages .entry)) (station .0) (number .0) (r .passed) ⌝ }
-    ensures { λ r. ⌜ r ≡ passing (r .passed) ⌝ }
+    ensures { λ r. ⌜ Entered (now (stations .entry)) (now (stations .exit)) (now (carts .entry)) (now (carts .exit)) (now (messages .entry)) (station .0) (number .0) (r .passed) (r .place) ⌝ }
+    ensures { λ r. ⌜ r ≡ queueing (r .passed) (r .place) ⌝ }
 {
     let row = [0u64; 16];
     let effect = on_register(stations, carts, messages, station, number, row);

@@ -1,14 +1,17 @@
-// The queue of a station: which message is its head, which of several stands first, and whether "every local cart in the copy is in the ack list".
+// The queue of a station: which message is its head, which of several stands first, which place an entry has, and whether "every local cart in the copy is in the ack list".
 use ids::Station;
 ghost use mathlib.Core.Path.{_≡_};
+ghost use mathlib.Core.Bool.{_&&_};
 ghost use mathlib.Core.List.{[]};
 ghost use Prim.Native.Nat.{_<_};
+ghost use lib.Dec.{ltb};
 ghost use Rattle.protocol.specs.CartSets.{has, minus};
 ghost use Rattle.protocol.specs.Wireless.{headAmong};
 ghost use Rattle.sets.specs.Masks.{disjoint};
 ghost use Rattle.stations.specs.View.{rooms, HasStation, stationsIn};
 ghost use Rattle.messages.specs.View.{HasRoom, roomsIn};
-ghost use Rattle.queue.specs.Rooms.{tablesFloor, QueueRooms, roomCode};
+ghost use Rattle.queue.specs.Rooms.{tablesFloor, roomCount, HasRooms, QueueRooms, roomCode};
+ghost use Rattle.queue.specs.Places.{isBefore, isAhead, placeAmong};
 ghost use Rattle.queue.specs.Keys.{InKey, keyOf, Keyed, KeyedRooms, hasEntry, firstAmong, firstOf, bestWith};
 
 // The word for no room.
@@ -85,6 +88,52 @@ pub fn first_among(messages: &[u64], among: u64) -> usize
         best = first_of(best, m, key_of(messages, m));
     }
     best.head
+}
+
+// Does the message in room k stand before that in room m: "smallest number first; between equal numbers the higher initiator stands first"? All four
+// numbers are read first, so that it is chosen without a branch.
+fn is_before(messages: &[u64], k: usize, m: usize) -> bool
+    requires { ⌜ HasRoom (now messages) k × HasRoom (now messages) m ⌝ }
+    ensures { λ r. ⌜ r ≡ isBefore (roomsIn (now (messages .entry))) k m ⌝ }
+{
+    let number = messages::number_of(messages, k).0;
+    let initiator = messages::initiator_of(messages, k).0;
+    let its_number = messages::number_of(messages, m).0;
+    let its_initiator = messages::initiator_of(messages, m).0;
+    if number == its_number {
+        its_initiator < initiator
+    } else {
+        number < its_number
+    }
+}
+
+// Is room k one of the table's, with an entry at the station that stands before the message in room m? An empty entry is none.
+fn is_ahead(stations: &[u64], messages: &[u64], station: Station, k: usize, m: usize) -> bool
+    requires { ⌜ HasStation (now stations) (station .0) × (k < rooms) × HasRoom (now messages) m ⌝ }
+    ensures { λ r. ⌜ r ≡ (ltb k (roomCount (now (messages .entry))) && isAhead (stationsIn (now (stations .entry))) (roomsIn (now (messages .entry))) (station .0) m k) ⌝ }
+{
+    if messages.len() < k * 6 + 6 {
+        return false;
+    }
+    if stations::queue_of(stations, k, station) == 0 {
+        return false;
+    }
+    is_before(messages, k, m)
+}
+
+// "the entry's place, 1 for the head": how many entries of the queue stand before the message in room m, and one. Its own does not, and is not looked at.
+pub fn place_of(stations: &[u64], messages: &[u64], station: Station, m: usize) -> u64
+    requires { ⌜ HasStation (now stations) (station .0) × HasRooms (now messages) × HasRoom (now messages) m ⌝ }
+    ensures { λ r. ⌜ r ≡ placeAmong (stationsIn (now (stations .entry))) (roomsIn (now (messages .entry))) (station .0) m (roomCount (now (messages .entry))) ⌝ }
+{
+    let mut before: u64 = 0;
+    let mut left = sets::without_member(stations::entries_of(stations, station), m as u64);
+    while 0 < left {
+        let k = sets::first(left) as usize;
+        left = sets::without_first(left);
+        before += is_ahead(stations, messages, station, k, m) as u64;
+    }
+    before + 1
 }
 
 // "every local cart in the copy is in the ack list": none of the local carts is in the copy and not in the ack list.

@@ -67,17 +67,17 @@ module _ {P : Product} (S C M W W₁ T : List ℕ) (X : Standing (lent P S C M W
   in-room = ack-list-room L X i j from to said rest top kind
 
   -- the written step, at the message's room
-  ack-step : onWire (limitsOf (L .product)) F i j ≡ cond (eqb known (roomsIn M .named m)) (done (push added (toEvery (headIn S .stations) j) (delete n)) 3 2 n 0 (headIn S .stations) []) (done added 3 2 n 0 0 [])
+  ack-step : onWire (limitsOf (L .product)) F i j ≡ cond (eqb known (roomsIn M .named m)) (done (push added (toEvery (headIn S .stations) j) (delete n)) 3 2 n 0 (headIn S .stations) 0 []) (done added 3 2 n 0 0 0 [])
   unfolding handle onAckList roomOf
   ack-step =
       wire-is L X i j from to said rest top
       ∙ ap (λ (r : Record). handle (limitsOf (L .product)) (unlined F i j) i j r) (says-ack-list L X i j from to said rest top kind)
       ∙ rw (in-room .found) refl
 
-  whole-step : known ≡ roomsIn M .named m → onWire (limitsOf (L .product)) F i j ≡ done (push added (toEvery (headIn S .stations) j) (delete n)) 3 2 n 0 (headIn S .stations) []
+  whole-step : known ≡ roomsIn M .named m → onWire (limitsOf (L .product)) F i j ≡ done (push added (toEvery (headIn S .stations) j) (delete n)) 3 2 n 0 (headIn S .stations) 0 []
   whole-step e = ack-step ∙ rw (eq-eqb known (roomsIn M .named m) e) refl
 
-  part-step : (known ≡ roomsIn M .named m → ⊥) → onWire (limitsOf (L .product)) F i j ≡ done added 3 2 n 0 0 []
+  part-step : (known ≡ roomsIn M .named m → ⊥) → onWire (limitsOf (L .product)) F i j ≡ done added 3 2 n 0 0 0 []
   part-step e = ack-step ∙ rw (ne-eqb known (roomsIn M .named m) e) refl
 
   popped-lines : linesIn W₁ ≡ behead i j (linesIn W)
@@ -153,8 +153,8 @@ module _ {P : Product} (S C M W W₁ T : List ℕ) (X : Standing (lent P S C M W
         with-lines (behead i j (linesIn W)) (ap linesIn q ∙ popped-lines) (ap (λ (l : List ℕ). length l) q ∙ popped .words)
         ∙ sym (ap (λ (d : Done). d .floor) (part-step e)))
 
-    -- "3, 2, number, 0, w"
-    pub ack-list-report : onWire (limitsOf (L .product)) F i j .report ≡ record { kind = 3; a = 2; b = n; p = 0; w = w; text = [] }
+    -- "3, 2, number, 0, w", and no place
+    pub ack-list-report : onWire (limitsOf (L .product)) F i j .report ≡ record { kind = 3; a = 2; b = n; p = 0; w = w; q = 0; text = [] }
     ack-list-report =
         by-eq known (roomsIn M .named m)
         (λ e. rw (acknowledged .whole e .0) (ap (λ (d : Done). d .report) (whole-step e)))

@@ -12,6 +12,7 @@ use Rattle.carts.specs.Words.{HasRow}
 use Rattle.carts.specs.View.{cartsIn}
 use Rattle.stations.specs.View.{HasStation, headIn, stationsIn}
 use Rattle.messages.specs.View.{HasRoom, roomsIn}
+use Rattle.queue.specs.Rooms.{HasRooms}
 use Rattle.lines.specs.declared.Record as word
 use Rattle.lines.specs.Form.{form}
 use Rattle.lines.specs.Lines.{recordsOn, used}
@@ -40,6 +41,10 @@ module _ {P : Product} (S C M W W₁ T : List ℕ) (X : Standing (lent P S C M W
   has-room : (s : ℕ) → InRoom (limitsOf P) (floorIn L) s n m → HasRoom M m
   has-room s h = let a = h .held .slot in let b = X .lengths .messages in omega arith
 
+  -- and the table has no more rooms than a station's row has words for
+  has-rooms : HasRooms M
+  has-rooms = let a = X .lengths .messages in let b = P .held-fit in omega arith
+
   -- a local cart is on the floor, so it has a row
   local-rows : (c : ℕ) → has (stationsIn S .local j) c ≡ true → HasRow C c
   local-rows c h =
@@ -54,12 +59,12 @@ module _ {P : Product} (S C M W W₁ T : List ℕ) (X : Standing (lent P S C M W
       omega arith
 
   pub multicast-asks : kindOf (said .0) ≡ 1
-      → (HasStation S j × (i < 16) × (stationsIn S .expected j i < 4294967296)) × (((c : ℕ) → has (stationsIn S .local j) c ≡ true → HasRow C c) × HasRoom M m × (m < 32) × (n < 4294967296))
+      → (HasStation S j × (i < 16) × (stationsIn S .expected j i < 4294967296)) × (((c : ℕ) → has (stationsIn S .local j) c ≡ true → HasRow C c) × HasRoom M m × (m < 32) × (n < 4294967296) × HasRooms M)
   multicast-asks k =
       let room = multicast-room L X i j from to said rest top k in
       let words = X .lengths .stations in
       let below = to-below L X i j from to in
-      ((omega arith, from-below L X i j from to, expected-below L X j i to), (local-rows, has-room i room, room .below, number-below L X i n m room))
+      ((omega arith, from-below L X i j from to, expected-below L X j i to), (local-rows, has-room i room, room .below, number-below L X i n m room, has-rooms))
 
   pub delete-asks : kindOf (said .0) ≡ 3 → HasRoom M m × (j < 16)
   delete-asks k = (has-room i (delete-room L X i j from to said rest top k), to-below L X i j from to)

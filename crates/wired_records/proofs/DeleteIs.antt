@@ -49,7 +49,7 @@ module _ {P : Product} (S C M M′ W W₁ T : List ℕ) (X : Standing (lent P S 
   F = floorIn L
 
   -- the written step, at the message's room
-  delete-step : onWire (limitsOf (L .product)) F i j ≡ done (unbuffer (unlined F i j) m j) 3 3 n 0 0 []
+  delete-step : onWire (limitsOf (L .product)) F i j ≡ done (unbuffer (unlined F i j) m j) 3 3 n 0 0 0 []
   unfolding handle onDelete roomOf
   delete-step =
       wire-is L X i j from to said rest top
@@ -101,6 +101,6 @@ module _ {P : Product} (S C M M′ W W₁ T : List ℕ) (X : Standing (lent P S 
       (headIn S) (stationsIn S) (cartsIn C) (deleted .rooms k) (textsIn T (deleted .rooms k)) (lines k))
       ∙ sym (ap (λ (d : Done). d .floor) delete-step)
 
-  -- "3, 3, number, 0, 0"
-  pub delete-report : onWire (limitsOf (L .product)) F i j .report ≡ record { kind = 3; a = 3; b = n; p = 0; w = 0; text = [] }
+  -- "3, 3, number, 0, 0", and no place
+  pub delete-report : onWire (limitsOf (L .product)) F i j .report ≡ record { kind = 3; a = 3; b = n; p = 0; w = 0; q = 0; text = [] }
   delete-report = ap (λ (d : Done). d .report) delete-step

@@ -11,14 +11,17 @@ use Rattle.protocol.specs.CartSets.{minus, setOf}
 use Rattle.protocol.specs.Floor.{Floor, Carts, localTo, Record, behead, limitsOf, Product}
 use Rattle.protocol.specs.Events.{Done, done}
 use Rattle.protocol.specs.Form.{multicastNumbers}
+use Rattle.protocol.specs.Order.{placeIn}
 use Rattle.protocol.specs.Handoff.{roomOf}
-use Rattle.protocol.specs.Wired.{handle, localRow, multicastByRow, onMulticast, onWire, buffer, raiseExpected, passesOver, isQueued, isStruck}
+use Rattle.protocol.specs.Wired.{handle, localRow, multicastByRow, placeOfNew, onMulticast, onWire, buffer, raiseExpected, passesOver, isQueued, isStruck}
 use borrow.Author.Tests.{ne-eqb}
 use Rattle.protocol.proofs.Accepted.{unlined}
 use Rattle.protocol.proofs.Updates.{counts-up-le}
 use Rattle.stations.specs.View.{Stations, headIn, stationsIn, withExpected, withCopy, withQueue}
 use Rattle.carts.specs.View.{cartsIn}
 use Rattle.messages.specs.View.{roomsIn}
+use Rattle.queue.specs.Rooms.{roomCount}
+use Rattle.queue.specs.Places.{placeAmong}
 use Rattle.lines.specs.declared.Record as word
 use Rattle.lines.specs.Lines.{recordsOn}
 use Rattle.lines.specs.Post.{Popped}
@@ -44,7 +47,7 @@ expected-below L X t s l =
 module _ {P : Product} (S S′ C C′ M W W₁ T : List ℕ) (X : Standing (lent P S C M W T)) (i j : ℕ)
     (from : i < headIn S .stations) (to : j < headIn S .stations) (said : word.Record) (rest : List word.Record)
     (top : recordsOn W (i * 16 + j) ≡ said ∷ rest) (kind : kindOf (said .0) ≡ 1) (popped : Popped W W₁ (i * 16 + j))
-    (p : ℕ) (by-table : Buffered S S′ C C′ M (stationsIn S .local j) (indexOf (said .0)) (numberOf (said .0)) i j p) where
+    (p q : ℕ) (by-table : Buffered S S′ C C′ M (stationsIn S .local j) (indexOf (said .0)) (numberOf (said .0)) i j p q) where
   abbrev L : Lent
   L = lent P S C M W T
 
@@ -73,15 +76,15 @@ module _ {P : Product} (S S′ C C′ M W W₁ T : List ℕ) (X : Standing (lent
   small : local < 2 ^ F .carts
   small = row-small L X j to
 
-  buffered : Buffered S S′ C C′ M local m n i j p
-  buffered = subst (λ (row : ℕ). Buffered S S′ C C′ M row m n i j p) (row-made L X j to) by-table
+  buffered : Buffered S S′ C C′ M local m n i j p q
+  buffered = subst (λ (row : ℕ). Buffered S S′ C C′ M row m n i j p q) (row-made L X j to) by-table
 
   in-room : InRoom (limitsOf P) F i n m
   in-room = multicast-room L X i j from to said rest top kind
 
   -- the written step, at the message's room
-  multicast-step : onWire (limitsOf (L .product)) F i j ≡ done (raiseExpected (buffer (unlined F i j) local m j i n) j i) 3 1 n (count (headIn S .carts) (passesOver F local m i n)) 0 []
-  unfolding handle onMulticast multicastByRow roomOf
+  multicast-step : onWire (limitsOf (L .product)) F i j ≡ done (raiseExpected (buffer (unlined F i j) local m j i n) j i) 3 1 n (count (headIn S .carts) (passesOver F local m i n)) 0 (placeOfNew (limitsOf P) F local m j i n) []
+  unfolding handle onMulticast multicastByRow roomOf placeOfNew placeIn buffer
   multicast-step =
       wire-is L X i j from to said rest top
       ∙ ap (λ (r : Record). handle (limitsOf (L .product)) (unlined F i j) i j r) (says-multicast L X i j from to said rest top kind)
@@ -142,8 +145,20 @@ module _ {P : Product} (S S′ C C′ M W W₁ T : List ℕ) (X : Standing (lent
       (buffered .stations .head k) (stations k) (carts k) (roomsIn M) (textsIn T (roomsIn M)) (lines k))
       ∙ sym (ap (λ (d : Done). d .floor) multicast-step)
 
-  -- "3, 1, number, p, 0"
-  pub multicast-report : onWire (limitsOf (L .product)) F i j .report ≡ record { kind = 3; a = 1; b = n; p = p; w = 0; text = [] }
+  -- the messages' table has the product's rooms
+  all-rooms : roomCount M ≡ P .held
+  all-rooms = let a = X .lengths .messages in omega arith
+
+  -- "the entry's place, 1 for the head, as it stands right after the putting", 0 "if no cart was queued"
+  pub multicast-place : q ≡ placeOfNew (limitsOf P) F local m j i n
+  unfolding placeOfNew placeIn buffer placeAmong
+  multicast-place =
+      buffered .place
+      ∙ (λ k. cond (eqb (queue-same L X local small m i n (in-room .held .slot) (buffered .over) (buffered .passed) k) 0) 0
+      (placeAmong (stations k) (roomsIn M) j m (all-rooms k)))
+
+  -- "3, 1, number, p, 0", and q
+  pub multicast-report : onWire (limitsOf (L .product)) F i j .report ≡ record { kind = 3; a = 1; b = n; p = p; w = 0; q = q; text = [] }
   multicast-report =
       ap (λ (d : Done). d .report) multicast-step
-      ∙ rw (buffered .count, over-count L X local small m i n (in-room .held .slot) (buffered .over) (buffered .passed)) refl
+      ∙ rw (buffered .count, over-count L X local small m i n (in-room .held .slot) (buffered .over) (buffered .passed), multicast-place) refl

@@ -1,12 +1,17 @@
 -- WHAT THE STORES OF EACH STEP LEAVE, by what was read before them.
 use mathlib.Core.Path.{_≡_, refl, sym, ap, _∙_}
+use mathlib.Core.Bool.{cond}
 use mathlib.Core.List.{List}
 use Prim.Native.Nat.{ℕ, _+_}
+use lib.Dec.{eqb}
 use lib.ListN.{length}
+use borrow.Author.Tests.{eq-eqb, ne-eqb}
 use Rattle.protocol.specs.CartSets.{union, minus, without}
 use Rattle.stations.specs.View.{Stations, headIn, stationsIn, withExpected, withCopy, withQueue}
 use Rattle.carts.specs.View.{cartsIn}
 use Rattle.messages.specs.View.{roomsIn, withAcked, withWaiting}
+use Rattle.queue.specs.Rooms.{roomCount}
+use Rattle.queue.specs.Places.{placeAmong}
 use Rattle.sets.specs.Masks.{size}
 use Rattle.lines.specs.declared.Record as word
 use Rattle.view.specs.Records.{wordsOf}
@@ -57,13 +62,22 @@ stores S S₁ S₂ S′ m s t copy queue expected e a b d =
       length = d .1 .1 ∙ b .1 .1 ∙ a .1 .1;
     }
 
--- of a multicast, over the parts that it touches: room k and number q that the record says, the carts named, those due and past among the row
-pub buffers : (S S′ C C′ M : List ℕ) (local m n s t k q named due past over copy queue p : ℕ) → k ≡ m → q ≡ n
+-- the place answered, by whether a cart was queued; x is that of the entry
+pub none-queued : (queued x : ℕ) → queued ≡ 0 → 0 ≡ cond (eqb queued 0) 0 x
+none-queued queued x e = rw (eq-eqb queued 0 e) refl
+
+pub some-queued : (queued x : ℕ) → (queued ≡ 0 → ⊥) → (r : ℕ) → r ≡ x → r ≡ cond (eqb queued 0) 0 x
+some-queued queued x n r e = rw (ne-eqb queued 0 n) e
+
+-- of a multicast, over the parts that it touches: room k and number q that the record says, the carts named, those due and past among the row; x is
+-- the place of the entry
+pub buffers : (S S′ C C′ M : List ℕ) (local m n s t k q named due past over copy queue p x : ℕ) → k ≡ m → q ≡ n
     → named ≡ roomsIn M .named k → due ≡ dueAmong (cartsIn C) local s q → past ≡ pastAmong (cartsIn C) local s q
     → Raised C C′ (minus due named) s (q + 1) → p ≡ size 64 (minus due named)
     → over ≡ minus due named → copy ≡ minus named past → queue ≡ minus due over → Stored S S′ k s t copy queue
-    → Buffered S S′ C C′ M local m n s t p
-buffers S S′ C C′ M local m n s t k q named due past over copy queue p room number set d g raise count o y z store =
+    → x ≡ cond (eqb queue 0) 0 (placeAmong (stationsIn S′) (roomsIn M) t k (roomCount M))
+    → Buffered S S′ C C′ M local m n s t p x
+buffers S S′ C C′ M local m n s t k q named due past over copy queue p x room number set d g raise count o y z store placed =
     let named-is : named ≡ roomsIn M .named m = set ∙ ap (roomsIn M .named) room in
     let due-is : due ≡ dueAmong (cartsIn C) local s n = d ∙ ap (dueAmong (cartsIn C) local s) number in
     let past-is : past ≡ pastAmong (cartsIn C) local s n = g ∙ ap (pastAmong (cartsIn C) local s) number in
@@ -75,4 +89,5 @@ buffers S S′ C C′ M local m n s t k q named due past over copy queue p room 
       carts = rw (← o, number) at raise;
       stations = rw (room, copy-is, queue-is) at store;
       count = rw (← o) at count;
+      place = placed ∙ (λ i. cond (eqb (queue-is i) 0) 0 (placeAmong (stationsIn S′) (roomsIn M) t (room i) (roomCount M)));
     }

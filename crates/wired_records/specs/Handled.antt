@@ -11,6 +11,8 @@ use Rattle.protocol.specs.Floor.{Carts}
 use Rattle.stations.specs.View.{headIn, stationsIn, withExpected, withCopy, withQueue}
 use Rattle.carts.specs.View.{cartsIn, canonicalIn}
 use Rattle.messages.specs.View.{roomsIn, withAcked, withWaiting}
+use Rattle.queue.specs.Rooms.{roomCount}
+use Rattle.queue.specs.Places.{placeAmong}
 use Rattle.sets.specs.Masks.{size}
 use Rattle.view.specs.Records.{wordsOf}
 use Rattle.wired_lines.specs.ToEvery.{PushedToEvery}
@@ -41,13 +43,15 @@ pub record Stored (S S′ : List ℕ) (m s t copy queue : ℕ) : Type 0 where
 
 -- message n of s, in room m, at station t, by the row `local` of those that count as local there: those due and named are queued, those due and not
 -- named are passed over, and those past it are not in the copy; p is how many are passed over. "The rest of the step takes it from that row alone":
--- nothing else here says who is local
-pub record Buffered (S S′ C C′ M : List ℕ) (local m n s t p : ℕ) : Type 0 where
+-- nothing else here says who is local. q is "the entry's place, 1 for the head, as it stands right after the putting": by the words afterwards, 0 "if
+-- no cart was queued"
+pub record Buffered (S S′ C C′ M : List ℕ) (local m n s t p q : ℕ) : Type 0 where
   pub over : ℕ
   pub passed : over ≡ minus (dueAmong (cartsIn C) local s n) (roomsIn M .named m)
   pub carts : Raised C C′ over s (n + 1)
   pub stations : Stored S S′ m s t (minus (roomsIn M .named m) (pastAmong (cartsIn C) local s n)) (minus (dueAmong (cartsIn C) local s n) over)
   pub count : p ≡ size 64 over
+  pub place : q ≡ cond (eqb (minus (dueAmong (cartsIn C) local s n) over) 0) 0 (placeAmong (stationsIn S′) (roomsIn M) t m (roomCount M))
 
 -- A DELETE of the message in room m, at station t: it waits for t no more
 pub record Deleted (M M′ : List ℕ) (m t : ℕ) : Type 0 where

@@ -8,6 +8,7 @@ ghost use mathlib.Core.Path.{_≡_};
 ghost use mathlib.Core.Bool.{true, cond, not};
 ghost use mathlib.Core.List.{List};
 ghost use Prim.Native.Nat.{ℕ, _+_, _<_, _≤_};
+ghost use lib.Dec.{eqb};
 ghost use Rattle.protocol.specs.CartSets.{has, union, minus};
 ghost use Rattle.protocol.specs.Floor.{Product, limitsOf};
 ghost use Rattle.protocol.specs.Form.{passesForm};
@@ -16,8 +17,10 @@ ghost use Rattle.stations.specs.View.{initiators, rooms, HasStation, headIn, st
 ghost use Rattle.carts.specs.Words.{HasRow};
 ghost use Rattle.carts.specs.View.{cartsIn};
 ghost use Rattle.messages.specs.View.{HasRoom, roomsIn};
+ghost use Rattle.queue.specs.Rooms.{roomCount, HasRooms};
+ghost use Rattle.queue.specs.Places.{placeAmong};
 ghost use Rattle.sets.specs.Masks.{size};
-ghost use Rattle.reports.specs.Effects.{nothing, passing, putting};
+ghost use Rattle.reports.specs.Effects.{nothing, putting, queueing};
 ghost use Rattle.lines.specs.Form.{form};
 ghost use Rattle.lines.specs.Lines.{used};
 ghost use Rattle.lines.specs.Words.{capacity};
@@ -83,6 +86,18 @@ fn store(stations: &mut [u64], m: usize, initiator: Station, to: Station, copy: 
     stations::put_expected(stations, to, initiator, expected + 1);
 }
 
+// "Putting a cart in a queue entry now also answers the entry's place, 1 for the head, as it stands right after the putting": of the entry for the
+// message in room m, once the carts `queued` are in it. "0 if no cart was queued": nothing is looked at then.
+fn place_of_new(stations: &[u64], messages: &[u64], m: usize, to: Station, queued: u64) -> u64
+    requires { ⌜ HasStation (now stations) (to .0) × HasRooms (now messages) × HasRoom (now messages) m ⌝ }
+    ensures { λ r. ⌜ r ≡ cond (eqb queued 0) 0 (placeAmong (stationsIn (now (stations .entry))) (roomsIn (now (messages .entry))) (to .0) m (roomCount (now (messages .entry)))) ⌝ }
+{
+    if queued == 0 {
+        return 0;
+    }
+    queue::place_of(stations, messages, to, m)
+}
+
 // "a multicast step shall find out once for each cart whether it is local": the answers are the bits of one word, so one look finds out for each of
 // the sixty-four. On a floor that passes they are "yes exactly for the local carts".
 fn local_row(stations: &[u64], to: Station) -> u64
@@ -95,7 +110,8 @@ fn local_row(stations: &[u64], to: Station) -> u64
 
 // "Multicast: the message is buffered with its own copy of the set. For each local cart: next number equal and cart named, it is queued for that
 // message; equal and not named, its next number rises; greater and named, it is struck from the copy." The numbers that rise are passed over. Who is
-// local is "from that row alone", whatever the row says: a cart that is elsewhere has the next numbers of its record.
+// local is "from that row alone", whatever the row says: a cart that is elsewhere has the next numbers of its record. Putting the carts in the queue
+// "now also answers the entry's place, 1 for the head, as it stands right after the putting", 0 "if no cart was queued".
 fn multicast_by_row(
     stations: &mut [u64],
     carts: &mut [u64],
@@ -106,27 +122,30 @@ fn multicast_by_row(
     local: u64,
 ) -> Effect
     requires { ⌜ HasStation (now stations) (to .0) × (initiator .0 < initiators) × (stationsIn (now stations) .expected (to .0) (initiator .0) < 4294967296) ⌝ }
-    requires { ⌜ ((c : ℕ) → has local c ≡ true → HasRow (now carts) c) × HasRoom (now messages) (indexOf (said .0)) × (indexOf (said .0) < rooms) × (numberOf (said .0) < 4294967296) ⌝ }
-    ensures { λ r. ⌜ Buffered (now (stations .entry)) (now (stations .exit)) (now (carts .entry)) (now (carts .exit)) (now (messages .entry)) local (indexOf (said .0)) (numberOf (said .0)) (initiator .0) (to .0) (r .passed) ⌝ }
-    ensures { λ r. ⌜ r ≡ passing (r .passed) ⌝ }
+    requires { ⌜ ((c : ℕ) → has local c ≡ true → HasRow (now carts) c) × HasRoom (now messages) (indexOf (said .0)) × (indexOf (said .0) < rooms) × (numberOf (said .0) < 4294967296) × HasRooms (now messages) ⌝ }
+    ensures { λ r. ⌜ Buffered (now (stations .entry)) (now (stations .exit)) (now (carts .entry)) (now (carts .exit)) (now (messages .entry)) local (indexOf (said .0)) (numberOf (said .0)) (initiator .0) (to .0) (r .passed) (r .place) ⌝ }
+    ensures { λ r. ⌜ r ≡ queueing (r .passed) (r .place) ⌝ }
 {
     let m = view::index_of(said) as usize;
     let number = view::number_of(said);
     let named = messages::named_of(messages, m);
     let sorted = sort_local(carts, local, named, initiator, number);
     let over = sets::minus(sorted.due, named);
+    let queued = sets::minus(sorted.due, over);
     store(
         stations,
         m,
         initiator,
         to,
         sets::minus(named, sorted.past),
-        sets::minus(sorted.due, over),
+        queued,
     );
-    reports::passing(sorted.passed)
+    let place = place_of_new(stations, messages, m, to, queued);
+    reports::queueing(sorted.passed, place)
 }
 
-// "Multicast": the row is made first, and the step changes none of its answers.
+// "Multicast": the row is made first, and the step changes none of its answers. It answers "the entry's place, 1 for the head, as it stands right after
+// the putting", 0 "if no cart was queued".
 pub fn on_multicast(
     stations: &mut [u64],
     carts: &mut [u64],
@@ -136,9 +155,9 @@ pub fn on_multicast(
     to: Station,
 ) -> Effect
     requires { ⌜ HasStation (now stations) (to .0) × (initiator .0 < initiators) × (stationsIn (now stations) .expected (to .0) (initiator .0) < 4294967296) ⌝ }
-    requires { ⌜ ((c : ℕ) → has (stationsIn (now stations) .local (to .0)) c ≡ true → HasRow (now carts) c) × HasRoom (now messages) (indexOf (said .0)) × (indexOf (said .0) < rooms) × (numberOf (said .0) < 4294967296) ⌝ }
-    ensures { λ r. ⌜ Buffered (now (stations .entry)) (now (stations .exit)) (now (carts .entry)) (now (carts .exit)) (now (messages .entry)) (stationsIn (now (stations .entry)) .local (to .0)) (indexOf (said .0)) (numberOf (said .0)) (initiator .0) (to .0) (r .passed) ⌝ }
-    ensures { λ r. ⌜ r ≡ passing (r .passed) ⌝ }
+    requires { ⌜ ((c : ℕ) → has (stationsIn (now stations) .local (to .0)) c ≡ true → HasRow (now carts) c) × HasRoom (now messages) (indexOf (said .0)) × (indexOf (said .0) < rooms) × (numberOf (said .0) < 4294967296) × HasRooms (now messages) ⌝ }
+    ensures { λ r. ⌜ Buffered (now (stations .entry)) (now (stations .exit)) (now (carts .entry)) (now (carts .exit)) (now (messages .entry)) (stationsIn (now (stations .entry)) .local (to .0)) (indexOf (said .0)) (numberOf (said .0)) (initiator .0) (to .0) (r .passed) (r .place) ⌝ }
+    ensures { λ r. ⌜ r ≡ queueing (r .passed) (r .place) ⌝ }
     ensures { λ _. ⌜ stationsIn (now (stations .exit)) .local ≡ stationsIn (now (stations .entry)) .local ⌝ }
 {
     let local = local_row(stations, to);

@@ -174,9 +174,9 @@ module _ {P : Product} (S S′ C M M′ W W′ T T′ : List ℕ) (m s set : ℕ
     send-is = rw found message-is
 
     -- and its report: no cart is passed over, and a record goes to each station
-    pub send-done : done (floorIn L′) 2 s number 0 n [] ≡ onSend (limitsOf P) (floorIn L) s set text
+    pub send-done : done (floorIn L′) 2 s number 0 n 0 [] ≡ onSend (limitsOf P) (floorIn L) s set text
     unfolding onSend
-    send-done = rw found (ap (λ (G : Floor). done G 2 s number 0 n []) message-is)
+    send-done = rw found (ap (λ (G : Floor). done G 2 s number 0 n 0 []) message-is)
 
     -- the whole event
     pub send-event : floorIn L′ ≡ step (limitsOf P) (floorIn L) (send s set text)

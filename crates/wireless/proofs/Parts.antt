@@ -12,9 +12,10 @@ use Rattle.protocol.specs.Floor.{Floor}
 use Rattle.protocol.proofs.SetLaws.{has-zero, has-setOf}
 use Rattle.protocol.proofs.Tests.{and-right, by-lt, by-test, clash, on-update2}
 use Rattle.stations.specs.View.{Stations, stationsIn, namingIn, withCopy, withAcks, withRoom, withQueue}
+use Rattle.messages.specs.View.{Rooms}
 use Rattle.queue.specs.Rooms.{roomCode, roomIn}
 use Rattle.catchup.specs.Nearest.{nearestAmong, stopBy}
-use Rattle.catchup.specs.Arrival.{isFound, queuedFor}
+use Rattle.catchup.specs.Arrival.{isFound, queuedFor, placeFound}
 use Rattle.catchup.proofs.ClosedForm.{IsNearest, nearest-is, would}
 use Rattle.catchup.proofs.NamingLaws.{naming-inside}
 use Rattle.catchup.proofs.RoomLaws.{nearest-decoded}
@@ -111,3 +112,6 @@ module _ (F : Floor) (t c s x : ℕ) where
 
   pub none-queued : (S : Stations) → F .expected t s ≤ x → S ≡ queuedFor S t c (isFound (nearestAmong F t c s x 32))
   none-queued S h = queued-none S t c (isFound none) (λ k. refl) ∙ ap (λ (o : Option ℕ). queuedFor S t c (isFound o)) (sym (nothing-ahead h))
+
+  pub none-placed : (S : Stations) (R : Rooms) (n : ℕ) → F .expected t s ≤ x → 0 ≡ placeFound S R t n (nearestAmong F t c s x 32)
+  none-placed S R n h = ap (λ (o : Option ℕ). placeFound S R t n o) (sym (nothing-ahead h))

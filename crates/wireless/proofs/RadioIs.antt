@@ -7,10 +7,12 @@ use Prim.Native.Nat.{ℕ, suc, _-_, _≤_, _<_, _^_}
 use native.Mathlib.Omega.{arith}
 use lib.Dec.{eqb}
 use borrow.Author.Tests.{eq-eqb}
+use Rattle.queue.specs.Places.{placeAmong}
+use Rattle.protocol.specs.Order.{placeIn}
 use Rattle.protocol.specs.Folds.{update2, byOption}
 use Rattle.protocol.specs.CartSets.{has, setOf, with, without, minus}
 use Rattle.protocol.specs.Floor.{Product, limitsOf, Floor, Carts, Record, ackList, put, between, localTo, setNext}
-use Rattle.protocol.specs.Handoff.{catchUp, catchUpStop, enqueue}
+use Rattle.protocol.specs.Handoff.{catchUp, catchUpStop, enqueue, placeGiven, Stop}
 use Rattle.protocol.specs.Wireless.{receive, allAcked, sendAcks, sendAcksIfAll, handOver, onRadio}
 use Rattle.protocol.proofs.Tests.{on-update2, update2-at, by-test, by-lt, both-differ, eqb-self}
 use Rattle.protocol.proofs.SetLaws.{has-zero}
@@ -28,14 +30,14 @@ use Rattle.view.proofs.Lengths.{Lengths, lengths-right}
 use Rattle.view.proofs.Laid.{Laid, words-right, laid-stations, laid-carts, laid-push}
 use Rattle.view.proofs.RecordWords.{ack-list-is, ack-list-right}
 use Rattle.view.proofs.Standing.{Standing, few-carts}
-use Rattle.queue.specs.Rooms.{tablesFloor, roomCode}
+use Rattle.queue.specs.Rooms.{tablesFloor, roomCode, roomCount}
 use Rattle.queue.proofs.AckLaws.{all-acked}
 use Rattle.catchup.proofs.ClosedForm.{same-stop}
 use Rattle.catchup.proofs.RoomLaws.{nearest-decoded}
 use Rattle.catchup.proofs.QueueLaws.{queued-none}
 use Rattle.catchup.proofs.Stops.{NoneBeyond, lent-agree, stops-there, stop-found}
 use Rattle.catchup.specs.Nearest.{nearestAmong, stopBy}
-use Rattle.catchup.specs.Arrival.{isFound, queuedFor}
+use Rattle.catchup.specs.Arrival.{isFound, queuedFor, placeFound}
 use Rattle.wireless.specs.Handed.{Received, holdNone, AcksSent, nearestFrom, CaughtUp, HandedOver}
 use Rattle.wireless.proofs.Asks.{radio-numbers}
 use Rattle.wireless.proofs.Parts.{not-found}
@@ -166,8 +168,8 @@ module _ {P : Product} (S₁ S₂ C₁ M W W′ T : List ℕ) (m t w : ℕ) (lh 
       (λ e. let y = when-not e in let some : allAcked (floorIn L₁′) m t ≡ false = sym all-is ∙ e in (y .0, y .1, rw some (y .2), rw some (acks .no e .2)))
 
 -- THE THIRD: catch-up for that initiator
-module _ {P : Product} (S₂ S′ C₁ C′ M W T : List ℕ) (s t c x p : ℕ) (lp : t < P .stations) (sizes : Lengths (lent P S₂ C₁ M W T)) (laid : Laid (lent P S₂ C₁ M W T))
-    (caught : CaughtUp S₂ S′ C₁ C′ M s t c x p) (next-is : cartsIn C₁ .next c s ≡ x) where
+module _ {P : Product} (S₂ S′ C₁ C′ M W T : List ℕ) (s t c x p q : ℕ) (lp : t < P .stations) (sizes : Lengths (lent P S₂ C₁ M W T)) (laid : Laid (lent P S₂ C₁ M W T))
+    (caught : CaughtUp S₂ S′ C₁ C′ M s t c x p q) (next-is : cartsIn C₁ .next c s ≡ x) where
   abbrev L₂′ : Lent
   L₂′ = lent P S₂ C₁ M W T
 
@@ -243,9 +245,27 @@ module _ {P : Product} (S₂ S′ C₁ C′ M W T : List ℕ) (s t c x p : ℕ) 
       ((λ i. floorOf ((lengths-right L₃ lengths₃ ∙ sym (lengths-right L₂′ sizes)) i) ((words-right L₃ laid₃ ∙ sym (words-right L₂′ laid)) i)
       (caught .head i) (caught .stations i) (caught .carts i) (roomsIn M) (textsIn T (roomsIn M)) (linesIn W)) ∙ queued o)
 
+  -- the messages' table has the product's rooms
+  all-rooms : roomCount M ≡ P .held
+  all-rooms = let a = sizes .messages in omega arith
+
+  -- "the entry's place, .. as it stands right after the putting"
+  pub caught-place : q ≡ placeGiven (limitsOf P) G t c s
+  unfolding placeGiven placeIn placeAmong
+  caught-place =
+      caught .place
+      ∙ ap (λ (k : ℕ). placeFound (stationsIn S′) (roomsIn M) t k o) all-rooms
+      ∙ by-found o
+      ∙ ap (λ (X : Floor). byOption o 0 (λ k. placeIn (limitsOf P) X k t)) caught-is
+      ∙ sym (ap (λ (r : Stop). byOption (r .found) 0 (λ k. placeIn (limitsOf P) (catchUp (limitsOf P) G t c s) k t)) stop-is)
+    where
+      by-found : (h : Option ℕ) → placeFound (stationsIn S′) (roomsIn M) t (P .held) h ≡ byOption h 0 (λ k. placeIn (limitsOf P) (floorIn L₃) k t)
+      by-found none = refl
+      by-found (some k) = refl
+
 -- THE WHOLE STEP
-module _ {P : Product} (S S′ C C′ M W W′ T : List ℕ) (m t c p w : ℕ) (X : Standing (lent P S C M W T)) (may : MayRadio (limitsOf P) (floorIn (lent P S C M W T)) t c m)
-    (over : HandedOver S S′ C C′ M W W′ m (roomsIn M .initiator m) (roomsIn M .number m) t c p w) where
+module _ {P : Product} (S S′ C C′ M W W′ T : List ℕ) (m t c p w q : ℕ) (X : Standing (lent P S C M W T)) (may : MayRadio (limitsOf P) (floorIn (lent P S C M W T)) t c m)
+    (over : HandedOver S S′ C C′ M W W′ m (roomsIn M .initiator m) (roomsIn M .number m) t c p w q) where
   abbrev K₀ : Lent
   K₀ = lent P S C M W T
 
@@ -296,11 +316,11 @@ module _ {P : Product} (S S′ C C′ M W W′ T : List ℕ) (m t c p w : ℕ) (
   pub over-is : floorIn (lent P S′ C′ M W′ T) ≡ handOver (limitsOf P) F m t c .floor
   unfolding handOver
   over-is =
-      caught-is (over .S₂) S′ (over .C₁) C′ M W′ T i₀ t c (over .next) p lp₀ (two .0) (two .1) (over .caught) next₁
+      caught-is (over .S₂) S′ (over .C₁) C′ M W′ T i₀ t c (over .next) p q lp₀ (two .0) (two .1) (over .caught) next₁
       ∙ ap (λ (G : Floor). catchUp (limitsOf P) G t c i₀) (two .2 ∙ ap (λ (G : Floor). sendAcksIfAll G m t) one)
 
   -- what it reports
-  pub over-reports : (p ≡ handOver (limitsOf P) F m t c .report .p) × (w ≡ handOver (limitsOf P) F m t c .report .w)
+  pub over-reports : (p ≡ handOver (limitsOf P) F m t c .report .p) × (w ≡ handOver (limitsOf P) F m t c .report .w) × (q ≡ handOver (limitsOf P) F m t c .report .q)
   unfolding handOver
   over-reports =
       let upto : floorIn (lent P S′ C′ M W′ T) .next c i₀ ≡ stopBy (tablesFloor (over .S₂) M) t i₀ (over .next) (nearestFrom (tablesFloor (over .S₂) M) t c i₀ (over .next)) .upto =
@@ -308,6 +328,8 @@ module _ {P : Product} (S S′ C C′ M W W′ T : List ℕ) (m t c p w : ℕ) (
       let plus : over .next ≡ suc n₀ = over .received .next ∙ omega arith in (
         over .caught .passed ∙ ap₂ (λ (y z : ℕ). y - z) (sym upto) plus ∙ ap (λ (G : Floor). G .next c i₀ - suc n₀) over-is,
         two .3 ∙ ap (λ (G : Floor). cond (allAcked G m t) 1 0) one,
+        caught-place (over .S₂) S′ (over .C₁) C′ M W′ T i₀ t c (over .next) p q lp₀ (two .0) (two .1) (over .caught) next₁
+            ∙ ap (λ (G : Floor). placeGiven (limitsOf P) G t c i₀) (two .2 ∙ ap (λ (G : Floor). sendAcksIfAll G m t) one),
       )
 
   pub radio-is : floorIn (lent P S′ C′ M W′ T) ≡ onRadio (limitsOf P) F t c .floor
@@ -315,8 +337,8 @@ module _ {P : Product} (S S′ C C′ M W W′ T : List ℕ) (m t c p w : ℕ) (
   radio-is = rw (may .is-head) over-is
 
   -- "4": radio, with the message's initiator, number and text
-  pub radio-reports : onRadio (limitsOf P) F t c .report ≡ record { kind = 4; a = i₀; b = n₀; p = p; w = w; text = textsIn T (roomsIn M) m }
+  pub radio-reports : onRadio (limitsOf P) F t c .report ≡ record { kind = 4; a = i₀; b = n₀; p = p; w = w; q = q; text = textsIn T (roomsIn M) m }
   unfolding onRadio handOver
   radio-reports =
       rw (may .is-head)
-      (λ i. record { kind = 4; a = i₀; b = n₀; p = sym (over-reports .0) i; w = sym (over-reports .1) i; text = textsIn T (roomsIn M) m })
+      (λ i. record { kind = 4; a = i₀; b = n₀; p = sym (over-reports .0) i; w = sym (over-reports .1) i; q = sym (over-reports .2) i; text = textsIn T (roomsIn M) m })

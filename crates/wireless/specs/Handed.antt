@@ -12,9 +12,10 @@ use Rattle.stations.specs.View.{Stations, stationsIn, headIn, withAcks, withRoo
 use Rattle.carts.specs.View.{cartsIn, canonicalIn, withNext}
 use Rattle.lines.specs.Post.{Pushed}
 use Rattle.view.specs.Records.{wordsOf}
-use Rattle.queue.specs.Rooms.{tablesFloor}
+use Rattle.messages.specs.View.{roomsIn}
+use Rattle.queue.specs.Rooms.{tablesFloor, roomCount}
 use Rattle.catchup.specs.Nearest.{nearestAmong, stopBy}
-use Rattle.catchup.specs.Arrival.{isFound, queuedFor}
+use Rattle.catchup.specs.Arrival.{isFound, queuedFor, placeFound}
 
 -- cart c has left the entry for room m at t and joined the ack list
 abbrev pub tookFrom : Stations → ℕ → ℕ → ℕ → Stations
@@ -57,8 +58,8 @@ pub record AcksSent (S S′ W W′ : List ℕ) (m s n t w : ℕ) : Type 0 where
 abbrev pub nearestFrom : Floor → ℕ → ℕ → ℕ → ℕ → Option ℕ
 nearestFrom F t c s x = nearestAmong F t c s x 32
 
--- the next number of cart c for initiator s has risen from x to where catch-up stops at t, p numbers on, and the cart is queued there
-pub record CaughtUp (S S′ C C′ M : List ℕ) (s t c x p : ℕ) : Type 0 where
+-- the next number of cart c for initiator s has risen from x to where catch-up stops at t, p numbers on, and the cart is queued there, at place q
+pub record CaughtUp (S S′ C C′ M : List ℕ) (s t c x p q : ℕ) : Type 0 where
   pub stations : stationsIn S′ ≡ queuedFor (stationsIn S) t c (isFound (nearestFrom (tablesFloor S M) t c s x))
   pub head : headIn S′ ≡ headIn S
   pub words : length S′ ≡ length S
@@ -66,9 +67,10 @@ pub record CaughtUp (S S′ C C′ M : List ℕ) (s t c x p : ℕ) : Type 0 wher
   pub canonical : canonicalIn C′ ≡ canonicalIn C
   pub rows : length C′ ≡ length C
   pub passed : p ≡ stopBy (tablesFloor S M) t s x (nearestFrom (tablesFloor S M) t c s x) .upto - x
+  pub place : q ≡ placeFound (stationsIn S′) (roomsIn M) t (roomCount M) (nearestFrom (tablesFloor S M) t c s x)
 
 -- all three, one after the other, of message n of s in room m, which cart c has received at t
-pub record HandedOver (S S′ C C′ M W W′ : List ℕ) (m s n t c p w : ℕ) : Type 0 where
+pub record HandedOver (S S′ C C′ M W W′ : List ℕ) (m s n t c p w q : ℕ) : Type 0 where
   pub S₁ : List ℕ
   pub C₁ : List ℕ
   pub S₂ : List ℕ
@@ -76,4 +78,4 @@ pub record HandedOver (S S′ C C′ M W W′ : List ℕ) (m s n t c p w : ℕ) 
   pub received : Received S S₁ C C₁ m s n t c next
   pub acks : AcksSent S₁ S₂ W W′ m s n t w
   -- catch-up goes on from the next number of the record that was handed back
-  pub caught : CaughtUp S₂ S′ C₁ C′ M s t c next p
+  pub caught : CaughtUp S₂ S′ C₁ C′ M s t c next p q

@@ -101,7 +101,13 @@ fn send_acks_if_all(
     1
 }
 
-// "Then catch-up for that initiator", from the cart's next number on. Answers "the numbers passed over".
+// What a catch-up came to: "the numbers passed over", and the place of the entry that the cart was put in, 0 if it was put in none.
+struct Caught {
+    passed: u64,
+    place: u64,
+}
+
+// "Then catch-up for that initiator", from the cart's next number on.
 fn catch_up(
     stations: &mut [u64],
     carts: &mut [u64],
@@ -110,21 +116,27 @@ fn catch_up(
     station: Station,
     number: CartNumber,
     next: u64,
-) -> u64
+) -> Caught
     requires { ⌜ HasStation (now stations) (station .0) × HasRooms (now messages) × (station .0 < 16) × (initiator .0 < initiators) × (number .0 < 64) × HasRow (now carts) (number .0) ⌝ }
     requires { ⌜ ((r : ℕ) → roomCount (now messages) ≤ r → stationsIn (now stations) .copy r (station .0) ≡ 0) ⌝ }
-    ensures { λ r. ⌜ CaughtUp (now (stations .entry)) (now (stations .exit)) (now (carts .entry)) (now (carts .exit)) (now (messages .entry)) (initiator .0) (station .0) (number .0) next r ⌝ }
+    ensures { λ r. ⌜ CaughtUp (now (stations .entry)) (now (stations .exit)) (now (carts .entry)) (now (carts .exit)) (now (messages .entry)) (initiator .0) (station .0) (number .0) next (r .passed) (r .place) ⌝ }
 {
     // "while the cart's next number is below the expected number": it is not, so no message is looked at.
     if stations::expected_of(stations, station, initiator) <= next {
         carts::put_next(carts, number, initiator, next);
-        return 0;
+        return Caught {
+            passed: 0,
+            place: 0,
+        };
     }
     let nearest = catchup::nearest_of(stations, messages, station, number, initiator, next);
     let upto = catchup::stop_of(stations, messages, station, initiator, next, nearest);
     carts::put_next(carts, number, initiator, upto);
-    catchup::enqueue(stations, station, number, nearest);
-    upto - next
+    let place = catchup::enqueue(stations, messages, station, number, nearest);
+    Caught {
+        passed: upto - next,
+        place,
+    }
 }
 
 // "the head message of the queue is handed to the cart, acknowledged in the same step": the message in room m.
@@ -143,10 +155,14 @@ pub fn hand_over(
     requires { ⌜ HasRow (now carts) (number .0) × (number .0 < 64) ⌝ }
     requires { ⌜ ((r : ℕ) → roomCount (now messages) ≤ r → stationsIn (now stations) .copy r (station .0) ≡ 0) ⌝ }
     requires { ⌜ (form (now lines) ≡ true) × (holdNone (tookFrom (stationsIn (now stations)) m (station .0) (number .0)) m (station .0) ≡ true → used (now lines) < capacity (now lines)) ⌝ }
-    ensures { λ r. ⌜ HandedOver (now (stations .entry)) (now (stations .exit)) (now (carts .entry)) (now (carts .exit)) (now (messages .entry)) (now (lines .entry)) (now (lines .exit)) m (initiator .0) (n .0) (station .0) (number .0) (r .passed) (r .records) ⌝ }
+    ensures { λ r. ⌜ HandedOver (now (stations .entry)) (now (stations .exit)) (now (carts .entry)) (now (carts .exit)) (now (messages .entry)) (now (lines .entry)) (now (lines .exit)) m (initiator .0) (n .0) (station .0) (number .0) (r .passed) (r .records) (r .place) ⌝ }
 {
     let next = receive(stations, carts, m, initiator, n, station, number);
     let records = send_acks_if_all(stations, lines, m, initiator, n, station);
-    let passed = catch_up(stations, carts, messages, initiator, station, number, next);
-    Effect { passed, records }
+    let caught = catch_up(stations, carts, messages, initiator, station, number, next);
+    Effect {
+        passed: caught.passed,
+        records,
+        place: caught.place,
+    }
 }

@@ -2,7 +2,7 @@
 use mathlib.Core.Path.{refl}
 use native.Mathlib.Omega.{arith}
 use lib.ListN.{length-set}
-use Rattle.exported_events.specs.Words.{sevenWords}
+use Rattle.exported_events.specs.Words.{answerRow}
 use borrow.Author.Needs.{needs}
 use Rattle.exported_events.proofs.put_words.Statement.{statement}
 use Rattle.exported_events.proofs.put_words.Tie as tie
@@ -26,13 +26,16 @@ slice-write-out-6 : tie.Need-slice-write-out-6
 slice-write-out-6 c = simp length-set (omega arith)
 
 slice-write-out-7 : tie.Need-slice-write-out-7
-slice-write-out-7 c = search needs
+slice-write-out-7 c = simp length-set (omega arith)
+
+slice-write-out-8 : tie.Need-slice-write-out-8
+slice-write-out-8 c = simp length-set (omega arith)
 
 same-length : tie.Need-same-length
 same-length c = search needs
 
 returns : tie.Need-returns
-unfolding sevenWords
+unfolding answerRow
 returns c = (refl, simp length-set)
 
 pub put-words-spec : {M : Type 1} → statement M
@@ -46,5 +49,6 @@ put-words-spec =
     slice-write-out-5
     slice-write-out-6
     slice-write-out-7
+    slice-write-out-8
     same-length
     returns)

@@ -29,7 +29,7 @@ passed-over-requires c κs =
     let a = c .before .before .before .before .before .before .before .args in
     let r = c .before .before .before .row-of in
     let s = c .before .stops-of in
-    rises-little (tablesFloor (now (a .stations)) (now (a .messages))) (a .t) (a .c) (r .result) (s .result .nearest) (s .ensures .0) (s .result .upto) (s .ensures .1) (c .before .before .before .before .before .before .before .pre .1 .0)
+    rises-little (tablesFloor (now (a .stations)) (now (a .messages))) (a .t) (a .c) (r .result) (s .result .nearest) (s .ensures .0) (s .result .upto) (s .ensures .1 .0) (c .before .before .before .before .before .before .before .pre .1 .0)
 
 returns : tie.Need-returns
 returns c =
@@ -38,7 +38,7 @@ returns c =
     let r = c .before .before .before .before .row-of in
     let s = c .before .before .stops-of in
     let p = c .passed-over in
-    rise-is F (a .t) (a .c) (r .result) (s .result .nearest) (s .ensures .0) (s .result .upto) (s .ensures .1) (p .result) (p .ensures)
+    rise-is F (a .t) (a .c) (r .result) (s .result .nearest) (s .ensures .0) (s .result .upto) (s .ensures .1 .0) (p .result) (p .ensures)
     ∙ ap (λ (nearest : List ℕ). risen F (a .t) (r .result) nearest 16) (s .ensures .0)
     ∙ ap (passedBy F (a .t) (a .c)) (r .ensures)
 

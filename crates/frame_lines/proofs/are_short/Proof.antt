@@ -14,7 +14,10 @@ returns-2 : tie.Need-returns-2
 returns-2 c = λ e. clash false e refl
 
 returns-3 : tie.Need-returns-3
-returns-3 c = λ e. (omega arith, omega arith, ltb-true _ _ e)
+returns-3 c = λ e. clash false e refl
+
+returns-4 : tie.Need-returns-4
+returns-4 c = λ e. (omega arith, omega arith, omega arith, ltb-true _ _ e)
 
 pub are-short-spec : {M : Type 1} → statement M
-are-short-spec = tie.close (tie.spec returns returns-2 returns-3)
+are-short-spec = tie.close (tie.spec returns returns-2 returns-3 returns-4)

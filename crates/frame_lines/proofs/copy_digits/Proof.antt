@@ -1,6 +1,7 @@
 -- `frame_lines::copy_digits` meets its contract.
 use mathlib.Core.Path.{refl}
 use native.Mathlib.Omega.{arith}
+use Rattle.frame_lines.specs.Lines.{textDigits}
 use Rattle.frame_lines.proofs.Octets.{front-copied}
 use borrow.Author.Needs.{needs}
 use Rattle.frame_lines.proofs.copy_digits.Statement.{statement}
@@ -33,7 +34,7 @@ same-length c = search needs
 returns : tie.Need-returns
 returns c =
     let a = c .before .before .before .before .before .before .before .before .before .before .before .before .before .before .before .args in
-    front-copied (a .out .now) _ _ (a .digits .now) _ _ (a .at) (a .count) (omega arith) (omega arith) (omega arith) refl
+    front-copied textDigits (a .out .now) _ _ (a .digits .now) _ _ (a .at) (a .count) (omega arith) (omega arith) (omega arith) refl
     (c .before .before .before .before .before .before .before .before .before .before .copy-part .ensures) (c .before .before .before .before .before .before .before .copy-part2 .ensures) (c .before .before .copy-part3 .ensures)
 
 pub copy-digits-spec : {M : Type 1} → statement M

@@ -4,18 +4,19 @@ use Prim.Native.Nat.{_+_, _≤_}
 use native.Mathlib.Omega.{arith}
 use lib.ListN.{length}
 use Rattle.protocol.specs.Printed.{decimal}
-use Rattle.frame_lines.proofs.Numbers.{length-one, length-two, length-three, length-four, length-four-more, some-digit, at-most-twenty}
+use Rattle.frame_lines.specs.Lines.{longestNumber}
+use Rattle.frame_lines.proofs.Numbers.{length-one, length-two, length-three, length-four, length-four-more, some-digit, number-long}
 use Rattle.frame_lines.proofs.digits_of.Statement.{statement}
 use Rattle.frame_lines.proofs.digits_of.Tie as tie
 
 abbrev Inv-loop : tie.InvT-loop
-Inv-loop n count₀ left₀ count left = (count + length (decimal left) ≡ length (decimal n) + 1) × (length (decimal n) ≤ 20)
+Inv-loop n count₀ left₀ count left = (count + length (decimal left) ≡ length (decimal n) + 1) × (length (decimal n) ≤ longestNumber)
 
 abbrev μ-loop : tie.MeasureT-loop
 μ-loop n count₀ left₀ count left = left
 
 loop-holds : tie.Need-loop-holds Inv-loop μ-loop
-loop-holds c = (omega arith, at-most-twenty (c .args .n) (omega arith))
+loop-holds c = (omega arith, number-long (c .args .n) (omega arith))
 
 add-count : tie.Need-add-count Inv-loop μ-loop
 add-count c = omega (arith, some-digit (c .before .loop .left))

@@ -2,6 +2,7 @@
 use mathlib.Core.Path.{refl}
 use Prim.Native.Nat.{_/_, _%_}
 use native.Mathlib.Omega.{arith}
+use Rattle.frame_lines.specs.Lines.{longestNumber}
 use Rattle.frame_lines.proofs.Numbers.{digits-written, split-written}
 use borrow.Author.Needs.{needs}
 use Rattle.frame_lines.proofs.put_decimal.Statement.{statement}
@@ -34,7 +35,7 @@ returns-2 c =
     let h = w .before .before .before .before in
     let s = h .before .before .before .before .before in
     let a = s .args in
-    split-written 20 4 (a .n) (a .n / 10000) (a .n % 10000) (omega arith) (omega arith) (omega arith) (omega arith) (s .pre) refl
+    split-written longestNumber 4 (a .n) (a .n / 10000) (a .n % 10000) (omega arith) (omega arith) (omega arith) (omega arith) (s .pre) refl
     (h .put-small2 .ensures) (w .put-four .ensures)
 
 digits-of-requires : tie.Need-digits-of-requires
@@ -56,7 +57,7 @@ returns-3 c =
     let s = d .before .before .before .before in
     let a = s .args in
     let count = d .digits-of in
-    digits-written 20 (a .out .now) _ (a .at) (a .n) (count .result) (count .ensures .0) (count .ensures .1) (s .pre) (w .put-digits .ensures)
+    digits-written longestNumber (a .out .now) _ (a .at) (a .n) (count .result) (count .ensures .0) (count .ensures .1) (s .pre) (w .put-digits .ensures)
 
 pub put-decimal-spec : {M : Type 1} → statement M
 put-decimal-spec =

@@ -2,6 +2,7 @@
 use native.Mathlib.Omega.{arith}
 use borrow.Author.Tests.{not-false}
 use Rattle.frame_lines.proofs.Octets.{wrote-then, began-all, began-more, began-wider}
+use Rattle.frame_lines.proofs.Fields.{four-joined}
 use borrow.Author.Needs.{needs}
 use Rattle.frame_lines.proofs.put_head.Statement.{statement}
 use Rattle.frame_lines.proofs.put_head.Tie as tie
@@ -12,18 +13,19 @@ are-short-requires c κs = search needs
 put-two-fields-requires : tie.Need-put-two-fields-requires
 put-two-fields-requires c κs = search needs
 
-put-field-requires : tie.Need-put-field-requires
-put-field-requires c κs = search needs
+put-two-fields-requires-2 : tie.Need-put-two-fields-requires-2
+put-two-fields-requires-2 c κs = search needs
 
 same-length : tie.Need-same-length
 same-length c = search needs
 
 returns : tie.Need-returns
 returns c =
-    let b = c .before .before in
-    let a = b .before .before .before .before in
-    let w = wrote-then (omega arith) (a .put-two-fields .ensures) (b .put-field .ensures) in
-    began-all 3 (let z = w .few in omega arith) w
+    let p = c .before .before in
+    let a = p .before .before .before .before in
+    let s = a .before .before .before .before .before .before .args .r in
+    let w = wrote-then (omega arith) (a .put-two-fields .ensures) (p .put-two-fields2 .ensures) in
+    four-joined (s .kind) (s .a) (s .b) (s .effect .passed) (began-all 3 (let z = w .few in omega arith) w)
 
 put-one-requires : tie.Need-put-one-requires
 put-one-requires c κs =
@@ -43,16 +45,24 @@ put-short-requires-2 c κs =
     let short = e .before .are-short .ensures (not-false _ (e .if1 .left)) in
     search needs
 
+put-short-requires-3 : tie.Need-put-short-requires-3
+put-short-requires-3 c κs =
+    let e = c .before .before .before .before .before .before .before .before .before .before .before .before .before in
+    let short = e .before .are-short .ensures (not-false _ (e .if1 .left)) in
+    search needs
+
 same-length-2 : tie.Need-same-length-2
 same-length-2 c = search needs
 
 returns-2 : tie.Need-returns-2
 returns-2 c =
-    let b = c .before .before in
+    let p = c .before .before in
+    let b = p .before .before .before .before in
     let a = b .before .before .before .before in
     let k = a .before .before .before .before in
-    began-wider (omega arith)
-    (began-more (began-more (began-all 3 (let z = k .put-one .ensures .few in omega arith) (k .put-one .ensures)) (a .put-short .ensures)) (b .put-short2 .ensures))
+    let s = k .before .before .before .before .before .before in
+    let kind = began-all 3 (omega (arith, k .put-one .ensures .few, s .pre .0)) (k .put-one .ensures) in
+    began-wider (omega arith) (began-more (began-more (began-more kind (a .put-short .ensures)) (b .put-short2 .ensures)) (p .put-short3 .ensures))
 
 pub put-head-spec : {M : Type 1} → statement M
 put-head-spec =
@@ -60,11 +70,12 @@ put-head-spec =
     (tie.spec
     are-short-requires
     put-two-fields-requires
-    put-field-requires
+    put-two-fields-requires-2
     same-length
     returns
     put-one-requires
     put-short-requires
     put-short-requires-2
+    put-short-requires-3
     same-length-2
     returns-2)

@@ -3,16 +3,16 @@ use Prim.Native.Nat.{_-_, _*_, _≤_}
 use native.Mathlib.Omega.{arith}
 use lib.ListN.{take, length-set}
 use Rattle.protocol.specs.Printed.{hexadecimal}
-use Rattle.frame_lines.specs.Lines.{Wrote}
+use Rattle.frame_lines.specs.Lines.{Wrote, textOctets, textDigits}
 use Rattle.frame_lines.proofs.Numbers.{hex-none, hex-stored, hex-done}
 use Rattle.frame_lines.proofs.room_digits.Statement.{statement}
 use Rattle.frame_lines.proofs.room_digits.Tie as tie
 
 abbrev Inv-loop : tie.InvT-loop
-Inv-loop digits₀ room i₀ digits i = (i ≤ 32) × Wrote 64 (hexadecimal (take i room)) digits₀ digits 0 (2 * i)
+Inv-loop digits₀ room i₀ digits i = (i ≤ textOctets) × Wrote textDigits (hexadecimal (take i room)) digits₀ digits 0 (2 * i)
 
 abbrev μ-loop : tie.MeasureT-loop
-μ-loop digits₀ room i₀ digits i = 32 - i
+μ-loop digits₀ room i₀ digits i = textOctets - i
 
 loop-holds : tie.Need-loop-holds Inv-loop μ-loop
 loop-holds c = let a = c .before .before .args in (omega arith, hex-none (a .room .now) (a .digits .now))

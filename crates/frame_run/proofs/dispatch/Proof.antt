@@ -9,7 +9,7 @@ use Rattle.view.specs.View.{lent}
 use Rattle.frames.specs.Decoded.{eventIn, sizeOf}
 use Rattle.frame_run.proofs.Events.{send-is, short-part, answered-plainly, answered-text}
 use Rattle.protocol.specs.Printed.{decimal}
-use Rattle.frame_lines.specs.Lines.{Began}
+use Rattle.frame_lines.specs.Lines.{Began, longestNumber}
 use Rattle.frame_run.specs.declared.Dispatched.{Dispatched}
 use borrow.Author.Needs.{needs}
 use Rattle.frame_run.proofs.dispatch.Statement.{statement}
@@ -167,7 +167,7 @@ returns c =
     let kind = index .before .before .before in
     let start = kind .before .before .before .before .before .before .before .before .before .before in
     let a = start .args in
-    let began = subst (λ (n : ℕ). Began 3 20 (decimal (a .index)) (now (a .output)) (index .put-index .last .0) (a .line) n) (sym (ap (λ (r : Dispatched). r .next) (c .without-text .ensures))) (index .put-index .ensures) in
+    let began = subst (λ (n : ℕ). Began 3 longestNumber (decimal (a .index)) (now (a .output)) (index .put-index .last .0) (a .line) n) (sym (ap (λ (r : Dispatched). r .next) (c .without-text .ensures))) (index .put-index .ensures) in
     (answered-plainly (lent wholeFloor (now (a .stations)) (now (a .carts)) (now (a .messages)) (now (a .lines)) (now (a .texts))) _ _ _ (ap (eventIn (drop (a .at) (now (a .input)))) (kind .e .given .1)) _ (met .start .result) _ (c .without-text .result) (c .without-text .ensures) (met .start .ensures), began)
 
 same-length-7 : tie.Need-same-length-7
@@ -195,7 +195,7 @@ returns-2 c =
     let kind = index .before .before .before in
     let start = kind .before .before .before .before .before .before .before .before .before .before in
     let a = start .args in
-    let began = subst (λ (n : ℕ). Began 3 20 (decimal (a .index)) (now (a .output)) (index .put-index2 .last .0) (a .line) n) (sym (ap (λ (r : Dispatched). r .next) (c .without-text2 .ensures))) (index .put-index2 .ensures) in
+    let began = subst (λ (n : ℕ). Began 3 longestNumber (decimal (a .index)) (now (a .output)) (index .put-index2 .last .0) (a .line) n) (sym (ap (λ (r : Dispatched). r .next) (c .without-text2 .ensures))) (index .put-index2 .ensures) in
     (answered-plainly (lent wholeFloor (now (a .stations)) (now (a .carts)) (now (a .messages)) (now (a .lines)) (now (a .texts))) _ _ _ (ap (eventIn (drop (a .at) (now (a .input)))) (kind .e2 .given .1)) _ (met .enter .result) _ (c .without-text2 .result) (c .without-text2 .ensures) (met .enter .ensures wholeFloor (start .pre .0 .ready)), began)
 
 same-length-13 : tie.Need-same-length-13
@@ -225,7 +225,7 @@ returns-3 c =
     let kind = index .before .before .before in
     let start = kind .before .before .before .before .before .before .before .before .before .before in
     let a = start .args in
-    let began = subst (λ (n : ℕ). Began 3 20 (decimal (a .index)) (now (a .output)) (index .put-index3 .last .0) (a .line) n) (sym (ap (λ (r : Dispatched). r .next) (c .without-text3 .ensures))) (index .put-index3 .ensures) in
+    let began = subst (λ (n : ℕ). Began 3 longestNumber (decimal (a .index)) (now (a .output)) (index .put-index3 .last .0) (a .line) n) (sym (ap (λ (r : Dispatched). r .next) (c .without-text3 .ensures))) (index .put-index3 .ensures) in
     (answered-plainly (lent wholeFloor (now (a .stations)) (now (a .carts)) (now (a .messages)) (now (a .lines)) (now (a .texts))) _ _ _ (send-is (now (a .input)) (a .at) _ (a .e) _ _ (kind .e3 .given .1)) _ (met .send .result) _ (c .without-text3 .result) (c .without-text3 .ensures) (met .send .ensures wholeFloor (met .before .floor-bounds .ensures .1) (start .pre .0 .ready)), began)
 
 same-length-19 : tie.Need-same-length-19
@@ -253,7 +253,7 @@ returns-4 c =
     let kind = index .before .before .before in
     let start = kind .before .before .before .before .before .before .before .before .before .before in
     let a = start .args in
-    let began = subst (λ (n : ℕ). Began 3 20 (decimal (a .index)) (now (a .output)) (index .put-index4 .last .0) (a .line) n) (sym (ap (λ (r : Dispatched). r .next) (c .without-text4 .ensures))) (index .put-index4 .ensures) in
+    let began = subst (λ (n : ℕ). Began 3 longestNumber (decimal (a .index)) (now (a .output)) (index .put-index4 .last .0) (a .line) n) (sym (ap (λ (r : Dispatched). r .next) (c .without-text4 .ensures))) (index .put-index4 .ensures) in
     (answered-plainly (lent wholeFloor (now (a .stations)) (now (a .carts)) (now (a .messages)) (now (a .lines)) (now (a .texts))) _ _ _ (ap (eventIn (drop (a .at) (now (a .input)))) (kind .e4 .given .1)) _ (met .wire .result) _ (c .without-text4 .result) (c .without-text4 .ensures) (met .wire .ensures wholeFloor (start .pre .0 .ready)), began)
 
 same-length-25 : tie.Need-same-length-25
@@ -308,7 +308,7 @@ returns-6 c =
     let kind = index .before .before .before in
     let start = kind .before .before .before .before .before .before .before .before .before .before in
     let a = start .args in
-    let began = subst (λ (n : ℕ). Began 3 20 (decimal (a .index)) (now (a .output)) (index .put-index6 .last .0) (a .line) n) (sym (ap (λ (r : Dispatched). r .next) (c .without-text5 .ensures))) (index .put-index6 .ensures) in
+    let began = subst (λ (n : ℕ). Began 3 longestNumber (decimal (a .index)) (now (a .output)) (index .put-index6 .last .0) (a .line) n) (sym (ap (λ (r : Dispatched). r .next) (c .without-text5 .ensures))) (index .put-index6 .ensures) in
     (answered-plainly (lent wholeFloor (now (a .stations)) (now (a .carts)) (now (a .messages)) (now (a .lines)) (now (a .texts))) _ _ _ (ap (eventIn (drop (a .at) (now (a .input)))) (kind .e6 .given .1)) _ (met .move-cart .result) _ (c .without-text5 .result) (c .without-text5 .ensures) (met .move-cart .ensures wholeFloor (start .pre .0 .ready)), began)
 
 same-length-37 : tie.Need-same-length-37
@@ -336,7 +336,7 @@ returns-7 c =
     let kind = index .before .before .before in
     let start = kind .before .before .before .before .before .before .before .before .before .before in
     let a = start .args in
-    let began = subst (λ (n : ℕ). Began 3 20 (decimal (a .index)) (now (a .output)) (index .put-index7 .last .0) (a .line) n) (sym (ap (λ (r : Dispatched). r .next) (c .without-text6 .ensures))) (index .put-index7 .ensures) in
+    let began = subst (λ (n : ℕ). Began 3 longestNumber (decimal (a .index)) (now (a .output)) (index .put-index7 .last .0) (a .line) n) (sym (ap (λ (r : Dispatched). r .next) (c .without-text6 .ensures))) (index .put-index7 .ensures) in
     (answered-plainly (lent wholeFloor (now (a .stations)) (now (a .carts)) (now (a .messages)) (now (a .lines)) (now (a .texts))) _ _ _ (ap (eventIn (drop (a .at) (now (a .input)))) (kind .e7 .given .1)) _ (met .flag-cart .result) _ (c .without-text6 .result) (c .without-text6 .ensures) (met .flag-cart .ensures wholeFloor (start .pre .0 .ready)), began)
 
 pub dispatch-spec : {M : Type 1} → statement M

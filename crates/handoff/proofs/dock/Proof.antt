@@ -7,7 +7,7 @@ use Rattle.messages.specs.View.{roomsIn}
 use Rattle.queue.specs.Rooms.{tablesFloor}
 use Rattle.catchup.proofs.NamingLaws.{naming-covers}
 use Rattle.catchup.proofs.RowLaws.{rises-little, rise-is}
-use Rattle.catchup.proofs.AllAtOnce.{own-rooms}
+use Rattle.catchup.proofs.AllAtOnce.{found-below}
 use Rattle.handoff.proofs.RiseLaws.{few-still}
 use Rattle.handoff.proofs.dock.Statement.{statement}
 use Rattle.handoff.proofs.dock.Tie as tie
@@ -48,7 +48,7 @@ join-requires c κs =
     let a = b .args in
     let S = k .strike .last .0 in
     let s = o .stops-of in (
-      own-rooms (tablesFloor S (a .messages .now)) (a .station .0) (a .cart .0) (a .row) (s .result .nearest) (s .ensures .0) _ (roomsIn (a .messages .now)) (stationsIn S) (k .strike .result) refl refl (k .strike .ensures .1),
+      (found-below (tablesFloor S (a .messages .now)) (a .station .0) (a .cart .0) (a .row) (s .result .nearest) (s .ensures .0) _ (stationsIn S) (k .strike .result) refl (k .strike .ensures .1), s .ensures .1 .1),
       (omega (arith, b .pre .0 .0, k .strike .ensures .0 .1 .1), b .pre .0 .1, b .pre .0 .3),
     )
 
@@ -60,7 +60,7 @@ passed-over-requires c κs =
     let a = b .args in
     let s = o .stops-of in
     let few = few-still (stationsIn (a .stations .now)) (roomsIn (a .messages .now)) (a .station .0) (a .cart .0) (a .row) (k .strike .ensures .0 .0) (b .pre .1 .0) in
-    rises-little (tablesFloor (k .strike .last .0) (a .messages .now)) (a .station .0) (a .cart .0) (a .row) (s .result .nearest) (s .ensures .0) (s .result .upto) (s .ensures .1) few
+    rises-little (tablesFloor (k .strike .last .0) (a .messages .now)) (a .station .0) (a .cart .0) (a .row) (s .result .nearest) (s .ensures .0) (s .result .upto) (s .ensures .1 .0) few
 
 same-length-2 : tie.Need-same-length-2
 same-length-2 c = search needs
@@ -79,11 +79,12 @@ returns-2 c =
       is-struck = k .ensures .0 .0;
       nearest = s .result .nearest;
       is-nearest = s .ensures .0;
-      stations = j .join .ensures .0;
-      head = j .join .ensures .1 .0 ∙ k .ensures .0 .1 .0;
-      table = j .join .ensures .1 .1 ∙ k .ensures .0 .1 .1;
-      caught-up = s .ensures .1;
-      count = rise-is (tablesFloor (k .last .0) (a .messages .now)) (a .station .0) (a .cart .0) (a .row) (s .result .nearest) (s .ensures .0) (s .result .upto) (s .ensures .1) (p .result) (p .ensures);
+      stations = j .join .ensures .0 .0;
+      head = j .join .ensures .0 .1 .0 ∙ k .ensures .0 .1 .0;
+      table = j .join .ensures .0 .1 .1 ∙ k .ensures .0 .1 .1;
+      caught-up = s .ensures .1 .0;
+      count = rise-is (tablesFloor (k .last .0) (a .messages .now)) (a .station .0) (a .cart .0) (a .row) (s .result .nearest) (s .ensures .0) (s .result .upto) (s .ensures .1 .0) (p .result) (p .ensures);
+      deepest = j .join .ensures .1;
     }
 
 pub dock-spec : {M : Type 1} → statement M

@@ -4,7 +4,7 @@ use Prim.Native.Nat.{ℕ}
 use Rattle.carts.specs.View.{cartsIn}
 use Rattle.carts.proofs.TableLaws.{next-beyond}
 use Rattle.carts.proofs.StepLaws.{arrive-step}
-use Rattle.reports.proofs.Effects.{only-passes}
+use Rattle.reports.proofs.Effects.{only-queues}
 use Rattle.handoff.specs.Arrived.{Arrived}
 use borrow.Author.Needs.{needs}
 use Rattle.handoff.proofs.on_register.Statement.{statement}
@@ -22,8 +22,8 @@ arrive-requires c κs = search needs
 put-cart-requires : tie.Need-put-cart-requires
 put-cart-requires c κs = search needs
 
-passing-requires : tie.Need-passing-requires
-passing-requires c κs = search needs
+queueing-requires : tie.Need-queueing-requires
+queueing-requires c κs = search needs
 
 same-length : tie.Need-same-length
 same-length c = search needs
@@ -38,8 +38,8 @@ returns c =
     let record-of = c .before .before .before .before .before .before .cart-at in
     let k = c .before .before .before .before .arrive in
     let kept = c .before .before .before .put-cart .ensures in
-    only-passes (λ (p : ℕ). Arrived (a .stations .now) (d .last .0) (a .carts .now) (c .before .before .before .put-cart .last .0) (a .messages .now) (a .station .0) (a .number .0) (a .row) p)
-    (c .passing .result) (d .result .passed)
+    only-queues (λ (p q : ℕ). Arrived (a .stations .now) (d .last .0) (a .carts .now) (c .before .before .before .put-cart .last .0) (a .messages .now) (a .station .0) (a .number .0) (a .row) p q)
+    (c .queueing .result) (d .result .passed) (d .result .place)
     (record {
       upto = d .result .row;
       docked = d .ensures;
@@ -47,7 +47,7 @@ returns c =
       canonical = kept .1 .0;
       length = kept .1 .1;
     })
-    (c .passing .ensures)
+    (c .queueing .ensures)
 
 pub on-register-spec : {M : Type 1} → statement M
 on-register-spec =
@@ -57,6 +57,6 @@ on-register-spec =
     cart-at-requires
     arrive-requires
     put-cart-requires
-    passing-requires same-length
+    queueing-requires same-length
     same-length-2
     returns)

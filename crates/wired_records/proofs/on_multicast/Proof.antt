@@ -18,7 +18,7 @@ multicast-by-row-requires c κs =
     let start = row .before .before .before .before .before in
     let p = start .pre in
     let same = row .local-row .ensures .0 in
-    (p .0, ((λ d h. p .1 .0 d (ap (λ (x : ℕ). has x d) (sym same) ∙ h)), p .1 .1, p .1 .2, p .1 .3))
+    (p .0, ((λ d h. p .1 .0 d (ap (λ (x : ℕ). has x d) (sym same) ∙ h)), p .1 .1, p .1 .2, p .1 .3, p .1 .4))
 
 same-length : tie.Need-same-length
 same-length c = search needs
@@ -33,7 +33,7 @@ returns c =
     let start = row .before .before .before .before .before in
     let a = start .args in
     let r = rest .multicast-by-row in
-    let buffered = subst (λ (x : ℕ). Buffered (a .stations .now) (r .last .0) (a .carts .now) (r .last .1 .0) (a .messages .now) x (indexOf (a .said .0)) (numberOf (a .said .0)) (a .initiator .0) (a .to .0) (r .result .passed)) (row .local-row .ensures .0) (r .ensures .0) in
+    let buffered = subst (λ (x : ℕ). Buffered (a .stations .now) (r .last .0) (a .carts .now) (r .last .1 .0) (a .messages .now) x (indexOf (a .said .0)) (numberOf (a .said .0)) (a .initiator .0) (a .to .0) (r .result .passed) (r .result .place)) (row .local-row .ensures .0) (r .ensures .0) in
     (buffered, (r .ensures .1, ap (λ (X : Stations). X .local) (buffered .stations .stations)))
 
 pub on-multicast-spec : {M : Type 1} → statement M

@@ -5,10 +5,11 @@ use Prim.Native.Nat.{ℕ, _-_, _≤_}
 use native.Mathlib.Omega.{arith}
 use Rattle.stations.specs.View.{stationsIn}
 use Rattle.carts.specs.View.{cartsIn, withNext}
+use Rattle.messages.specs.View.{roomsIn}
 use Rattle.queue.specs.Rooms.{tablesFloor, roomCount}
 use Rattle.catchup.specs.Nearest.{stopBy}
-use Rattle.catchup.specs.Arrival.{isFound, queuedFor}
-use Rattle.wireless.proofs.Parts.{naming-below, found-is, found-below, no-fall, stays, none-queued}
+use Rattle.catchup.specs.Arrival.{isFound, queuedFor, placeFound}
+use Rattle.wireless.proofs.Parts.{naming-below, found-is, found-below, no-fall, stays, none-queued, none-placed}
 use borrow.Author.Needs.{needs}
 use Rattle.wireless.proofs.catch_up.Statement.{statement}
 use Rattle.wireless.proofs.catch_up.Tie as tie
@@ -43,6 +44,7 @@ returns c =
       canonical = put .1 .0;
       rows = put .1 .1;
       passed = omega (arith, upto);
+      place = none-placed F (a .station .0) (a .number .0) (a .initiator .0) (a .next) (stationsIn (a .stations .now)) (roomsIn (a .messages .now)) (roomCount (a .messages .now)) low;
     }
 
 nearest-of-requires : tie.Need-nearest-of-requires
@@ -65,10 +67,16 @@ put-next-requires-2 : tie.Need-put-next-requires-2
 put-next-requires-2 c κs = search needs
 
 enqueue-requires : tie.Need-enqueue-requires
-enqueue-requires c κs = search needs
+enqueue-requires c κs =
+    let s = c .before .before .before .before .before .before .before .before .before .before .before .before .before .before .before in
+    let a = s .args in
+    let p = s .pre in
+    let n = c .before .before .before .before .before .before .before .nearest-of in
+    let F = tablesFloor (a .stations .now) (a .messages .now) in
+    (p .0 .0, p .0 .1, p .0 .4, found-below F (a .station .0) (a .number .0) (a .initiator .0) (a .next) (roomCount (a .messages .now)) (n .result) (p .1) (n .ensures))
 
-sub-result : tie.Need-sub-result
-sub-result c =
+sub-t11 : tie.Need-sub-t11
+sub-t11 c =
     let a = c .before .before .before .before .before .before .before .before .before .before .before .before .before .before .before .before .before .before .args in
     let F = tablesFloor (a .stations .now) (a .messages .now) in
     let n = c .before .before .before .before .before .before .before .before .before .before .nearest-of in
@@ -92,13 +100,14 @@ returns-2 c =
     let raised = c .before .before .before .before .before .before .put-next2 .ensures in
     let queued = c .before .before .enqueue .ensures in
     record {
-      stations = queued .0 ∙ ap (λ (o : Option ℕ). queuedFor (stationsIn (a .stations .now)) (a .station .0) (a .number .0) (isFound o)) found;
-      head = queued .1 .0;
-      words = queued .1 .1;
+      stations = queued .0 .0 ∙ ap (λ (o : Option ℕ). queuedFor (stationsIn (a .stations .now)) (a .station .0) (a .number .0) (isFound o)) found;
+      head = queued .0 .1 .0;
+      words = queued .0 .1 .1;
       carts = raised .0 ∙ ap (withNext (cartsIn (a .carts .now)) (a .number .0) (a .initiator .0)) upto;
       canonical = raised .1 .0;
       rows = raised .1 .1;
       passed = ap (λ (y : ℕ). y - a .next) upto;
+      place = queued .1 ∙ ap (λ (o : Option ℕ). placeFound (stationsIn (c .before .before .enqueue .last .0)) (roomsIn (a .messages .now)) (a .station .0) (roomCount (a .messages .now)) o) found;
     }
 
 pub catch-up-spec : {M : Type 1} → statement M
@@ -114,7 +123,7 @@ catch-up-spec =
     stop-of-requires
     put-next-requires-2
     enqueue-requires
-    sub-result
+    sub-t11
     same-length-3
     same-length-4
     returns-2)
