@@ -2,7 +2,7 @@
 //! part is the floor, the others are empty.
 
 use crate::event::{self, cart, said, station, Event};
-use crate::proved::Said;
+use crate::proved::{Said, WORDS};
 use plain::Floor;
 use std::hint::black_box;
 
@@ -23,7 +23,7 @@ macro_rules! behind {
         ) {
             // Safety: `Behind::answer` lends a floor and the words, and a text or a buffer of its length.
             let ($floor, out) = unsafe { (&mut *floor, std::slice::from_raw_parts_mut(out, words)) };
-            out[..7].copy_from_slice(&$answer);
+            out[..WORDS].copy_from_slice(&$answer);
         }
     };
 }
@@ -86,7 +86,7 @@ impl Behind {
 
     #[inline(always)]
     pub fn answer(&mut self, event: &Event, buffer: &mut [u8; 32]) -> Said {
-        let mut out = [0; 7];
+        let mut out = [0; WORDS];
         let floor = &mut self.floor;
         match *event {
             Event::Start(..) => out = event::apply(floor, event, buffer),

@@ -1,6 +1,6 @@
 //! Events with any numbers, and what the plain floor answers to them.
 
-use crate::proved::Said;
+use crate::proved::{Said, WORDS};
 use plain::words::Words;
 use plain::{CartNo, Floor, Refusal, StationNo, Step};
 use shared::places::LENGTHS;
@@ -47,14 +47,18 @@ pub fn cart(n: u64) -> CartNo {
 
 #[inline(always)]
 fn refused(number: u64) -> Said {
-    [number, 0, 0, 0, 0, 0, 0]
+    let mut said = [0; WORDS];
+    said[0] = number;
+    said
 }
 
 #[inline(always)]
 pub fn said(kind: u64, answer: Result<(Step, usize), Refusal>) -> Said {
     match answer {
         Err(refusal) => refused(refusal.number() as u64),
-        Ok((s, size)) => [0, kind, s.a as u64, s.b as u64, s.p as u64, s.w as u64, size as u64],
+        Ok((s, size)) => {
+            [0, kind, s.a as u64, s.b as u64, s.p as u64, s.w as u64, s.q as u64, size as u64]
+        }
     }
 }
 

@@ -3,8 +3,9 @@
 use crate::event::Event;
 use plain::words::Words;
 
-/// Words for an answer: the refusal or 0, kind, a, b, p, w, and how many octets of text.
-pub type Said = [u64; 7];
+/// Words for an answer: the refusal or 0, kind, a, b, p, w, q, and how many octets of text.
+pub const WORDS: usize = 8;
+pub type Said = [u64; WORDS];
 
 /// Events by their C names. Each is lent the floor's parts, then has its own arguments, then is lent the words for the answer.
 macro_rules! linked {
@@ -53,10 +54,10 @@ macro_rules! call {
     };
 }
 
-/// Calls the function of the event's kind. There are at least seven words for the answer.
+/// Calls the function of the event's kind. There are at least `WORDS` words for the answer.
 macro_rules! call_one {
     ($w:expr, $event:expr, $buffer:expr, $out:expr, $start:ident, $enter:ident, $send:ident, $wire:ident, $radio:ident, $move:ident, $flag:ident) => {{
-        assert!($out.len() >= 7);
+        assert!($out.len() >= WORDS);
         match *$event {
             Event::Start(n, k) => call!($start, $w, $out, n, k),
             Event::Enter(t, c) => call!($enter, $w, $out, t, c),
@@ -73,7 +74,7 @@ macro_rules! call_one {
     }};
 }
 
-/// A whole event, form test and all, on any words. `out` has at least seven.
+/// A whole event, form test and all, on any words. `out` has at least `WORDS`.
 #[inline(always)]
 pub fn call(w: &mut Words, event: &Event, buffer: &mut [u8], out: &mut [u64]) {
     unsafe {

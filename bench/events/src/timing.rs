@@ -3,7 +3,7 @@
 
 use crate::behind::Behind;
 use crate::event::{self, Event};
-use crate::proved::{self, Said};
+use crate::proved::{self, Said, WORDS};
 use plain::words::Words;
 use plain::{Floor, StationNo};
 use shared::numbers::Numbers;
@@ -64,7 +64,7 @@ impl Side for Behind {
 impl Side for Whole {
     #[inline(always)]
     fn answer(&mut self, event: &Event, buffer: &mut [u8; 32]) -> Said {
-        let mut out = [0; 7];
+        let mut out = [0; WORDS];
         proved::call(&mut self.0, event, buffer, &mut out);
         out
     }
@@ -77,7 +77,7 @@ impl Side for Whole {
 impl Side for StepOnly {
     #[inline(always)]
     fn answer(&mut self, event: &Event, buffer: &mut [u8; 32]) -> Said {
-        let mut out = [0; 7];
+        let mut out = [0; WORDS];
         // Safety: the floor was reached by events from a start, and no text here is longer than 32 octets.
         unsafe { proved::step(&mut self.0, event, buffer, &mut out) };
         out

@@ -3,7 +3,7 @@
 use crate::choose;
 use crate::damage;
 use crate::event::{self, Event, KINDS};
-use crate::proved;
+use crate::proved::{self, WORDS};
 use crate::reach;
 use plain::words::Words;
 use plain::Floor;
@@ -49,7 +49,7 @@ fn step_alone(
     if matches!(event, Event::Send(_, _, text) if text.len() > 32) {
         return Ok(());
     }
-    let (mut w, mut b, mut o) = (before.clone(), lent.to_vec(), [BEHIND; 8]);
+    let (mut w, mut b, mut o) = (before.clone(), lent.to_vec(), [BEHIND; WORDS + 1]);
     // Safety: the floor passes the form rule, which the whole event tested, and the text has at most 32 octets.
     unsafe { proved::step(&mut w, event, &mut b, &mut o) };
     let same = w == *left && b == buffer && o == out;
@@ -64,7 +64,7 @@ fn one(w: &mut Words, event: &Event, lent: &[u8], counts: &mut Counts) -> Result
     }
     let before = w.clone();
     let (mut buffer, mut expected) = (lent.to_vec(), lent.to_vec());
-    let mut out = [BEHIND; 8];
+    let mut out = [BEHIND; WORDS + 1];
     proved::call(w, event, &mut buffer, &mut out);
     if found.is_ok() && out[0] != 5 {
         step_alone(&before, event, lent, (w, &buffer, &out))?;
@@ -72,7 +72,7 @@ fn one(w: &mut Words, event: &Event, lent: &[u8], counts: &mut Counts) -> Result
     let (said, floor) = event::plain(&before, found.ok(), event, &mut expected);
     counts.events += 1;
     *counts.answers.entry((event.kind(), said[0])).or_default() += 1;
-    if out[..7] != said || out[7] != BEHIND {
+    if out[..WORDS] != said || out[WORDS] != BEHIND {
         return Err(format!("the proved event answers {out:?}, the plain floor {said:?}"));
     }
     if buffer != expected {

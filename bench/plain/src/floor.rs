@@ -96,6 +96,19 @@ pub(crate) fn rooms_of(mut set: u32) -> impl Iterator<Item = Room> {
     })
 }
 
+/// The stations of a set, lowest first.
+#[inline(always)]
+pub(crate) fn stations_of(mut set: u16) -> impl Iterator<Item = StationNo> {
+    std::iter::from_fn(move || {
+        if set == 0 {
+            return None;
+        }
+        let station = StationNo(set.trailing_zeros() as u8);
+        set &= set - 1;
+        Some(station)
+    })
+}
+
 /// Where a cart is.
 #[derive(Clone, Copy, Debug, PartialEq, Eq)]
 pub enum Place {
@@ -136,6 +149,69 @@ impl Buffered {
     }
 }
 
+/// A station's queue: the rooms of its entries, the head first.
+#[derive(Clone)]
+pub(crate) struct Queue {
+    rooms: [Room; HELD],
+    length: u8,
+}
+
+// As with the numbers, the remainders below change nothing; they let the compiler see that what is
+// indexed is in range.
+impl Queue {
+    #[inline(always)]
+    pub(crate) fn entries(&self) -> &[Room] {
+        &self.rooms[..self.length as usize % (HELD + 1)]
+    }
+
+    #[inline(always)]
+    pub(crate) fn head(&self) -> Option<Room> {
+        (self.length > 0).then_some(self.rooms[0])
+    }
+
+    /// The place of an entry, 1 for the head.
+    #[inline(always)]
+    pub(crate) fn place(&self, room: Room) -> u8 {
+        let before = self.entries().iter().take_while(|other| **other != room);
+        before.count() as u8 + 1
+    }
+
+    /// Puts a new entry where its message's order wants it, and answers its place.
+    #[inline(always)]
+    pub(crate) fn insert(&mut self, room: Room, held: &[Held; HELD]) -> u8 {
+        let order = held[room.at()].order;
+        let mut at = self.length as usize % HELD;
+        while at > 0 && held[self.rooms[at - 1].at()].order > order {
+            self.rooms[at] = self.rooms[at - 1];
+            at -= 1;
+        }
+        self.rooms[at] = room;
+        self.length += 1;
+        at as u8 + 1
+    }
+
+    /// Takes the head out.
+    #[inline(always)]
+    pub(crate) fn drop_head(&mut self) {
+        self.length -= 1;
+        for at in 0..self.length as usize % HELD {
+            self.rooms[at] = self.rooms[at + 1];
+        }
+    }
+
+    /// Takes out the entries that are not to be kept.
+    #[inline(always)]
+    pub(crate) fn retain(&mut self, mut keep: impl FnMut(Room) -> bool) {
+        let mut kept = 0;
+        for at in 0..self.length as usize % (HELD + 1) {
+            let room = self.rooms[at];
+            self.rooms[kept] = room;
+            kept += keep(room) as usize;
+        }
+        self.length = kept as u8;
+    }
+}
+
 /// A station's record.
 #[derive(Clone)]
 pub(crate) struct Station {
@@ -145,12 +221,9 @@ pub(crate) struct Station {
     pub local: u64,
     /// Rooms of the messages buffered here.
     pub buffer: u32,
-    /// Rooms of the messages that have an entry in the queue here.
-    pub queue: u32,
+    pub queue: Queue,
     /// Rooms of the messages whose ack list here is not empty.
     pub acked: u32,
-    /// The entry at the head of the queue, where there is one.
-    pub head: Room,
     /// The number of its next own message.
     pub sent: u16,
     pub buffered: [Buffered; HELD],
@@ -223,9 +296,8 @@ impl Floor {
             expected: [0; STATIONS],
             local: 0,
             buffer: 0,
-            queue: 0,
+            queue: Queue { rooms: [Room(0); HELD], length: 0 },
             acked: 0,
-            head: Room(0),
             sent: 0,
             buffered: [Buffered { copy: 0, ack_list: 0, queued: 0 }; HELD],
         };
@@ -316,6 +388,6 @@ impl Floor {
     /// The carts of the entry at the head of a station's queue.
     pub fn head(&self, station: StationNo) -> Option<u64> {
         let here = &self.station[station.at()];
-        (here.queue != 0).then(|| here.buffered[here.head.at()].queued)
+        here.queue.head().map(|room| here.buffered[room.at()].queued)
     }
 }

@@ -5,7 +5,7 @@ use std::io::Write;
 use crate::floor::TEXT;
 use crate::steps::{Refusal, Step};
 
-/// No line is longer: 20 digits of index, 10 of p, 64 of text and 20 octets of other fields and
+/// No line is longer: 20 digits of index, 10 of p, 64 of text and 25 octets of other fields and
 /// blanks. A remainder by it changes no place in a line; it lets the compiler see that the place
 /// is in range.
 const LONGEST: usize = 128;
@@ -190,6 +190,7 @@ impl Line<'_> {
         self.number(step.b as u32);
         self.number(step.p);
         self.number(step.w as u32);
+        self.number(step.q as u32);
     }
 
     #[inline(always)]
@@ -266,10 +267,10 @@ mod tests {
         report.thousands = u64::MAX / 1000 - 1;
         report.next_thousand();
         report.rest = 614;
-        let step = Step { a: u16::MAX, b: u16::MAX, p: u32::MAX, w: u8::MAX };
+        let step = Step { a: u16::MAX, b: u16::MAX, p: u32::MAX, w: u8::MAX, q: u8::MAX };
         report.received(4, &step, &[0xAB; TEXT], TEXT);
         let text = "ab".repeat(32);
-        let wanted = format!("18446744073709551614 4 65535 65535 4294967295 255 {text}\n");
+        let wanted = format!("18446744073709551614 4 65535 65535 4294967295 255 255 {text}\n");
         assert_eq!(report.lines(), wanted.as_bytes());
         assert!(report.is_full());
         report.clear();
@@ -279,8 +280,8 @@ mod tests {
     #[test]
     fn an_empty_text_is_a_dash() {
         let mut report = Report::new(0);
-        report.received(4, &Step { a: 1, b: 0, p: 0, w: 1 }, &[9; TEXT], 0);
-        assert_eq!(report.lines(), b"0 4 1 0 0 1 -\n");
+        report.received(4, &Step { a: 1, b: 0, p: 0, w: 1, q: 2 }, &[9; TEXT], 0);
+        assert_eq!(report.lines(), b"0 4 1 0 0 1 2 -\n");
     }
 
     #[test]
@@ -289,9 +290,9 @@ mod tests {
             let text: [u8; TEXT] = std::array::from_fn(|at| first ^ (37 * at) as u8);
             for length in 1..=TEXT {
                 let mut report = Report::new(0);
-                report.received(4, &Step { a: 1, b: 0, p: 0, w: 1 }, &text, length);
+                report.received(4, &Step { a: 1, b: 0, p: 0, w: 1, q: 2 }, &text, length);
                 let digits: String = text[..length].iter().map(|o| format!("{o:02x}")).collect();
-                assert_eq!(report.lines(), format!("0 4 1 0 0 1 {digits}\n").as_bytes());
+                assert_eq!(report.lines(), format!("0 4 1 0 0 1 2 {digits}\n").as_bytes());
             }
         }
     }

@@ -2,8 +2,8 @@
 //! the answer, and changes nothing before the last check has passed.
 
 use crate::floor::{
-    carts_of, line, rooms_of, CartNo, Floor, Held, Place, Record, Room, StationNo, CARTS, HELD,
-    LAST_NUMBER, STATIONS, TEXT,
+    carts_of, line, rooms_of, stations_of, CartNo, Floor, Held, Place, Record, Room, StationNo,
+    CARTS, HELD, LAST_NUMBER, STATIONS, TEXT,
 };
 
 /// What an accepted event answers.
@@ -15,6 +15,8 @@ pub struct Step {
     pub p: u32,
     /// Records put on lines.
     pub w: u8,
+    /// "The largest place given in that step, 0 if no cart was queued."
+    pub q: u8,
 }
 
 /// Why a frame or an event is refused.
@@ -80,7 +82,7 @@ impl Floor {
         self.started = true;
         self.stations = stations;
         self.carts = carts;
-        Ok(Step { a: stations as u16, b: carts as u16, p: 0, w: 0 })
+        Ok(Step { a: stations as u16, b: carts as u16, p: 0, w: 0, q: 0 })
     }
 
     /// A cart comes onto the floor at a station.
@@ -95,8 +97,8 @@ impl Floor {
         self.entered |= cart.alone();
         // "A cart counts as steady from its entry until told".
         self.unsteady &= !cart.alone();
-        let p = self.register(station, cart);
-        Ok(Step { a: station.0 as u16, b: cart.0 as u16, p, w: 0 })
+        let (p, q) = self.register(station, cart);
+        Ok(Step { a: station.0 as u16, b: cart.0 as u16, p, w: 0, q })
     }
 
     /// A station initiates a message to a set of carts.
@@ -120,7 +122,7 @@ impl Floor {
         };
         held.text[..text.len()].copy_from_slice(text);
         let w = self.put_on_all_lines(station, Record::Multicast(room));
-        Ok(Step { a: station.0 as u16, b: number, p: 0, w })
+        Ok(Step { a: station.0 as u16, b: number, p: 0, w, q: 0 })
     }
 
     /// The head record of a line is handled at its end.
@@ -132,29 +134,29 @@ impl Floor {
         let Some(record) = self.lines[line(from, to)].pop_front() else {
             return Err(Refusal::LineEmpty);
         };
-        let (a, b, p, w) = match record {
+        let (a, b, p, w, q) = match record {
             Record::Multicast(room) => {
-                let p = self.multicast(to, room);
-                (MULTICAST, self.held[room.at()].number, p, 0)
+                let (p, q) = self.multicast(to, room);
+                (MULTICAST, self.held[room.at()].number, p, 0, q)
             }
             Record::AckList(room, carts) => {
                 let w = self.ack_list(to, room, carts);
-                (ACK_LIST, self.held[room.at()].number, 0, w)
+                (ACK_LIST, self.held[room.at()].number, 0, w, 0)
             }
             Record::Delete(room) => {
                 self.delete(to, room);
-                (DELETE, self.held[room.at()].number, 0, 0)
+                (DELETE, self.held[room.at()].number, 0, 0, 0)
             }
             Record::Deregister(cart) => {
                 let w = self.deregister(from, to, cart);
-                (DEREGISTER, cart.0 as u16, 0, w)
+                (DEREGISTER, cart.0 as u16, 0, w, 0)
             }
             Record::Register(cart) => {
-                let p = self.register(to, cart);
-                (REGISTER, cart.0 as u16, p, 0)
+                let (p, q) = self.register(to, cart);
+                (REGISTER, cart.0 as u16, p, 0, q)
             }
         };
-        Ok(Step { a, b, p, w })
+        Ok(Step { a, b, p, w, q })
     }
 
     /// The head message of a station's queue is handed to a cart, which acknowledges it. The text
@@ -185,11 +187,11 @@ impl Floor {
             self.send_ack_list(station, room);
         }
         if emptied {
-            self.drop_entry(station, room);
+            self.station[station.at()].queue.drop_head();
         }
         self.cart[cart.at()].next[initiator.at()] += 1;
-        let p = self.catch_up(station, cart, initiator);
-        Ok((Step { a: initiator.0 as u16, b: number, p, w: complete as u8 }, length))
+        let (p, q) = self.catch_up(station, cart, initiator);
+        Ok((Step { a: initiator.0 as u16, b: number, p, w: complete as u8, q }, length))
     }
 
     /// A cart greets a new station.
@@ -206,7 +208,7 @@ impl Floor {
         };
         self.cart[cart.at()].place = Place::Leaving(old);
         self.lines[line(to, old)].push_back(Record::Deregister(cart));
-        Ok(Step { a: cart.0 as u16, b: to.0 as u16, p: 0, w: 1 })
+        Ok(Step { a: cart.0 as u16, b: to.0 as u16, p: 0, w: 1, q: 0 })
     }
 
     /// A cart's vacuum is steady, or is not. It "prints cart and flag with p = 0 and w = 0".
@@ -222,7 +224,7 @@ impl Floor {
         } else {
             self.unsteady |= cart.alone();
         }
-        Ok(Step { a: cart.0 as u16, b: steady as u16, p: 0, w: 0 })
+        Ok(Step { a: cart.0 as u16, b: steady as u16, p: 0, w: 0, q: 0 })
     }
 
     /// The checks of a send, in their order; the number that the message will have.
@@ -270,10 +272,10 @@ impl Floor {
             return Err(Refusal::NotSteady);
         }
         let here = &self.station[station.at()];
-        if here.queue == 0 || here.buffered[here.head.at()].queued & cart.alone() == 0 {
-            return Err(Refusal::NotAtHead);
+        match here.queue.head() {
+            Some(room) if here.buffered[room.at()].queued & cart.alone() != 0 => Ok(room),
+            _ => Err(Refusal::NotAtHead),
         }
-        Ok(here.head)
     }
 
     #[inline(always)]
@@ -304,12 +306,13 @@ impl Floor {
     }
 }
 
-/// What the records do at the station they arrive at. Each answers p or w, where it has one.
+/// What the records do at the station they arrive at. Each answers what it has of p, w and q, where
+/// it has one: "all steps that queue carry it upward".
 impl Floor {
     /// A multicast "shall find out once for each cart whether it is local, before it goes over
     /// queue and copy. The answers make a row, yes exactly for the local carts".
     #[inline(always)]
-    fn multicast(&mut self, at: StationNo, room: Room) -> u32 {
+    fn multicast(&mut self, at: StationNo, room: Room) -> (u32, u8) {
         let row = self.station[at.at()].local;
         self.multicast_by(row, at, room)
     }
@@ -318,7 +321,7 @@ impl Floor {
     /// message is buffered, and each cart of the row is queued for it, passes it over, or is struck
     /// from the copy since it has it from another station.
     #[inline(always)]
-    fn multicast_by(&mut self, row: u64, at: StationNo, room: Room) -> u32 {
+    fn multicast_by(&mut self, row: u64, at: StationNo, room: Room) -> (u32, u8) {
         let Held { initiator, number, set, .. } = self.held[room.at()];
         let here = &mut self.station[at.at()];
         here.expected[initiator.at()] = number + 1;
@@ -339,10 +342,9 @@ impl Floor {
         }
         let buffered = &mut here.buffered[room.at()];
         buffered.copy = copy;
-        if queued != 0 {
-            self.enqueue(at, room, queued);
-        }
-        p
+        // All of them are put in one entry, which has the same place after each.
+        let q = if queued != 0 { self.enqueue(at, room, queued) } else { 0 };
+        (p, q)
     }
 
     /// An ack list at the initiator. The set as sent decides, not the copy that a station strikes
@@ -379,17 +381,12 @@ impl Floor {
     fn deregister(&mut self, new: StationNo, old: StationNo, cart: CartNo) -> u8 {
         let here = &mut self.station[old.at()];
         here.local &= !cart.alone();
-        let mut emptied = 0;
-        for room in rooms_of(here.queue) {
-            let queued = &mut here.buffered[room.at()].queued;
+        let buffered = &mut here.buffered;
+        here.queue.retain(|room| {
+            let queued = &mut buffered[room.at()].queued;
             *queued &= !cart.alone();
-            if *queued == 0 {
-                emptied |= room.alone();
-            }
-        }
-        for room in rooms_of(emptied) {
-            self.drop_entry(old, room);
-        }
+            *queued != 0
+        });
         let lists = self.send_complete_lists(old);
         self.cart[cart.at()].place = Place::Travelling;
         self.lines[line(old, new)].push_back(Record::Register(cart));
@@ -432,11 +429,12 @@ impl Floor {
     /// with every initiator at once. Where a buffered copy names the cart, its number is where
     /// catch-up stops; else it runs to the expected number.
     #[inline(always)]
-    fn register(&mut self, at: StationNo, cart: CartNo) -> u32 {
+    fn register(&mut self, at: StationNo, cart: CartNo) -> (u32, u8) {
         let here = &mut self.station[at.at()];
         let row = &mut self.cart[cart.at()].next;
         let mut stop = here.expected;
-        let mut ahead = 0;
+        let mut first = [Room(0); STATIONS];
+        let mut found = 0_u16;
         for room in rooms_of(here.buffer) {
             let copy = &mut here.buffered[room.at()].copy;
             if *copy & cart.alone() == 0 {
@@ -445,10 +443,10 @@ impl Floor {
             let Held { initiator, number, .. } = self.held[room.at()];
             if number < row[initiator.at()] {
                 *copy &= !cart.alone();
-            } else {
-                ahead |= room.alone();
-                let first = &mut stop[initiator.at()];
-                *first = number.min(*first);
+            } else if number < stop[initiator.at()] {
+                stop[initiator.at()] = number;
+                first[initiator.at()] = room;
+                found |= 1 << initiator.at();
             }
         }
         let mut p = 0;
@@ -459,24 +457,23 @@ impl Floor {
         }
         here.local |= cart.alone();
         self.cart[cart.at()].place = Place::At(at);
-        for room in rooms_of(ahead) {
-            let Held { initiator, number, .. } = self.held[room.at()];
-            if number == stop[initiator.at()] {
-                self.enqueue(at, room, cart.alone());
-            }
+        // In the order of the initiators, since a later putting may move an earlier entry back.
+        let mut q = 0;
+        for initiator in stations_of(found) {
+            q = q.max(self.enqueue(at, first[initiator.at()], cart.alone()));
         }
-        p
+        (p, q)
     }
 
     /// Catch-up with one initiator: to the first buffered message whose copy names the cart, for
-    /// which it is then queued, or else to the expected number. Answers how far.
+    /// which it is then queued, or else to the expected number. Answers how far, and the place.
     #[inline(always)]
-    fn catch_up(&mut self, at: StationNo, cart: CartNo, initiator: StationNo) -> u32 {
+    fn catch_up(&mut self, at: StationNo, cart: CartNo, initiator: StationNo) -> (u32, u8) {
         let here = &self.station[at.at()];
         let next = self.cart[cart.at()].next[initiator.at()];
         let mut stop = here.expected[initiator.at()];
         if next >= stop {
-            return 0;
+            return (0, 0);
         }
         let mut found = None;
         for room in rooms_of(here.buffer & self.rooms_by[initiator.at()]) {
@@ -488,31 +485,22 @@ impl Floor {
             }
         }
         self.cart[cart.at()].next[initiator.at()] = stop;
-        if let Some(room) = found {
-            self.enqueue(at, room, cart.alone());
-        }
-        (stop - next) as u32
+        let q = found.map_or(0, |room| self.enqueue(at, room, cart.alone()));
+        ((stop - next) as u32, q)
     }
 
-    /// Puts carts in a message's queue entry, which may become the head.
+    /// Puts carts in a message's queue entry, and "answers the entry's place, 1 for the head, as it
+    /// stands right after the putting".
     #[inline(always)]
-    fn enqueue(&mut self, at: StationNo, room: Room, carts: u64) {
+    fn enqueue(&mut self, at: StationNo, room: Room, carts: u64) -> u8 {
         let here = &mut self.station[at.at()];
-        here.buffered[room.at()].queued |= carts;
-        if here.queue == 0 || self.held[room.at()].order < self.held[here.head.at()].order {
-            here.head = room;
-        }
-        here.queue |= room.alone();
-    }
-
-    /// Takes an emptied entry out of the queue. If it was the head, the next in order is.
-    #[inline(always)]
-    fn drop_entry(&mut self, at: StationNo, room: Room) {
-        let here = &mut self.station[at.at()];
-        here.queue &= !room.alone();
-        if here.head == room {
-            let next = rooms_of(here.queue).min_by_key(|room| self.held[room.at()].order);
-            here.head = next.unwrap_or(Room(0));
+        let queued = &mut here.buffered[room.at()].queued;
+        let stood = *queued != 0;
+        *queued |= carts;
+        if stood {
+            here.queue.place(room)
+        } else {
+            here.queue.insert(room, &self.held)
         }
     }
 

@@ -255,12 +255,9 @@ impl Floor {
                     station.acked |= 1 << m;
                 }
                 if at.queued != 0 {
-                    station.queue |= 1 << m;
+                    station.queue.insert(Room(m as u8), &self.held);
                 }
             }
-            let queue = (0..HELD).filter(|m| station.queue >> m & 1 == 1);
-            let head = queue.min_by_key(|&m| self.held[m].order);
-            station.head = Room(head.unwrap_or(0) as u8);
         }
     }
 
@@ -321,8 +318,7 @@ impl Floor {
     fn station_difference(&self, other: &Floor, t: usize) -> Option<String> {
         let said = |f: &Floor| {
             let s = &f.station[t];
-            let head = (s.queue != 0).then_some(s.head);
-            (s.sent, s.expected, s.local, s.buffer, s.queue, s.acked, head)
+            (s.sent, s.expected, s.local, s.buffer, s.queue.entries().to_vec(), s.acked)
         };
         let (a, b) = (said(self), said(other));
         if a != b {

@@ -145,18 +145,20 @@ fn no_message_is_held_for_ever() {
 }
 
 #[test]
-fn some_deregister_steps_send_lists() {
+fn lists_go_in_deregister_steps_and_places_are_deep() {
     let (octets, _) = stream(3, 100_000, Wishes::default());
     let mut floor = Box::new(Floor::new());
     let mut reader = Reader::new(&octets);
-    let mut lists = 0;
+    let (mut lists, mut deepest) = (0, 0);
     while let Taken::Event(event) = reader.take() {
-        match (&event, give(&mut floor, &event)) {
-            (Event::Wire { .. }, Ok(Step { a: 4, w, .. })) => lists += w as usize - 1,
-            _ => (),
+        let Ok(step) = give(&mut floor, &event) else { continue };
+        deepest = deepest.max(step.q);
+        if let (Event::Wire { .. }, Step { a: 4, w, .. }) = (&event, step) {
+            lists += w as usize - 1;
         }
     }
     assert!(lists > 100, "{lists} lists");
+    assert!(deepest >= 5, "place {deepest}");
 }
 
 #[test]

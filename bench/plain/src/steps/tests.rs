@@ -9,9 +9,15 @@ fn floor(stations: u8, carts: u8) -> Floor {
 /// A text of one octet, where the text does not matter.
 const ONE: &[u8] = &[0x0A];
 
+/// a, b, p and w of an accepted event.
 fn answer(step: Result<Step, Refusal>) -> (u16, u16, u32, u8) {
-    let Step { a, b, p, w } = step.unwrap();
+    let Step { a, b, p, w, .. } = step.unwrap();
     (a, b, p, w)
+}
+
+/// q of an accepted event.
+fn place(step: Result<Step, Refusal>) -> u8 {
+    step.unwrap().q
 }
 
 fn refusal<T: std::fmt::Debug>(answer: Result<T, Refusal>) -> u8 {
@@ -47,13 +53,29 @@ fn k1_a_cart_moves_before_it_has_the_message() {
     assert_eq!(answer(f.wire(s(1), s(0))), (4, 0, 0, 1));
     assert_eq!(answer(f.wire(s(0), s(1))), (5, 0, 0, 0));
     let received = f.radio(s(1), c(0), &mut text);
-    assert_eq!(received, Ok((Step { a: 1, b: 0, p: 0, w: 1 }, 1)));
+    assert_eq!(received, Ok((Step { a: 1, b: 0, p: 0, w: 1, q: 0 }, 1)));
     assert_eq!((text[0], text[1]), (0xA1, 0xEE));
     assert_eq!(answer(f.wire(s(1), s(1))), (2, 0, 0, 2));
     assert_eq!(f.held(), 1);
     assert_eq!(answer(f.wire(s(1), s(0))), (3, 0, 0, 0));
     assert_eq!(answer(f.wire(s(1), s(1))), (3, 0, 0, 0));
     assert_eq!(f.held(), 0);
+}
+
+#[test]
+fn k1_lines_5_and_8_give_a_place() {
+    let mut f = floor(2, 1);
+    assert_eq!(place(f.enter(s(0), c(0))), 0);
+    assert_eq!(place(f.send(s(1), 1, &[0xA1])), 0);
+    assert_eq!(place(f.wire(s(1), s(1))), 0);
+    assert_eq!(place(f.move_cart(c(0), s(1))), 0);
+    assert_eq!(place(f.wire(s(1), s(0))), 1);
+    assert_eq!(place(f.wire(s(1), s(0))), 0);
+    assert_eq!(place(f.wire(s(0), s(1))), 1);
+    assert_eq!(place(f.hand(1, 0)), 0);
+    for (from, to) in [(1, 1), (1, 0), (1, 1)] {
+        assert_eq!(place(f.wire(s(from), s(to))), 0);
+    }
 }
 
 #[test]
@@ -173,7 +195,7 @@ fn an_empty_message_that_is_held_is_handed_out_acknowledged_and_deleted() {
     // No buffer is shorter than an empty text, and no octet of one is written.
     let mut text = [0xEE; TEXT];
     let received = f.radio(s(0), c(0), &mut text[..0]);
-    assert_eq!(received, Ok((Step { a: 0, b: 0, p: 0, w: 1 }, 0)));
+    assert_eq!(received, Ok((Step { a: 0, b: 0, p: 0, w: 1, q: 0 }, 0)));
     assert_eq!(text, [0xEE; TEXT]);
     assert_eq!(answer(f.wire(s(0), s(0))), (2, 0, 0, 1));
     assert_eq!(answer(f.wire(s(0), s(0))), (3, 0, 0, 0));
@@ -430,6 +452,68 @@ fn the_flag_travels_with_the_cart() {
 }
 
 #[test]
+fn places_are_those_right_after_the_putting() {
+    let mut f = floor(2, 2);
+    f.enter(s(0), c(0)).unwrap();
+    f.enter(s(0), c(1)).unwrap();
+    // Number 0 of station 0, behind it its number 1, which cart 0 is not put in yet.
+    f.send(s(0), 0b01, ONE).unwrap();
+    f.send(s(0), 0b11, ONE).unwrap();
+    assert_eq!(place(f.wire(s(0), s(0))), 1);
+    assert_eq!(place(f.wire(s(0), s(0))), 2);
+    // Number 0 of station 1 goes before both.
+    f.send(s(1), 0b01, ONE).unwrap();
+    assert_eq!(place(f.wire(s(1), s(0))), 1);
+    assert_eq!(place(f.hand(0, 0)), 0);
+    // The served entry has gone before cart 0 is put in the next, which stood there already.
+    assert_eq!(place(f.hand(0, 0)), 1);
+}
+
+#[test]
+fn the_largest_place_of_a_register_initiators_rising() {
+    // Cart 0 brings nothing along. Two messages wait for it at station 1, of stations 0 and 1.
+    for (companions, largest) in [(0, 1), (0b110, 2)] {
+        let mut f = floor(2, 3);
+        for (cart, station) in [(0, 0), (1, 1), (2, 1)] {
+            f.enter(s(station), c(cart)).unwrap();
+        }
+        f.move_cart(c(0), s(1)).unwrap();
+        f.send(s(0), 0b001 | companions, ONE).unwrap();
+        f.send(s(1), 0b001 | companions, ONE).unwrap();
+        assert_eq!(answer(f.wire(s(1), s(0))), (4, 0, 0, 1));
+        assert_eq!(answer(f.wire(s(0), s(1))).0, 1);
+        assert_eq!(answer(f.wire(s(1), s(1))).0, 1);
+        // Alone, each is put at the head, station 0's first; where both stand already, it is the
+        // largest that counts and not the last.
+        let registered = f.wire(s(0), s(1));
+        assert_eq!(answer(registered), (5, 0, 0, 0));
+        assert_eq!(place(registered), largest);
+    }
+}
+
+#[test]
+fn the_deepest_place_is_32() {
+    let mut f = floor(1, 33);
+    for cart in 0..33 {
+        f.enter(s(0), c(cart)).unwrap();
+    }
+    // Every message has a cart of its own, and the last waits for the first's too.
+    for cart in 0..31 {
+        f.send(s(0), c(cart).alone(), ONE).unwrap();
+    }
+    f.send(s(0), c(31).alone() | c(0).alone(), ONE).unwrap();
+    for number in 0..32 {
+        assert_eq!(place(f.wire(s(0), s(0))), number + 1);
+    }
+    // The head goes first, so the last is then the 31st.
+    assert_eq!(place(f.hand(0, 0)), 31);
+    for cart in 1..31 {
+        assert_eq!(place(f.hand(0, cart)), 0);
+    }
+    assert_eq!(f.head(s(0)), Some(c(31).alone() | c(0).alone()));
+}
+
+#[test]
 fn a_multicast_goes_by_its_row_alone() {
     let mut f = floor(2, 5);
     for (cart, station) in [(0, 0), (1, 0), (2, 1), (4, 1)] {
@@ -442,7 +526,7 @@ fn a_multicast_goes_by_its_row_alone() {
     f.send(s(0), 0b1_0111, ONE).unwrap();
     // The row leaves out cart 0, which is local, and has all others, of which cart 1 alone is.
     let (local, places) = (f.station[0].local, f.cart.map(|cart| cart.place));
-    assert_eq!(f.multicast_by(0b1_1110, s(0), Room(0)), 1);
+    assert_eq!(f.multicast_by(0b1_1110, s(0), Room(0)), (1, 1));
     let buffered = f.station[0].buffered[0];
     assert_eq!(buffered.queued, 0b0_0110);
     assert_eq!(buffered.copy, 0b0_0111);
@@ -512,45 +596,56 @@ mod as_worded {
             self.posts.len() as u8
         }
 
-        fn queue(&mut self, station: u8, message: Message, cart: u8) {
+        /// Puts a cart in the entry of a message; the entry's place right after that.
+        fn queue(&mut self, station: u8, message: Message, cart: u8) -> u32 {
             let queue = &mut self.posts[station as usize].queue;
             match queue.iter_mut().find(|(m, _)| *m == message) {
                 Some((_, carts)) => carts.push(cart),
                 None => queue.push((message, vec![cart])),
             }
             queue.sort_by_key(|(m, _)| (m.number, 16 - m.initiator));
+            1 + queue.iter().position(|(m, _)| *m == message).unwrap() as u32
         }
 
-        fn catch_up(&mut self, station: u8, cart: u8, initiator: u8, row: &mut [u16; 16]) -> u32 {
-            let mut p = 0;
+        /// p, and the place if the cart was queued.
+        fn catch_up(
+            &mut self,
+            station: u8,
+            cart: u8,
+            initiator: u8,
+            row: &mut [u16; 16],
+        ) -> (u32, u32) {
+            let (mut p, mut q) = (0, 0);
             let next = &mut row[initiator as usize];
             while *next < self.posts[station as usize].expected[initiator as usize] {
                 let message = Message { initiator, number: *next };
                 let buffer = &self.posts[station as usize].buffer;
                 if buffer.iter().any(|(m, copy, _)| *m == message && copy.contains(&cart)) {
-                    self.queue(station, message, cart);
+                    q = self.queue(station, message, cart);
                     break;
                 }
                 *next += 1;
                 p += 1;
             }
-            p
+            (p, q)
         }
 
-        fn register(&mut self, station: u8, cart: u8, mut row: [u16; 16]) -> u32 {
+        fn register(&mut self, station: u8, cart: u8, mut row: [u16; 16]) -> (u32, u32) {
             for (message, copy, _) in &mut self.posts[station as usize].buffer {
                 if message.number < row[message.initiator as usize] {
                     copy.retain(|c| *c != cart);
                 }
             }
-            let mut p = 0;
+            let (mut p, mut q) = (0, 0);
             for initiator in 0..self.posts.len() as u8 {
-                p += self.catch_up(station, cart, initiator, &mut row);
+                let (passed, place) = self.catch_up(station, cart, initiator, &mut row);
+                p += passed;
+                q = q.max(place);
             }
             self.rows[cart as usize] = Some(row);
             self.places[cart as usize] = (1, station);
             self.posts[station as usize].local.push(cart);
-            p
+            (p, q)
         }
 
         fn station(&self, station: u8) -> Result<(), u8> {
@@ -569,17 +664,17 @@ mod as_worded {
             }
         }
 
-        pub fn enter(&mut self, station: u8, cart: u8) -> Result<[u32; 4], u8> {
+        pub fn enter(&mut self, station: u8, cart: u8) -> Result<[u32; 5], u8> {
             self.station(station)?;
             self.cart(cart)?;
             if self.places[cart as usize].0 != 0 {
                 return Err(10);
             }
-            let p = self.register(station, cart, [0; 16]);
-            Ok([station as u32, cart as u32, p, 0])
+            let (p, q) = self.register(station, cart, [0; 16]);
+            Ok([station as u32, cart as u32, p, 0, q])
         }
 
-        pub fn send(&mut self, station: u8, set: u64, text: &[u8]) -> Result<[u32; 4], u8> {
+        pub fn send(&mut self, station: u8, set: u64, text: &[u8]) -> Result<[u32; 5], u8> {
             self.station(station)?;
             let carts: Vec<u8> = (0..64).filter(|c| set >> c & 1 == 1).collect();
             carts.iter().try_for_each(|c| self.cart(*c))?;
@@ -599,10 +694,10 @@ mod as_worded {
             self.posts[station as usize].sent += 1;
             self.held.push((message, carts.clone(), Vec::new(), self.posts.len()));
             let w = self.all(station, Travelling::Multicast(message, carts));
-            Ok([station as u32, message.number as u32, 0, w as u32])
+            Ok([station as u32, message.number as u32, 0, w as u32, 0])
         }
 
-        pub fn wire(&mut self, from: u8, to: u8) -> Result<[u32; 4], u8> {
+        pub fn wire(&mut self, from: u8, to: u8) -> Result<[u32; 5], u8> {
             self.station(from)?;
             self.station(to)?;
             let line = &mut self.lines[from as usize * 16 + to as usize];
@@ -611,14 +706,14 @@ mod as_worded {
             }
             match line.remove(0) {
                 Travelling::Multicast(message, mut copy) => {
-                    let mut p = 0;
+                    let (mut p, mut q) = (0, 0);
                     let i = message.initiator as usize;
                     self.posts[to as usize].expected[i] += 1;
                     let named = copy.clone();
                     for cart in self.posts[to as usize].local.clone() {
                         let next = &mut self.rows[cart as usize].as_mut().unwrap()[i];
                         if *next == message.number && named.contains(&cart) {
-                            self.queue(to, message, cart);
+                            q = q.max(self.queue(to, message, cart));
                         } else if *next == message.number {
                             *next += 1;
                             p += 1;
@@ -627,7 +722,7 @@ mod as_worded {
                         }
                     }
                     self.posts[to as usize].buffer.push((message, copy, Vec::new()));
-                    Ok([1, message.number as u32, p, 0])
+                    Ok([1, message.number as u32, p, 0, q])
                 }
                 Travelling::AckList(message, carts) => {
                     let at = self.held.iter().position(|h| h.0 == message).unwrap();
@@ -635,7 +730,7 @@ mod as_worded {
                     held.2.extend(carts);
                     let whole = held.1.iter().all(|c| held.2.contains(c));
                     let w = if whole { self.all(to, Travelling::Delete(message)) } else { 0 };
-                    Ok([2, message.number as u32, 0, w as u32])
+                    Ok([2, message.number as u32, 0, w as u32, 0])
                 }
                 Travelling::Delete(message) => {
                     self.posts[to as usize].buffer.retain(|(m, _, _)| *m != message);
@@ -644,7 +739,7 @@ mod as_worded {
                     if self.held[at].3 == 0 {
                         self.held.remove(at);
                     }
-                    Ok([3, message.number as u32, 0, 0])
+                    Ok([3, message.number as u32, 0, 0, 0])
                 }
                 Travelling::Deregister(cart) => {
                     let here = &mut self.posts[to as usize];
@@ -655,11 +750,11 @@ mod as_worded {
                     self.places[cart as usize] = (3, 0);
                     let row = self.rows[cart as usize].take().unwrap();
                     self.put(to, from, Travelling::Register(cart, row));
-                    Ok([4, cart as u32, 0, w + 1])
+                    Ok([4, cart as u32, 0, w + 1, 0])
                 }
                 Travelling::Register(cart, row) => {
-                    let p = self.register(to, cart, row);
-                    Ok([5, cart as u32, p, 0])
+                    let (p, q) = self.register(to, cart, row);
+                    Ok([5, cart as u32, p, 0, q])
                 }
             }
         }
@@ -684,7 +779,7 @@ mod as_worded {
             1
         }
 
-        pub fn radio(&mut self, station: u8, cart: u8) -> Result<[u32; 4], u8> {
+        pub fn radio(&mut self, station: u8, cart: u8) -> Result<[u32; 5], u8> {
             self.station(station)?;
             self.cart(cart)?;
             if self.places[cart as usize] != (1, station) {
@@ -707,22 +802,22 @@ mod as_worded {
             assert_eq!(row[i], message.number);
             row[i] += 1;
             let w = self.test_list(station, message);
-            let p = self.catch_up(station, cart, message.initiator, &mut row);
+            let (p, q) = self.catch_up(station, cart, message.initiator, &mut row);
             self.rows[cart as usize] = Some(row);
             self.sum += 1;
-            Ok([i as u32, message.number as u32, p, w])
+            Ok([i as u32, message.number as u32, p, w, q])
         }
 
-        pub fn set_steady(&mut self, cart: u8, steady: bool) -> Result<[u32; 4], u8> {
+        pub fn set_steady(&mut self, cart: u8, steady: bool) -> Result<[u32; 5], u8> {
             self.cart(cart)?;
             if self.places[cart as usize].0 == 0 {
                 return Err(18);
             }
             self.steady[cart as usize] = steady;
-            Ok([cart as u32, steady as u32, 0, 0])
+            Ok([cart as u32, steady as u32, 0, 0, 0])
         }
 
-        pub fn move_cart(&mut self, cart: u8, to: u8) -> Result<[u32; 4], u8> {
+        pub fn move_cart(&mut self, cart: u8, to: u8) -> Result<[u32; 5], u8> {
             self.station(to)?;
             self.cart(cart)?;
             match self.places[cart as usize] {
@@ -732,7 +827,7 @@ mod as_worded {
                 (_, old) => {
                     self.places[cart as usize] = (2, old);
                     self.put(to, old, Travelling::Deregister(cart));
-                    Ok([cart as u32, to as u32, 0, 1])
+                    Ok([cart as u32, to as u32, 0, 1, 0])
                 }
             }
         }
@@ -782,9 +877,9 @@ fn the_same_as_the_worded_steps() {
                     _ => (floor.wire(s(station), s(other)), worded.wire(station, other)),
                 };
                 let ours = ours.map_err(Refusal::number);
-                let ours = ours.map(|t| [t.a as u32, t.b as u32, t.p, t.w as u32]);
+                let ours = ours.map(|t| [t.a as u32, t.b as u32, t.p, t.w as u32, t.q as u32]);
                 assert_eq!(ours, theirs);
-                if let Ok([_, _, p, _]) = ours {
+                if let Ok([_, _, p, _, _]) = ours {
                     worded.sum += p as u64;
                 }
             }
