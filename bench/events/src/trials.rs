@@ -126,12 +126,12 @@ fn report(counts: &Counts, trials: u64) {
     for (kind, name) in KINDS.iter().enumerate() {
         let of = |r: u64| counts.answers.get(&(kind, r)).copied().unwrap_or(0);
         let refusals: Vec<String> =
-            (1..=24).filter(|&r| of(r) > 0).map(|r| format!("{r}: {}", of(r))).collect();
+            (1..=25).filter(|&r| of(r) > 0).map(|r| format!("{r}: {}", of(r))).collect();
         println!("  {name:<6} {:>9}   {}", of(0), refusals.join(", "));
     }
     let met = |r: u64| counts.answers.keys().any(|&(_, s)| s == r);
-    let missing: Vec<u64> = (4..22).chain([24]).filter(|&r| !met(r)).collect();
-    println!("refusals 4 to 21 and 24 that never occurred: {missing:?}");
+    let missing: Vec<u64> = (4..22).chain([24, 25]).filter(|&r| !met(r)).collect();
+    println!("refusals 4 to 21, 24 and 25 that never occurred: {missing:?}");
     println!("clauses of the form rule found broken: {:?}", counts.faults);
 }
 
