@@ -4,12 +4,12 @@ use mathlib.Core.List.{List, [], map, _∷_}
 use Prim.Native.Nat.{suc}
 use native.Mathlib.Omega.{arith}
 use lib.Dec.{eqb}
-use lib.ListN.{drop, length}
+use lib.ListN.{drop, length, replicate, take}
 use borrow.Author.Tests.{ne-eqb}
 use Rattle.protocol.specs.Folds.{count, every, first, listOf, sum}
 use Rattle.protocol.specs.CartSets.{has, minus, setOf, union, with, without}
 use Rattle.protocol.specs.Floor.{Floor, limits, unstarted}
-use Rattle.protocol.specs.Events.{Answer}
+use Rattle.protocol.specs.Events.{Answer, Event}
 use Rattle.protocol.specs.Order.{placeIn}
 use Rattle.protocol.specs.Handoff.{arrive, bufferedFor, catchUp, catchUpEach, catchUpStop, climb, deepest, largestPlace, onEnter, onFlag, onMove, onRegister, passedOver, placeGiven, roomOf, struck}
 use Rattle.protocol.specs.Wired.{buffer, freeRoom, handle, multicastByRow, onAckList, onDelete, onMulticast, onSend, onWire, placeOfNew, withMessage}
@@ -18,13 +18,15 @@ use Rattle.protocol.specs.Deregister.{bufferedRooms, inOrder, insert, is
 use Rattle.protocol.specs.Claims.{test}
 use Rattle.protocol.specs.Form.{passesForm}
 use Rattle.protocol.specs.Blank.{BlankBeyond}
-use Rattle.protocol.specs.Refusals.{neverEntered, refusalIf}
-use Rattle.protocol.specs.Step.{accept, floorAfter}
+use Rattle.protocol.specs.Refusals.{neverEntered, refusal, refusalIf}
+use Rattle.protocol.specs.Step.{accept, answers, floorAfter, step}
+use Rattle.protocol.specs.Quiet.{buffersAfter, busyFrom, busyTo, dispatched, firstCart, firstStation, nextEvent, quietAfter, quietCall, quietEvents}
 use Rattle.protocol.specs.Frames.{bigEndian, fieldsOf, unlisted, eventOf, fieldsRefusal, frameRefusal, frameOf}
 use Rattle.protocol.specs.Printed.{decimal, decimalDigits, hexadecimal, restOf, lineOf, printedRun}
 use Rattle.protocol.specs.Examples.{Given, Row, Shown, after, answered, events, examples, form, frames, framesOn, heldOn, holds, holdsNoText, nearTheLast, outcome, passes, printed, rollsAway}
 use Rattle.protocol.proofs.Tests.{and-false}
-use Rattle.protocol.proofs.Ready.{Ready, quick-answers, quick-floor, quick-lines, quickAnswer, quickAnswers, quickFloor, quickLines, quickStep, ready-unstarted}
+use Rattle.protocol.proofs.Ready.{Ready, quick-answers, quick-floor, quick-lines, quickAnswer, quickAnswers, quickFloor, quickLines, quickStep, ready-run, ready-unstarted}
+use Rattle.protocol.proofs.QuietCall.{call-runs, else-runs}
 
 -- The starred examples, by computation.
 -- what is computed for a row: with refusal 5 read off the mark
@@ -115,3 +117,42 @@ rolls-away = refl
 
 pub rolled-away : heldOn (floorAfter limits unstarted rollsAway) ≡ 0
 rolled-away = ap (λ (X : Floor). heldOn X) (quick-floor limits unstarted rollsAway from-unstarted) ∙ rolls-away
+
+-- THE SAME RUN CLOSED once the cart has greeted its new station: the dispatcher's events, and the buffer that they leave
+closing : Floor
+closing = quickFloor limits unstarted (take 8 rollsAway)
+
+closing-is : floorAfter limits unstarted (take 8 rollsAway) ≡ closing
+unfolding closing
+closing-is = quick-floor limits unstarted (take 8 rollsAway) from-unstarted
+
+closing-events : quietEvents limits closing ≡ drop 8 rollsAway
+unfolding closing quietEvents dispatched nextEvent busyFrom busyTo firstStation firstCart step refusal passesForm test quickFloor quickStep refusalIf accept onEnter onFlag onSend onWire onRadio onMove handle onMulticast multicastByRow onAckList onDelete onDeregister bufferedRooms inOrder insert isComplete testEach listsSent leave onRegister arrive passedOver deepest largestPlace placeGiven placeOfNew placeIn catchUpEach catchUp catchUpStop climb bufferedFor roomOf freeRoom struck withMessage buffer receive sendAcks allAcked handOver queueHead headAmong neverEntered every count sum first listOf has union minus with without setOf
+closing-events = refl
+
+closing-started : closing .started ≡ true
+unfolding closing quickFloor quickStep refusalIf accept onEnter onFlag onSend onWire onRadio onMove handle onMulticast multicastByRow onAckList onDelete onDeregister bufferedRooms inOrder insert isComplete testEach listsSent leave onRegister arrive passedOver deepest largestPlace placeGiven placeOfNew placeIn catchUpEach catchUp catchUpStop climb bufferedFor roomOf freeRoom struck withMessage buffer receive sendAcks allAcked handOver queueHead headAmong neverEntered every count sum first listOf has union minus with without setOf
+closing-started = refl
+
+closing-ready : Ready limits closing
+closing-ready = let z = ready-run limits unstarted (take 8 rollsAway) from-unstarted in rw closing-is at z
+
+closing-writes : buffersAfter (quickAnswers limits closing (drop 8 rollsAway)) (replicate 32 0) ≡ 0xa1 ∷ replicate 31 0
+unfolding closing quickFloor quickAnswers quickAnswer quickStep refusalIf accept onEnter onFlag onSend onWire onRadio onMove handle onMulticast multicastByRow onAckList onDelete onDeregister bufferedRooms inOrder insert isComplete testEach listsSent leave onRegister arrive passedOver deepest largestPlace placeGiven placeOfNew placeIn catchUpEach catchUp catchUpStop climb bufferedFor roomOf freeRoom struck withMessage buffer receive sendAcks allAcked handOver queueHead headAmong neverEntered every count sum first listOf has union minus with without setOf
+closing-writes = refl
+
+pub closed : (quietEvents limits (floorAfter limits unstarted (take 8 rollsAway)) ≡ drop 8 rollsAway)
+    × ((quietCall limits (floorAfter limits unstarted (take 8 rollsAway)) (replicate 32 0) .answer ≡ quietAfter 7)
+    × (quietCall limits (floorAfter limits unstarted (take 8 rollsAway)) (replicate 32 0) .buffer ≡ 0xa1 ∷ replicate 31 0))
+closed =
+    let runs = call-runs limits closing (replicate 32 0) (else-runs limits closing 32 (closing-ready closing-started .1) (omega arith)) in
+    rw closing-is (
+      closing-events,
+      (
+        runs .0 ∙ ap (λ (es : List Event). quietAfter (length es)) closing-events,
+        runs .1 .1
+            ∙ ap (λ (es : List Event). buffersAfter (answers limits closing es) (replicate 32 0)) closing-events
+            ∙ ap (λ (l : List Answer). buffersAfter l (replicate 32 0)) (quick-answers limits closing (drop 8 rollsAway) closing-ready)
+            ∙ closing-writes,
+      ),
+    )

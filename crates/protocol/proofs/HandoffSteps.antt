@@ -53,7 +53,7 @@ pub in-no-queue : (M : Limits) (F : Floor) (G : History) (c : ℕ) → Invariant
 in-no-queue M F G c I h m u e = clash (localTo (F .place c) u) (I .queues m u c e .home) (h u)
 
 -- the cart's own row, put in its place again, changes nothing
-same-row : (F : Floor) (c : ℕ) (row : ℕ → ℕ) → ((s : ℕ) → row s ≡ F .next c s) → withRow F c row ≡ F
+pub same-row : (F : Floor) (c : ℕ) (row : ℕ → ℕ) → ((s : ℕ) → row s ≡ F .next c s) → withRow F c row ≡ F
 same-row F c row e =
     ap (λ (x : ℕ → ℕ → ℕ). setNext F x) (fun-ext (λ d. fun-ext (λ s. by-test (eqb d c) (λ q. rw (q, eqb-true d c q) (e s)) (λ q. rw q))))
 

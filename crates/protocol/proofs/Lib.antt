@@ -34,7 +34,15 @@ pub mod ExamplesHold
 pub mod InRange
 pub mod Width
 pub mod QueueOrder
+pub mod PotentialSteps
+pub mod NextEvent
+pub mod QuietRun
+pub mod Live
+pub mod LiveSteps
+pub mod LiveRun
+pub mod QuietCall
 pub mod Places
 pub mod Found
 pub mod Texts
+pub mod Dispatch
 pub mod Theorems

@@ -81,6 +81,11 @@ pub head-first : (M : Limits) (F : Floor) (t m : ℕ) → queueHead M F t ≡ so
 unfolding queueHead
 head-first M F t m e = let z = head-is F t (M .held) in rw e at z
 
+-- where there is no head, there is no entry
+pub no-head : (M : Limits) (F : Floor) (t : ℕ) → queueHead M F t ≡ none → (k : ℕ) → k < M .held → eqb (F .queue k t) 0 ≡ true
+unfolding queueHead
+no-head M F t e = let z = head-is F t (M .held) in rw e at z
+
 -- ROOMS IN QUEUE ORDER
 
 -- each room of a list is ahead of those behind it

@@ -14,16 +14,10 @@ use Rattle.protocol.specs.Floor.{Floor, Limits, Place, Record, ackList, 
 use Rattle.protocol.specs.Handoff.{rowOf}
 use Rattle.protocol.specs.Form.{HandoffRecord, acksTo, bit, countLine, countLines, handoffOf, handoffs, isDeleteOf, multicastNumbers}
 use Rattle.protocol.proofs.Tests.{and-false, and-intro, and-left, and-right, both-differ, by-test, clash, eqb-self, on-cond}
+use Rattle.protocol.specs.Potential.{isMulticast}
 use Rattle.protocol.proofs.Invariant.{CountsUp, Held, Holds}
 use Rattle.protocol.proofs.Counting.{OnLines, all-any, countLine-none, countLines-none, cover, on-lines-map, sum-add, sum-ext, sum-le, sum-nil, sum-only, sum2-only}
 use Rattle.protocol.proofs.LineFacts.{HeldRecord, LineFacts, isHandoffOf, isMulticastOf, no-multicast-below}
-
-abbrev isMulticast : Record → Bool
-isMulticast (multicast n) = true
-isMulticast (ackList n x) = false
-isMulticast (delete n) = false
-isMulticast (deregister d) = false
-isMulticast (register d row) = false
 
 abbrev isDelete : Record → Bool
 isDelete (multicast n) = false
@@ -149,7 +143,7 @@ module _ (M : Limits) (F : Floor) (X : LineFacts M F)
       (λ j lj. countLine-none (λ x. eqb i (F .initiator m) && B (F .number m) x) (F .lines i j) (all-any (F .lines i j) (λ x. rw (ne-eqb i (F .initiator m) ne)))))
       (λ li. let z = sum-le (F .stations) 1 (λ j. countLine (λ x. eqb (F .initiator m) (F .initiator m) && B (F .number m) x) (F .lines (F .initiator m) j)) (λ j lj. rw (eqb-self (F .initiator m)) (one m j h lj)) in omega arith))
 
-  multicasts-le : countLines (F .stations) (λ i j. isMulticast) (F .lines) ≤ M .held * F .stations
+  pub multicasts-le : countLines (F .stations) (λ i j. isMulticast) (F .lines) ≤ M .held * F .stations
   multicasts-le = sent-at-most isMulticast isMulticastOf of (λ m t h lt. one-multicast (F .expected t (F .initiator m)) (F .lines (F .initiator m) t) (F .sent (F .initiator m)) (F .number m) (run (F .initiator m) t lt))
     where
       of : (i j : ℕ) (x : Record) → HeldRecord M F i j x → isMulticast x ≡ true → (n : ℕ) × (Holds M (F .waiting) (F .initiator) (F .number) i n) × (isMulticastOf n x ≡ true)

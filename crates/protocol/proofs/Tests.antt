@@ -219,6 +219,17 @@ first-is n f m l e none-before =
     (λ before. clash (f k) (first-some n f k q .1) (none-before k before))
     (λ later. by-eq k m (λ z. q ∙ ap some z) (λ z. clash (f m) e (first-least n f k q m (omega arith)))))
 
+-- what the least below n that passes is: it passes and none below it does; where none is found, none passes
+abbrev pub IsFirst : ℕ → (ℕ → Bool) → Option ℕ → Type 0
+IsFirst n f none = (k : ℕ) → k < n → f k ≡ false
+IsFirst n f (some m) = (m < n) × ((f m ≡ true) × ((k : ℕ) → k < m → f k ≡ false))
+
+pub first-found : (n : ℕ) (f : ℕ → Bool) → IsFirst n f (first n f)
+first-found n f =
+    by-option (first n f)
+    (λ q. rw q (first-none n f q))
+    (λ m q. let z = first-some n f m q in rw q (z .0, (z .1, first-least n f m q)))
+
 -- where none passes, none is found
 pub first-nowhere : (n : ℕ) (f : ℕ → Bool) → ((k : ℕ) → k < n → f k ≡ false) → first n f ≡ none
 first-nowhere n f h = by-option (first n f) (λ q. q) (λ k q. let z = first-some n f k q in clash (f k) (z .1) (h k (z .0)))

@@ -1,17 +1,17 @@
-use mathlib.Core.Path.{_≡_, ap, refl, subst, sym}
+use mathlib.Core.Path.{_≡_, ap, refl, subst, sym, _∙_}
 use mathlib.Core.Bool.{_&&_, Bool, cond, false, not, true, _||_}
-use mathlib.Core.Option.{some}
+use mathlib.Core.Option.{none, some}
 use mathlib.Core.List.{_++_, List, [], map, _∷_}
 use Prim.Native.Nat.{_*_, _+_, _-_, _<_, _^_, max, suc, ℕ, _≤_}
 use native.Mathlib.Nat.{mul-le-mul-left, mul-le-mul-right}
 use native.Mathlib.Omega.{arith}
 use lib.Dec.{eqb, ltb}
-use lib.ListN.{getD, length}
+use lib.ListN.{drop, getD, length, replicate, take}
 use borrow.Author.Tests.{ne-eqb, not-true}
 use Rattle.protocol.specs.Folds.{count, isEmpty, sum, update}
 use Rattle.protocol.specs.CartSets.{has}
 use Rattle.protocol.specs.Floor.{Floor, Limits, Place, Record, ackList, at, behead, delete, entered, isAt, isBuffered, isHeld, isLocal, justStarted, kit, limits, limitsOf, mostRecords, multicast, onLines, onTheLines, register, setPlace, setSteady, setTexts, stationOf, unstarted}
-use Rattle.protocol.specs.Events.{Event, Report, accepted, enter, flag, move, radio, refused, send, start, wire}
+use Rattle.protocol.specs.Events.{Event, Report, accepted, bufferAfter, enter, flag, move, radio, refused, send, start, wire}
 use Rattle.protocol.specs.Order.{placeIn}
 use Rattle.protocol.specs.Handoff.{arrive, entryOf, onEnter, onFlag, onRegister, roomOf, rowOf}
 use Rattle.protocol.specs.Wired.{freeRoom, handle, localRow, multicastByRow, onMulticast, onWire}
@@ -20,7 +20,9 @@ use Rattle.protocol.specs.Deregister.{bufferedRooms, inOrder, isComplete
 use Rattle.protocol.specs.Form.{formRule, passesForm}
 use Rattle.protocol.specs.Blank.{BlankBeyond}
 use Rattle.protocol.specs.Refusals.{neverEntered, noCart, noStation, refusal, refusalIf, strangers, wrongSize}
-use Rattle.protocol.specs.Step.{accept, answer, floorAfter, step}
+use Rattle.protocol.specs.Step.{accept, answer, answers, floorAfter, step}
+use Rattle.protocol.specs.Quiet.{AllSteady, IsWork, Works, buffersAfter, dispatched, mostSteps, nextEvent, quietAfter, quietCall, quietEvents, quietFloor, quietSteps, turnedAway, wouldReceive}
+use Rattle.protocol.specs.Potential.{potential}
 use Rattle.protocol.specs.TwoLists.{TwoListRule, bothEmpty, listsAfter, owes}
 use Rattle.protocol.specs.SumRule.{gains, total}
 use Rattle.protocol.specs.Frames.{Fields, fieldsRefusal}
@@ -44,10 +46,14 @@ use Rattle.protocol.proofs.FormTest.{clauses-of, form-of, sized-of}
 use Rattle.protocol.proofs.FormRule.{form-bound, form-kept, form-started}
 use Rattle.protocol.proofs.Ready.{ready-run, ready-unstarted, right-size, started-after, unstarted-fails}
 use Rattle.protocol.proofs.Width.{numbers-below}
-use Rattle.protocol.proofs.ExamplesHold.{rolled-away, table-holds}
+use Rattle.protocol.proofs.ExamplesHold.{closed, rolled-away, table-holds}
 use Rattle.protocol.proofs.InRange.{in-range, step-most}
 use Rattle.protocol.proofs.QueueOrder.{head-first, tested-in-order}
 use Rattle.protocol.proofs.Places.{head-place, place-is-position, places-most}
+use Rattle.protocol.proofs.NextEvent.{FirstLine, LowestCart, Quiet, next-is, quiet-refuses}
+use Rattle.protocol.proofs.QuietRun.{accepted-falls, all-work, no-more, potential-most, steps-bounded, stops}
+use Rattle.protocol.proofs.LiveRun.{floor-after-more, historyAfter, none-owed, quiet-holds, reached-run, reached-start}
+use Rattle.protocol.proofs.QuietCall.{broken-is-5, call-refused, call-runs, else-runs, radio-any-buffer, refused-call-keeps, run-leaves-length, short-is-21, wire-leaves-buffer}
 use Rattle.protocol.proofs.Found.{ack-list-room, delete-room, multicast-room}
 use Rattle.protocol.proofs.Texts.{texts-after}
 
@@ -427,6 +433,144 @@ place-in-queue-order M F t m B h lm e p d q = place-is-position M F (form-of M F
 -- q of any answer is at most the number of rooms
 pub place-in-range : (M : Limits) (F : Floor) (e : Event) (l : Report) → answer M F e ≡ accepted l → l .q ≤ M .held
 place-in-range M F e l a = places-most M F e l a
+
+-- RUN THE FLOOR UNTIL IT IS QUIET
+
+-- "A dispatcher takes the first nonempty line by from, then to": the line that it takes has a record, and no line before it has
+pub takes-first-line : (M : Limits) (F : Floor) (i j : ℕ) → nextEvent M F ≡ some (wire i j)
+    → (isEmpty (F .lines i j) ≡ false) × (((k h : ℕ) → k < i → h < F .stations → F .lines k h ≡ []) × ((h : ℕ) → h < j → F .lines i h ≡ []))
+takes-first-line M F i j n = let z : FirstLine F i j = (let y = next-is M F in rw n at y) in (z .busy, (z .from-lower, z .to-lower))
+
+-- "with all lines empty, the lowest station at which a radio step would be accepted, and the lowest cart there", with a buffer that takes every text
+pub takes-lowest-cart : (M : Limits) (F : Floor) (t c buffer : ℕ) → nextEvent M F ≡ some (radio t c buffer)
+    → ((i j : ℕ) → i < F .stations → j < F .stations → F .lines i j ≡ [])
+    × ((buffer ≡ M .text) × ((wouldReceive M F t c ≡ true)
+    × (((u d : ℕ) → u < t → d < F .carts → wouldReceive M F u d ≡ false) × ((d : ℕ) → d < c → wouldReceive M F t d ≡ false))))
+takes-lowest-cart M F t c buffer n =
+    let z : LowestCart M F t c buffer = (let y = next-is M F in rw n at y) in (z .no-record, (z .longest, (z .receives, (z .at-lower, z .lower))))
+
+-- "until neither exists": it takes nothing only where every line is empty and no radio step would be accepted
+pub takes-nothing : (M : Limits) (F : Floor) → nextEvent M F ≡ none
+    → ((i j : ℕ) → i < F .stations → j < F .stations → F .lines i j ≡ [])
+    × ((t c : ℕ) → t < F .stations → c < F .carts → wouldReceive M F t c ≡ false)
+takes-nothing M F n = let z : Quiet M F = (let y = next-is M F in rw n at y) in (z .no-record, z .no-receipt)
+
+-- "It repeats until neither exists", reached or not: what follows is said of every floor that passes the form rule and has nothing beyond the
+-- limits (`BlankBeyond`), as lent tables of the right lengths have nothing there
+pub quiet-at-last : (M : Limits) (F : Floor) → BlankBeyond M F → passesForm M F ≡ true → nextEvent M (quietFloor M F) ≡ none
+unfolding quietEvents
+quiet-at-last M F B h = stops M (mostSteps M) F B h (potential-most M F B h)
+
+-- "the absence of a further step": no wire or radio event is accepted afterwards, with whatever buffer
+pub no-further-step : (M : Limits) (F : Floor) → BlankBeyond M F → passesForm M F ≡ true → (e : Event) → IsWork e
+    → refusal M (quietFloor M F) e ≡ 0 → ⊥
+no-further-step M F B h e =
+    let X = quietFloor M F in
+    let g = ready-run M F (quietEvents M F) (λ s. (B, h)) (started-after M F (clauses-of M F h .floor .0) (quietEvents M F)) in
+    let Q : Quiet M X = (let y = next-is M X in rw (quiet-at-last M F B h) at y) in
+    quiet-refuses M X e (sized-of M X (g .0) (clauses-of M X (g .1))) (g .1) Q
+
+-- "That count is at most 5,248 = 32 × (16 + 16 + 64 + 64) + 2 × 64": of any k steps that it may take, it takes no more than these
+pub quiet-bound : (M : Limits) (F : Floor) → BlankBeyond M F → passesForm M F ≡ true → (k : ℕ) → length (dispatched M k F) ≤ mostSteps M
+quiet-bound M F B h k = let a = steps-bounded M k F B h in let b = potential-most M F B h in omega arith
+
+pub floor-quiet-bound : (F : Floor) → BlankBeyond limits F → passesForm limits F ≡ true → (k : ℕ) → length (dispatched limits k F) ≤ 5248
+floor-quiet-bound F B h k = quiet-bound limits F B h k
+
+-- the kit: "at most 208 quiet steps"
+pub kit-quiet-bound : (F : Floor) → BlankBeyond (limitsOf kit) F → passesForm (limitsOf kit) F ≡ true → (k : ℕ)
+    → length (dispatched (limitsOf kit) k F) ≤ 208
+kit-quiet-bound F B h k = quiet-bound (limitsOf kit) F B h k
+
+-- "on every floor reached from a start"
+pub reached-quiet-bound : (M : Limits) (F : Floor) (n k : ℕ) (l : Report) → answer M F (start n k) ≡ accepted l → (es : List Event)
+    → (j : ℕ) → length (dispatched M j (floorAfter M (step M F (start n k)) es)) ≤ mostSteps M
+reached-quiet-bound M F n k l a es =
+    let z = form-reached M F n k l a es in quiet-bound M (floorAfter M (step M F (start n k)) es) (z .0) (z .1)
+
+-- the bound is no part of what it does: allowed more steps, it takes the same
+pub quiet-with-more : (M : Limits) (F : Floor) → BlankBeyond M F → passesForm M F ≡ true → (k : ℕ) → mostSteps M ≤ k
+    → dispatched M k F ≡ quietEvents M F
+unfolding quietEvents
+quiet-with-more M F B h k l = no-more M (mostSteps M) k F B h (potential-most M F B h) l
+
+-- why it ends: each accepted wire or radio step leaves less to do, and no floor has more to do than that
+pub work-lowers : (M : Limits) (F : Floor) (e : Event) → BlankBeyond M F → passesForm M F ≡ true → IsWork e → refusal M F e ≡ 0
+    → potential M (step M F e) < potential M F
+work-lowers M F e B h w z = accepted-falls M F e B h z w
+
+pub potential-in-range : (M : Limits) (F : Floor) → BlankBeyond M F → passesForm M F ≡ true → potential M F ≤ mostSteps M
+potential-in-range M F B h = potential-most M F B h
+
+-- "From such a floor, if no entered cart is unsteady, no message is held afterwards"
+pub quiet-holds-none : (M : Limits) (F : Floor) (n k : ℕ) (l : Report) → answer M F (start n k) ≡ accepted l → (es : List Event)
+    → AllSteady (floorAfter M (step M F (start n k)) es)
+    → (m : ℕ) → m < M .held → isHeld (quietFloor M (floorAfter M (step M F (start n k)) es)) m ≡ false
+quiet-holds-none M F n k l a es =
+    from-start (λ X. AllSteady (floorAfter M X es) → (m : ℕ) → m < M .held → isHeld (quietFloor M (floorAfter M X es)) m ≡ false) M F n k l a
+    (λ fit. let X = justStarted n k in
+    let f = ready-run M X es (λ h. form-started M n k fit) (started-after M X refl es) in
+    let R = reached-run M X nothing es (reached-start M n k (fit .stations)) in
+    quiet-holds M (floorAfter M X es) (historyAfter M X nothing es) R (f .0) (f .1))
+
+-- "and, for every station and cart, the sent and received lists are equal": those of the run and the dispatcher's events behind it
+pub quiet-lists-equal : (M : Limits) (F : Floor) (n k : ℕ) (l : Report) → answer M F (start n k) ≡ accepted l → (es : List Event)
+    → AllSteady (floorAfter M (step M F (start n k)) es) → (s c : ℕ) → c < k
+    → listsAfter M (step M F (start n k)) bothEmpty (es ++ quietEvents M (floorAfter M (step M F (start n k)) es)) .sent s c
+    ≡ listsAfter M (step M F (start n k)) bothEmpty (es ++ quietEvents M (floorAfter M (step M F (start n k)) es)) .received s c
+quiet-lists-equal M F n k l a es steady s c lc =
+    let X = step M F (start n k) in
+    let ds = quietEvents M (floorAfter M X es) in
+    let none-held = quiet-holds-none M F n k l a es steady in
+    two-list-rule M F n k l a (es ++ ds) s c lc .equal
+    (ap (λ (Y : Floor). owes M Y s c) (floor-after-more M X es ds) ∙ none-owed M (quietFloor M (floorAfter M X es)) none-held s c)
+
+-- "a text buffer .., written as radio steps write it": a wire step writes nothing
+pub wire-writes-nothing : (M : Limits) (F : Floor) (i j : ℕ) (buffer : List ℕ) → bufferAfter (answer M F (wire i j)) buffer ≡ buffer
+wire-writes-nothing M F i j buffer = wire-leaves-buffer M F i j buffer
+
+-- "Its steps are wire and radio events of demand 3's list", and none of them is refused: so 21 is met before the first step or never
+pub quiet-works : (M : Limits) (F : Floor) → BlankBeyond M F → passesForm M F ≡ true → Works M F (quietEvents M F)
+unfolding quietEvents
+quiet-works M F B h = all-work M (mostSteps M) F B h
+
+-- "and the buffer counts as lent anew to each": lent whole, however long it is, it changes no radio step
+pub longer-buffer-alike : (M : Limits) (F : Floor) (t c size : ℕ) → BlankBeyond M F → passesForm M F ≡ true → M .text ≤ size
+    → (answer M F (radio t c size) ≡ answer M F (radio t c (M .text))) × (step M F (radio t c size) ≡ step M F (radio t c (M .text)))
+unfolding answer step accept
+longer-buffer-alike M F t c size B h l = rw (radio-any-buffer M F t c size B h l) (refl, refl)
+
+-- "Checks: 21 if that buffer is shorter than 32, after 5, before the first step": 5, whatever is lent; then 21, whatever is held
+pub quiet-5-first : (M : Limits) (F : Floor) (buffer : List ℕ) → passesForm M F ≡ false → quietCall M F buffer .answer ≡ turnedAway 5
+quiet-5-first M F buffer h = call-refused M F buffer 5 (omega arith) (broken-is-5 M F (length buffer) h)
+
+pub quiet-21-then : (M : Limits) (F : Floor) (buffer : List ℕ) → passesForm M F ≡ true → length buffer < M .text
+    → quietCall M F buffer .answer ≡ turnedAway 21
+quiet-21-then M F buffer h l = call-refused M F buffer 21 (omega arith) (short-is-21 M F (length buffer) h l)
+
+-- "A refusal gives its number alone and changes no floor", and "no octet of a lent text buffer"
+pub quiet-refusal-changes-nothing : (M : Limits) (F : Floor) (buffer : List ℕ) (r : ℕ) → quietCall M F buffer .answer ≡ turnedAway r
+    → (quietCall M F buffer .floor ≡ F) × (quietCall M F buffer .buffer ≡ buffer)
+quiet-refusal-changes-nothing M F buffer r a = refused-call-keeps M F buffer r a
+
+-- else it runs, "and reports how many steps it took, equal to the steps of its written definition"
+pub quiet-runs : (M : Limits) (F : Floor) (buffer : List ℕ) → passesForm M F ≡ true → M .text ≤ length buffer
+    → (quietCall M F buffer .answer ≡ quietAfter (quietSteps M F))
+    × ((quietCall M F buffer .floor ≡ quietFloor M F) × (quietCall M F buffer .buffer ≡ buffersAfter (answers M F (quietEvents M F)) buffer))
+quiet-runs M F buffer h l = call-runs M F buffer (else-runs M F (length buffer) h l)
+
+-- and leaves the buffer as long as it was lent
+pub quiet-buffer-length : (M : Limits) (F : Floor) (buffer : List ℕ) → BlankBeyond M F → passesForm M F ≡ true → M .text ≤ length buffer
+    → length (quietCall M F buffer .buffer) ≡ length buffer
+quiet-buffer-length M F buffer B h l =
+    rw (quiet-runs M F buffer h l .1 .1) (run-leaves-length M F (quietEvents M F) buffer B h (quiet-works M F B h) l)
+
+-- the cart that rolls away, closed once it has greeted its new station: the rest of that run is the dispatcher's, and the text that was handed over
+-- then is in the buffer
+pub closing-rolls-away : (quietEvents limits (floorAfter limits unstarted (take 8 rollsAway)) ≡ drop 8 rollsAway)
+    × ((quietCall limits (floorAfter limits unstarted (take 8 rollsAway)) (replicate 32 0) .answer ≡ quietAfter 7)
+    × (quietCall limits (floorAfter limits unstarted (take 8 rollsAway)) (replicate 32 0) .buffer ≡ 0xa1 ∷ replicate 31 0))
+closing-rolls-away = closed
 
 -- THE EXAMPLES: "The starred examples are gathered as rows of a single proved table over the written steps"
 pub examples-hold : map (λ r. outcome (r .given)) examples ≡ map (λ r. r .shown) examples

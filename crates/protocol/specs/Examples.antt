@@ -6,12 +6,12 @@ use Prim.Native.Char.{code}
 use Prim.Native.String.{String, [] as endOfText, _∷_ as _then_}
 use lib.Dec.{eqb}
 use lib.ListN.{length, drop, replicate}
-use Rattle.protocol.specs.Folds.{count}
-use Rattle.protocol.specs.Floor.{limits, outside, at, Floor, isHeld, unstarted}
+use Rattle.protocol.specs.Floor.{limits, outside, at, Floor, unstarted}
 use Rattle.protocol.specs.Events.{Event, start, enter, send, wire, radio, move, Answer, refused, accepted}
 use Rattle.protocol.specs.Form.{passesForm}
 use Rattle.protocol.specs.Step.{floorAfter, answers}
 use Rattle.protocol.specs.Printed.{linesFrom, printedRun}
+use Rattle.protocol.specs.Closing.{heldCount}
 
 -- what an example begins with: the octets of frames; a floor written out and the octets of frames; a floor and events, of which the first so
 -- many answers are not shown; a floor and the events that lead from it to the floor that is shown; or a floor alone
@@ -36,7 +36,7 @@ pub record Row : Type 0 where
 
 -- how many messages a floor holds
 abbrev pub heldOn : Floor → ℕ
-heldOn F = count (limits .held) (isHeld F)
+heldOn = heldCount limits
 
 -- what the written steps say of it
 unfoldable pub outcome : Given → Shown
