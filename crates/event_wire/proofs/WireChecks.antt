@@ -1,27 +1,20 @@
 -- THE CHECKS OF A WIRE EVENT, down the table, on the tables of the stations (S) and the lines (W), whatever the other parts (C, M, T) are.
-use mathlib.Core.Path.{_≡_, refl, sym, ap, _∙_}
+use mathlib.Core.Path.{_≡_, refl, sym, _∙_}
 use mathlib.Core.Bool.{true, false}
-use mathlib.Core.List.{List, [], _∷_, map}
+use mathlib.Core.List.{List}
 use Prim.Native.Nat.{ℕ, _+_, _*_, _≤_, _<_}
 use native.Mathlib.Omega.{arith}
-use lib.Dec.{eqb, eqb·suc-zero}
+use lib.Dec.{eqb}
 use lib.ListN.{length}
 use borrow.Author.Tests.{le-leb, lt-leb}
 use Rattle.protocol.specs.Folds.{isEmpty}
-use Rattle.protocol.specs.Floor.{Product, limitsOf, Floor, Record}
+use Rattle.protocol.specs.Floor.{Product, limitsOf, Floor}
 use Rattle.protocol.specs.Events.{wire}
 use Rattle.protocol.specs.Refusals.{refusalIf}
-use Rattle.lines.specs.declared.Record as word
-use Rattle.lines.specs.Lines.{recordsOn, registersIn}
+use Rattle.lines.specs.Lines.{recordsOn}
 use Rattle.stations.specs.View.{headIn}
-use Rattle.view.specs.Records.{recordIn}
 use Rattle.view.specs.View.{lent, floorIn}
-use Rattle.view.proofs.LinesView.{line-in}
-
--- a line of the floor is empty exactly where the line of words is
-empty-in : (rows : ℕ → ℕ → ℕ) (l : List word.Record) → isEmpty (map (recordIn rows) l) ≡ eqb (length l) 0
-empty-in rows [] = refl
-empty-in rows (r ∷ l) = sym (eqb·suc-zero (length l))
+use Rattle.view.proofs.LinesView.{line-empty}
 
 module _ (S W : List ℕ) (i j : ℕ) (P : Product) (C M T : List ℕ) where
   abbrev F : Floor
@@ -41,7 +34,7 @@ module _ (S W : List ℕ) (i j : ℕ) (P : Product) (C M T : List ℕ) where
       line =
           let li : i < 16 = omega arith in
           let lj : j < 16 = omega arith in
-          ap isEmpty (line-in W i j li lj) ∙ empty-in (registersIn W) (recordsOn W (i * 16 + j))
+          line-empty W i j li lj
 
       -- where the code saw that the line is empty, and where it is not
       pub wire-empty : true ≡ eqb (length (recordsOn W (i * 16 + j))) 0 → 15 ≡ refusalIf (limitsOf P) F false (wire i j)

@@ -4,9 +4,10 @@ use mathlib.Core.Bool.{true, false, _&&_}
 use mathlib.Core.List.{List, [], _∷_, _++_, map}
 use Prim.Native.Nat.{ℕ, _+_, _*_, _<_}
 use native.Mathlib.Omega.{arith}
-use lib.Dec.{eqb, ltb}
-use lib.ListN.{drop}
+use lib.Dec.{eqb, eqb·suc-zero, ltb}
+use lib.ListN.{length, drop}
 use borrow.Author.Tests.{ltb-true, lt-ltb}
+use Rattle.protocol.specs.Folds.{isEmpty}
 use Rattle.protocol.specs.Floor.{Record, tail, put, behead, between}
 use Rattle.protocol.proofs.Tests.{by-test, by-lt, and-left, and-right, and-intro, both-equal, both-differ, not-both-equal}
 use Rattle.lines.specs.declared.Record as word
@@ -33,6 +34,14 @@ line-with rows l i j e hi hj = rw (inside i j hi hj) (ap (λ (f : ℕ → ℕ �
 
 pub line-in : (l : List ℕ) (i j : ℕ) → i < 16 → j < 16 → linesIn l i j ≡ map (recordIn (registersIn l)) (recordsOn l (i * 16 + j))
 line-in l i j hi hj = line-with (registersIn l) l i j refl hi hj
+
+-- it is empty exactly where the line of words is
+none-in : (rows : ℕ → ℕ → ℕ) (k : List word.Record) → isEmpty (map (recordIn rows) k) ≡ eqb (length k) 0
+none-in rows [] = refl
+none-in rows (r ∷ k) = sym (eqb·suc-zero (length k))
+
+pub line-empty : (l : List ℕ) (i j : ℕ) → i < 16 → j < 16 → isEmpty (linesIn l i j) ≡ eqb (length (recordsOn l (i * 16 + j))) 0
+line-empty l i j hi hj = ap isEmpty (line-in l i j hi hj) ∙ none-in (registersIn l) (recordsOn l (i * 16 + j))
 
 pub line-beyond : (l : List ℕ) (i j : ℕ) → (i < 16 → j < 16 → ⊥) → linesIn l i j ≡ []
 unfolding linesIn
