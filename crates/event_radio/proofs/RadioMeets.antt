@@ -92,7 +92,7 @@ module _ (L : Lent) (t : ℕ) where
     queue-rooms m h entry = let a = X .lengths .messages in let b = entry-low m h entry in omega arith
 
     -- a queued message is held, so its number and its initiator have room in a key
-    keys : Keyed G t
+    pub keys : Keyed G t
     keys m h entry =
         let F = floorIn L in
         let pos : 0 < F .queue m t = by-lt 0 (F .queue m t) (λ p. p) (λ z. absurd (entry (omega arith))) in

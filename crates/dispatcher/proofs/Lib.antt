@@ -1,0 +1,5 @@
+pub mod BusyLaws
+pub mod Choices
+pub mod StepLaws
+pub mod Going
+pub mod CalledLaws
