@@ -2,14 +2,20 @@
 use mathlib.Core.Path.{_≡_, refl, sym, ap₂, _∙_, subst}
 use mathlib.Core.List.{List, [], _∷_, map}
 use Prim.Native.Nat.{ℕ}
-use Rattle.protocol.specs.Floor.{Product, limitsOf, Floor}
-use Rattle.protocol.specs.Events.{Answer, Report, start, accepted}
-use Rattle.protocol.specs.Step.{floorAfter, answers}
+use native.Mathlib.Omega.{arith}
+use Rattle.protocol.specs.Floor.{Product, Limits, limitsOf, Floor}
+use Rattle.protocol.specs.Events.{Event, Answer, Report, start, accepted}
+use Rattle.protocol.specs.Step.{step, answer, floorAfter, answers}
 use Rattle.protocol.specs.TwoLists.{Lists, bothEmpty, listsStep, listsAfter, owes, TwoListRule}
-use Rattle.protocol.proofs.Theorems.{two-list-rule}
+use Rattle.protocol.specs.Quiet.{quietSteps, quietFloor, quietEvents, mostSteps}
+use Rattle.protocol.proofs.QuietCall.{call-ran}
+use Rattle.protocol.proofs.LiveRun.{floor-after-more}
+use Rattle.protocol.proofs.Theorems.{two-list-rule, form-reached, reached-quiet-bound, quiet-at-last, quiet-holds-none, quiet-lists-equal}
 use Rattle.view.specs.View.{Lent, floorIn}
 use Rattle.event_answers.specs.Met.{Met}
-use Rattle.controller.specs.Run.{Call, Calls, leftBy, listsOf, eventsOf, RunIs}
+use Rattle.dispatcher.specs.declared.Quiet.the-variants.{After}
+use Rattle.dispatcher.specs.Called.{QuietMet}
+use Rattle.controller.specs.Run.{Call, Calls, leftBy, listsOf, eventsOf, RunIs, EndsQuiet}
 
 -- the floor
 pub floor-of-calls : (L : Lent) (ks : List Call) → Calls L ks → floorIn (leftBy L ks) ≡ floorAfter (limitsOf (L .product)) (floorIn L) (eventsOf ks)
@@ -45,3 +51,39 @@ run-is L₀ L n k l begun ks calls =
           subst (λ (m : Lists). TwoListRule (owes (limitsOf (L .product)) (floorAfter (limitsOf (L .product)) (floorIn L) (eventsOf ks)) s c) (m .sent s c) (m .received s c)) (sym (lists-of-calls L bothEmpty ks calls))
           (subst (λ (P : Product). there P (floorIn L)) (sym (begun .product)) (subst (there (L₀ .product)) (sym (begun .floor)) rule));
     }
+
+-- the calls are for one product
+product-of-calls : (L : Lent) (ks : List Call) → Calls L ks → leftBy L ks .product ≡ L .product
+unfolding Calls leftBy
+product-of-calls L [] h = refl
+product-of-calls L (k ∷ ks) h = product-of-calls (k .left) ks (h .1) ∙ h .0 .product
+
+-- CLOSING TIME, of the written floor
+written-end : (M : Limits) (F : Floor) (n k : ℕ) (l : Report) → answer M F (start n k) ≡ accepted l → (es : List Event)
+    → (Q : Floor) → Q ≡ quietFloor M (floorAfter M (step M F (start n k)) es) → (steps : ℕ) → steps ≡ quietSteps M (floorAfter M (step M F (start n k)) es)
+    → EndsQuiet M (step M F (start n k)) k es Q steps
+unfolding quietEvents
+written-end M F n k l a es Q q steps c =
+    let X = step M F (start n k) in
+    let f = form-reached M F n k l a es in
+    record {
+      floor = q ∙ sym (floor-after-more M X es (quietEvents M (floorAfter M X es)));
+      bound = let b = reached-quiet-bound M F n k l a es (mostSteps M) in omega arith;
+      over = rw q (quiet-at-last M (floorAfter M X es) (f .0) (f .1));
+      none-held = λ s m lm. rw q (quiet-holds-none M F n k l a es s m lm);
+      equal = quiet-lists-equal M F n k l a es;
+    }
+
+-- and of calls: a start was accepted, calls followed, and then the floor was run until it is quiet
+pub ends-quiet : (L₀ L : Lent) (n k : ℕ) (l : Report) → Met L₀ L (start n k) (accepted l) → (ks : List Call) → Calls L ks
+    → (L′ : Lent) (buffer buffer′ : List ℕ) (steps : ℕ) → QuietMet (leftBy L ks) L′ buffer buffer′ (After steps)
+    → EndsQuiet (limitsOf (L .product)) (floorIn L) k (eventsOf ks) (floorIn L′) steps
+ends-quiet L₀ L n k l begun ks calls L′ buffer buffer′ steps met =
+    let ran = call-ran (limitsOf (leftBy L ks .product)) (floorIn (leftBy L ks)) buffer steps (sym (met .answers)) in
+    let product = product-of-calls L ks calls ∙ begun .product in
+    let floor = floor-of-calls L ks calls ∙ ap₂ (λ (P : Product) (F : Floor). floorAfter (limitsOf P) F (eventsOf ks)) (begun .product) (begun .floor) in
+    let here = written-end (limitsOf (L₀ .product)) (floorIn L₀) n k l (sym (begun .answers)) (eventsOf ks)
+    (floorIn L′) (met .floor ∙ ran .1 ∙ ap₂ (λ (P : Product) (F : Floor). quietFloor (limitsOf P) F) product floor)
+    steps (ran .0 ∙ ap₂ (λ (P : Product) (F : Floor). quietSteps (limitsOf P) F) product floor) in
+    subst (λ (P : Product). EndsQuiet (limitsOf P) (floorIn L) k (eventsOf ks) (floorIn L′) steps) (sym (begun .product))
+    (subst (λ (X : Floor). EndsQuiet (limitsOf (L₀ .product)) X k (eventsOf ks) (floorIn L′) steps) (sym (begun .floor)) here)

@@ -1,11 +1,14 @@
 -- A RUN OF CALLS: "Each event is handed the floor, lent parts included, as the last one left it, and nobody else writes it."
 use mathlib.Core.Path.{_≡_}
-use mathlib.Core.List.{List, [], _∷_, map}
-use Prim.Native.Nat.{ℕ, _<_}
-use Rattle.protocol.specs.Floor.{limitsOf}
+use mathlib.Core.List.{List, [], _∷_, _++_, map}
+use mathlib.Core.Bool.{false}
+use mathlib.Core.Option.{none}
+use Prim.Native.Nat.{ℕ, _<_, _≤_}
+use Rattle.protocol.specs.Floor.{Limits, Floor, limitsOf, isHeld}
 use Rattle.protocol.specs.Events.{Event, Answer}
 use Rattle.protocol.specs.Step.{floorAfter, answers}
-use Rattle.protocol.specs.TwoLists.{Lists, bothEmpty, listsStep, owes, TwoListRule}
+use Rattle.protocol.specs.TwoLists.{Lists, bothEmpty, listsStep, listsAfter, owes, TwoListRule}
+use Rattle.protocol.specs.Quiet.{AllSteady, mostSteps, nextEvent, quietEvents}
 use Rattle.view.specs.View.{Lent, floorIn}
 use Rattle.event_answers.specs.Met.{Met}
 
@@ -40,3 +43,21 @@ pub record RunIs (L : Lent) (carts : ℕ) (ks : List Call) : Type 0 where
   pub answered : map (λ (k : Call). k .answered) ks ≡ answers (limitsOf (L .product)) (floorIn L) (eventsOf ks)
   pub two-lists : (s c : ℕ) → c < carts
       → TwoListRule (owes (limitsOf (L .product)) (floorAfter (limitsOf (L .product)) (floorIn L) (eventsOf ks)) s c) (listsOf bothEmpty ks .sent s c) (listsOf bothEmpty ks .received s c)
+
+-- the events of a run, and those of the dispatcher behind them
+abbrev pub withQuiet : Limits → Floor → List Event → List Event
+withQuiet M F es = es ++ quietEvents M (floorAfter M F es)
+
+-- CLOSING TIME: behind the events of a run from floor F, of so many carts, the floor was run until it is quiet; that took so many steps and left floor Q. All its
+-- steps are events too, so the two lists are those of both
+pub record EndsQuiet (M : Limits) (F : Floor) (carts : ℕ) (es : List Event) (Q : Floor) (steps : ℕ) : Type 0 where
+  pub floor : Q ≡ floorAfter M F (withQuiet M F es)
+  -- "That count is at most 5,248"
+  pub bound : steps ≤ mostSteps M
+  -- "It repeats until neither exists"
+  pub over : nextEvent M Q ≡ none
+  -- "if no entered cart is unsteady, no message is held afterwards"
+  pub none-held : AllSteady (floorAfter M F es) → (m : ℕ) → m < M .held → isHeld Q m ≡ false
+  -- "and, for every station and cart, the sent and received lists are equal"
+  pub equal : AllSteady (floorAfter M F es) → (s c : ℕ) → c < carts
+      → listsAfter M F bothEmpty (withQuiet M F es) .sent s c ≡ listsAfter M F bothEmpty (withQuiet M F es) .received s c

@@ -1,6 +1,7 @@
 // THE CONTROLLER: the seven events over a floor in lent memory. Each takes any numbers and any lent parts, refuses first, "Checks run down the
 // table; the first that applies is the answer", and leaves exactly the written floor. A contract `Met L L′ e a` says of the lent parts
 // before and after: the answer is the written one, the floor that they say is the written step's, and a refusal changed no word of them.
+use dispatcher::Quiet;
 use event_answers::Answer;
 use ids::CartNumber;
 use ids::Station;
@@ -13,6 +14,7 @@ ghost use Rattle.view.specs.View.{lent, floorIn};
 ghost use Rattle.event_answers.specs.Answers.{answerIn};
 ghost use Rattle.event_answers.specs.Met.{Met};
 ghost use Rattle.event_answers.specs.Delivered.{Delivered};
+ghost use Rattle.dispatcher.specs.Called.{QuietMet};
 
 // The lent floor passes the form rule.
 fn passes(stations: &[u64], carts: &[u64], messages: &[u64], lines: &[u64], texts: &[u8]) -> bool
@@ -183,4 +185,25 @@ pub fn flag_cart(
         return Answer::Refused(5);
     }
     event_carts::flag_cart(stations, carts, messages, lines, texts, cart, steady)
+}
+
+// "Run the floor until it is quiet", with a lent text buffer: 5, "21 if that buffer is shorter than 32, after 5, before the first step", and then all steps
+// that there are to be taken, wires first.
+pub fn quiet(
+    stations: &mut [u64],
+    carts: &mut [u64],
+    messages: &mut [u64],
+    lines: &mut [u64],
+    texts: &[u8],
+    buffer: &mut [u8],
+) -> Quiet
+    ensures { λ a. ⌜ QuietMet (lent wholeFloor (now (stations .entry)) (now (carts .entry)) (now (messages .entry)) (now (lines .entry)) (now (texts .entry))) (lent wholeFloor (now (stations .exit)) (now (carts .exit)) (now (messages .exit)) (now (lines .exit)) (now (texts .entry))) (now (buffer .entry)) (now (buffer .exit)) a ⌝ }
+{
+    if !passes(stations, carts, messages, lines, texts) {
+        return Quiet::Refused(5);
+    }
+    if buffer.len() < products::TEXT {
+        return Quiet::Refused(21);
+    }
+    Quiet::After(dispatcher::run_until_quiet(stations, carts, messages, lines, texts, buffer))
 }

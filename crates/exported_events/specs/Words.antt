@@ -10,6 +10,9 @@ use Rattle.event_answers.specs.declared.Told.{Told}
 use Rattle.event_answers.specs.Answers.{answerIn, toldOf}
 use Rattle.event_answers.specs.Met.{Met}
 use Rattle.event_answers.specs.Delivered.{Delivered}
+use Rattle.dispatcher.specs.declared.Quiet.{Quiet}
+use Rattle.dispatcher.specs.declared.Quiet.the-variants.{Refused, After}
+use Rattle.dispatcher.specs.Called.{QuietMet}
 
 -- the first eight words are these, and the others as they were
 unfoldable pub answerRow : List ℕ → ℕ → ℕ → ℕ → ℕ → ℕ → ℕ → ℕ → ℕ → List ℕ
@@ -35,3 +38,14 @@ pub record AnsweredText (L L′ : Lent) (t c : ℕ) (buffer buffer′ out out′
   pub answered : Answer
   pub delivered : Delivered L L′ t c answered buffer buffer′
   pub words : out′ ≡ answerWords out answered
+
+-- a floor that was run until it is quiet: a refusal's number, or 0, and "how many steps it took", in the first two words
+abbrev pub quietWords : List ℕ → Quiet → List ℕ
+quietWords out (Refused r) = set (set out 0 r) 1 0
+quietWords out (After steps) = set (set out 0 0) 1 steps
+
+-- the call was met with an answer, and the lent words out are then those of this answer, out′
+pub record AnsweredQuiet (L L′ : Lent) (buffer buffer′ out out′ : List ℕ) : Type 0 where
+  pub answered : Quiet
+  pub met : QuietMet L L′ buffer buffer′ answered
+  pub words : out′ ≡ quietWords out answered

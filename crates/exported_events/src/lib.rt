@@ -1,6 +1,7 @@
 // The events under C names, for bench/events, which tries them on damaged floors and measures them. Each does what it calls does, on a floor
 // lent by a program in another language. An answer cannot cross as it is, so each asks for eight words to put it into: this crate is for
 // measuring alone, and asks for them by `requires`. A name with `step` leaves the form test out and asks for a floor that events can go on with.
+use dispatcher::Quiet;
 use event_answers::Answer;
 use ids::CartNumber;
 use ids::Station;
@@ -9,12 +10,12 @@ ghost use mathlib.Core.Bool.{not};
 ghost use mathlib.Core.List.{[]};
 ghost use Prim.Native.Nat.{_≤_};
 ghost use lib.Dec.{eqb};
-ghost use lib.ListN.{length};
+ghost use lib.ListN.{length, set};
 ghost use Rattle.protocol.specs.Floor.{wholeFloor};
 ghost use Rattle.protocol.specs.Events.{start, enter, send, wire, move, flag};
 ghost use Rattle.view.specs.View.{lent};
 ghost use Rattle.event_answers.specs.Met.{Ready};
-ghost use Rattle.exported_events.specs.Words.{answerRow, answerWords, Answered, AnsweredText};
+ghost use Rattle.exported_events.specs.Words.{answerRow, answerWords, quietWords, Answered, AnsweredText, AnsweredQuiet};
 
 // Eight words, at the front of the lent ones.
 fn put_words(
@@ -62,6 +63,28 @@ fn put_answer_words(out: &mut [u64], answer: Answer)
         effect.place,
         told.size as u64,
     );
+}
+
+// Two words, at the front of the lent ones.
+fn put_two(out: &mut [u64], first: u64, second: u64)
+    requires { ⌜ 2 ≤ length (now out) ⌝ }
+    ensures { λ _. ⌜ now (out .exit) ≡ set (set (now (out .entry)) 0 first) 1 second ⌝ }
+    ensures { λ _. ⌜ length (now (out .exit)) ≡ length (now (out .entry)) ⌝ }
+{
+    out[0] = first;
+    out[1] = second;
+}
+
+// The words of a floor that was run until it is quiet: the refusal's number, or 0, and the number of steps.
+fn put_quiet_words(out: &mut [u64], quiet: Quiet)
+    requires { ⌜ 2 ≤ length (now out) ⌝ }
+    ensures { λ _. ⌜ now (out .exit) ≡ quietWords (now (out .entry)) quiet ⌝ }
+    ensures { λ _. ⌜ length (now (out .exit)) ≡ length (now (out .entry)) ⌝ }
+{
+    match quiet {
+        Quiet::Refused(number) => put_two(out, number, 0),
+        Quiet::After(steps) => put_two(out, 0, steps),
+    }
 }
 
 // Start, of so many stations and carts.
@@ -247,6 +270,24 @@ pub extern "C" fn mekhturia_flag(
         steady != 0,
     );
     put_answer_words(out, answer);
+}
+
+// "Run the floor until it is quiet", with a lent text buffer. Two words are enough for its answer.
+#[no_mangle]
+pub extern "C" fn mekhturia_quiet(
+    stations: &mut [u64],
+    carts: &mut [u64],
+    messages: &mut [u64],
+    lines: &mut [u64],
+    texts: &[u8],
+    buffer: &mut [u8],
+    out: &mut [u64],
+)
+    requires { ⌜ 2 ≤ length (now out) ⌝ }
+    ensures { λ _. ⌜ AnsweredQuiet (lent wholeFloor (now (stations .entry)) (now (carts .entry)) (now (messages .entry)) (now (lines .entry)) (now (texts .entry))) (lent wholeFloor (now (stations .exit)) (now (carts .exit)) (now (messages .exit)) (now (lines .exit)) (now (texts .entry))) (now (buffer .entry)) (now (buffer .exit)) (now (out .entry)) (now (out .exit)) ⌝ }
+{
+    let quiet = controller::quiet(stations, carts, messages, lines, texts, buffer);
+    put_quiet_words(out, quiet);
 }
 
 // "Enter (station, cart)", on a floor that events can go on with.

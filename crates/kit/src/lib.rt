@@ -1,5 +1,6 @@
 // THE DEMONSTRATION KIT: the seven events over a small floor in lent memory, "at most 4 stations, 8 carts and 8 held messages". Every step is the floor's own:
 // only the limits are others.
+use dispatcher::Quiet;
 use event_answers::Answer;
 use ids::CartNumber;
 use ids::Station;
@@ -12,6 +13,7 @@ ghost use Rattle.view.specs.View.{lent, floorIn};
 ghost use Rattle.event_answers.specs.Answers.{answerIn};
 ghost use Rattle.event_answers.specs.Met.{Met};
 ghost use Rattle.event_answers.specs.Delivered.{Delivered};
+ghost use Rattle.dispatcher.specs.Called.{QuietMet};
 
 // The lent floor passes the form rule.
 fn passes(stations: &[u64], carts: &[u64], messages: &[u64], lines: &[u64], texts: &[u8]) -> bool
@@ -182,4 +184,25 @@ pub fn flag_cart(
         return Answer::Refused(5);
     }
     event_carts::flag_cart(stations, carts, messages, lines, texts, cart, steady)
+}
+
+// "Run the floor until it is quiet", with a lent text buffer: 5, "21 if that buffer is shorter than 32, after 5, before the first step", and then all steps
+// that there are to be taken, wires first.
+pub fn quiet(
+    stations: &mut [u64],
+    carts: &mut [u64],
+    messages: &mut [u64],
+    lines: &mut [u64],
+    texts: &[u8],
+    buffer: &mut [u8],
+) -> Quiet
+    ensures { λ a. ⌜ QuietMet (lent kit (now (stations .entry)) (now (carts .entry)) (now (messages .entry)) (now (lines .entry)) (now (texts .entry))) (lent kit (now (stations .exit)) (now (carts .exit)) (now (messages .exit)) (now (lines .exit)) (now (texts .entry))) (now (buffer .entry)) (now (buffer .exit)) a ⌝ }
+{
+    if !passes(stations, carts, messages, lines, texts) {
+        return Quiet::Refused(5);
+    }
+    if buffer.len() < products::TEXT {
+        return Quiet::Refused(21);
+    }
+    Quiet::After(dispatcher::run_until_quiet(stations, carts, messages, lines, texts, buffer))
 }
