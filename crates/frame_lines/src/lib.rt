@@ -271,7 +271,7 @@ fn put_field(out: &mut [u8], at: usize, n: u64) -> usize
 }
 
 // Two of them, and nothing behind them changes. Most often both have one digit: then one word holds blank, digit, blank and digit.
-fn put_two_fields(out: &mut [u8], at: usize, x: u64, y: u64) -> usize
+pub fn put_two_fields(out: &mut [u8], at: usize, x: u64, y: u64) -> usize
     requires { ⌜ at + longestPair ≤ length (now out) ⌝ }
     ensures { λ r. ⌜ Wrote longestPair (field x ++ field y) (now (out .entry)) (now (out .exit)) at r ⌝ }
 {

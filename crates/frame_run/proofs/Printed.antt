@@ -86,7 +86,7 @@ module _ (M : Limits) (F G : Floor) (U : Unstarted F) (U′ : Unstarted G) where
       ∙ sym (ap (λ (b : Bool). cond b (accepted (accept M G e .report)) (refused (refusal M G e))) g))
 
   -- and are the same floor afterwards, or both as they were
-  steps-alike : (e : Event) → (step M F e ≡ step M G e) ⊎ ((step M F e ≡ F) × (step M G e ≡ G))
+  pub steps-alike : (e : Event) → (step M F e ≡ step M G e) ⊎ ((step M F e ≡ F) × (step M G e ≡ G))
   unfolding step accept
   steps-alike e =
       by-eq (first-refusal M e) 0

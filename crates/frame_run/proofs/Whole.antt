@@ -25,7 +25,7 @@ use Rattle.frame_run.specs.Went.{NoneWhole, EndsRun, Went}
 use Rattle.frame_run.proofs.Pieces.{prints, behind}
 
 -- a frame that is taken has sixteen octets at least, and they are there
-taken-front : (l : List ℕ) (e : Event) (size : ℕ) → frameOf limits l ≡ taken e size → (16 ≤ size) × (size ≤ length l)
+pub taken-front : (l : List ℕ) (e : Event) (size : ℕ) → frameOf limits l ≡ taken e size → (16 ≤ size) × (size ≤ length l)
 unfolding readAt
 taken-front l e size q =
     let inside = taken-inside l 0 e size q in (

@@ -20,7 +20,7 @@ module _ (S C M W T : List ℕ) (s : (length S ≡ 1972) × (headIn S .mark ≡ 
   lengths : lengthsIn (lent wholeFloor S C M W T) ≡ true
   lengths = lengths-right (lent wholeFloor S C M W T) (record { stations = s .0; carts = c; messages = m; lines = w; texts = t })
 
-  fresh : Unstarted (floorIn (lent wholeFloor S C M W T))
+  pub fresh : Unstarted (floorIn (lent wholeFloor S C M W T))
   fresh = record { fresh = ne-eqb (headIn S .mark) 1 (λ z. let y = s .1 in omega arith); lengths = lengths }
 
   pub fresh-ready : CanRun (lent wholeFloor S C M W T)

@@ -3,17 +3,20 @@ use mathlib.Core.Path.{_≡_, refl, sym, ap, _∙_, subst}
 use mathlib.Core.Bool.{Bool, true, false, not, _&&_}
 use mathlib.Core.List.{List, [], _∷_, _++_}
 use mathlib.Core.Logic.{inl, inr}
-use Prim.Native.Nat.{ℕ, _+_, _<_, _≤_}
+use Prim.Native.Nat.{ℕ, _+_, _-_, _<_, _≤_}
 use native.Mathlib.Omega.{arith}
 use lib.Dec.{eqb, ltb}
 use lib.ListN.{length, length-append}
 use borrow.Author.Tests.{eqb-true, eqb-false, ltb-true, ltb-false, not-true, eq-eqb, ne-eqb, lt-ltb, le-ltb}
 use Rattle.protocol.specs.Floor.{Floor}
 use Rattle.protocol.proofs.Tests.{by-test, and-left, and-right, clash}
+use Rattle.view.specs.View.{Lent, floorIn}
+use Rattle.frame_run.specs.CanRun.{CanRun}
 use Rattle.frame_stream.specs.declared.Feed.{Feed}
 use Rattle.frame_stream.specs.declared.Ending.{Ending}
 use Rattle.frame_stream.specs.Stream.{Stream, begin, Turn, after, May, Turns, streamAfter}
-use Rattle.frame_stream.specs.Feed.{Made, Finished}
+use Rattle.frame_stream.specs.Feed.{Inside, streamOf, Made, Finished, RanAll}
+use Rattle.frame_stream.proofs.Feeds.{part-length}
 
 -- one turn more
 after-more : (S : Stream) (ts : List Turn) (m : Turn) → streamAfter S (ts ++ (m ∷ [])) ≡ after (streamAfter S ts) m
@@ -76,14 +79,15 @@ goes turns f b e t =
     by-zero k n = omega arith
 
 -- and where it stops
-pub finished : (F : Floor) (S : Stream) (turns : ℕ) (f : Feed) (r : Ending) (b : Bool) → Came F S turns → S .index ≡ f .index → S .state ≡ f .state
-    → r ≡ record { frames = f .index; state = f .state } → b ≡ going turns f → b ≡ false → Finished F r
-finished F S turns f r b k index state q e none =
+finished : (F : Floor) (S : Stream) (turns : ℕ) (f : Feed) (r : Ending) (b : Bool) → Came F S turns → S .index ≡ f .index → S .state ≡ f .state
+    → length (S .left) ≡ f .have - f .at → r ≡ record { frames = f .index; state = f .state; left = f .have - f .at } → b ≡ going turns f → b ≡ false → Finished F r
+finished F S turns f r b k index state left q e none =
     record {
       turns = k .turns;
       made = k .made;
       frames = ap (λ (o : Ending). o .frames) q ∙ sym index ∙ ap (λ (X : Stream). X .index) (k .there);
       state = ap (λ (o : Ending). o .state) q ∙ sym state ∙ ap (λ (X : Stream). X .state) (k .there);
+      left = ap (λ (o : Ending). o .left) q ∙ sym left ∙ ap (λ (X : Stream). length (X .left)) (k .there);
       stopped = by-test (ltb (f .state) 2)
           (λ low. by-test (ltb (f .index) 9223372036854775808)
           (λ few. by-test (eqb turns 0)
@@ -91,4 +95,16 @@ finished F S turns f r b k index state q e none =
           (λ some. clash (going turns f) (let all : going turns f ≡ true = rw (some, few, low) refl in all) (sym e ∙ none)))
           (λ many. inr (inl (let m = ltb-false (f .index) 9223372036854775808 many in let w = ap (λ (o : Ending). o .frames) q in omega arith))))
           (λ high. inl (let m = ltb-false (f .state) 2 high in let w = ap (λ (o : Ending). o .state) q in omega arith));
+    }
+
+-- with the floor that the lent parts then say
+pub ran-all : (L L′ : Lent) (input : List ℕ) (turns : ℕ) (f : Feed) (r : Ending) (b : Bool) → CanRun L′ → Inside (length input) f
+    → Came (floorIn L) (streamOf input L′ f) turns → r ≡ record { frames = f .index; state = f .state; left = f .have - f .at } → b ≡ going turns f → b ≡ false
+    → RanAll L L′ r
+unfolding finished
+ran-all L L′ input turns f r b ready inside k q e none =
+    record {
+      finished = finished (floorIn L) (streamOf input L′ f) turns f r b k refl refl (part-length input f inside) q e none;
+      ready = ready;
+      floor = ap (λ (X : Stream). X .floor) (k .there);
     }

@@ -59,13 +59,13 @@ over-at-refusal last (refusedFrame r) h = tt
 over-at-refusal last (taken e size) h = absurd h
 
 -- THE RUN SO FAR, over an input of which W is all and `later` has not been read yet: H is what it printed
-record SoFar (F : Floor) (W H : List ℕ) (S : Stream) (later : List ℕ) : Type 0 where
-  count : runFrom (S .index) F 0 W .count ≡ S .index
-  printed : runFrom (S .index) F 0 W .printed ≡ H
-  floor : runFrom (S .index) F 0 W .floor ≡ S .floor
-  rest : drop (runFrom (S .index) F 0 W .octets) W ≡ S .left ++ later
-  goes : S .state < 2 → runFrom (S .index) F 0 W .ended ≡ false
-  over : S .state ≡ 2 → (runFrom (S .index) F 0 W .ended ≡ true) ⊎ (readAt limits W (runFrom (S .index) F 0 W .octets) ≡ end)
+pub record SoFar (F : Floor) (W H : List ℕ) (S : Stream) (later : List ℕ) : Type 0 where
+  pub count : runFrom (S .index) F 0 W .count ≡ S .index
+  pub printed : runFrom (S .index) F 0 W .printed ≡ H
+  pub floor : runFrom (S .index) F 0 W .floor ≡ S .floor
+  pub rest : drop (runFrom (S .index) F 0 W .octets) W ≡ S .left ++ later
+  pub goes : S .state < 2 → runFrom (S .index) F 0 W .ended ≡ false
+  pub over : S .state ≡ 2 → (runFrom (S .index) F 0 W .ended ≡ true) ⊎ (readAt limits W (runFrom (S .index) F 0 W .octets) ≡ end)
 
 -- the same, over every input that begins with B, what the turns brought
 record Holds (F : Floor) (B H : List ℕ) (S : Stream) : Type 0 where
@@ -205,6 +205,13 @@ holds-after F B H S (m ∷ ts) h made =
     subst (λ (x : List ℕ). Holds F (B ++ (broughtIn m ++ broughtBy ts)) x (streamAfter S′ ts)) (append-assoc H (handed S m) (handedBy S′ ts))
     (subst (λ (y : List ℕ). Holds F y ((H ++ handed S m) ++ handedBy S′ ts) (streamAfter S′ ts)) (append-assoc B (broughtIn m) (broughtBy ts)) rest)
 
+all-hold : (F : Floor) (ts : List Turn) → Turns (begin F) ts → Holds F (broughtBy ts) (handedBy (begin F) ts) (streamAfter (begin F) ts)
+all-hold F ts made = holds-after F [] [] (begin F) ts (holds-first F) made
+
+pub so-far : (F : Floor) (ts : List Turn) → Turns (begin F) ts → (later : List ℕ) → Behind (streamAfter (begin F) ts) later
+    → SoFar F (broughtBy ts ++ later) (handedBy (begin F) ts) (streamAfter (begin F) ts) later
+so-far F ts made = all-hold F ts made .run
+
 -- THE CLAIM
 pub stream-is : (F : Floor) → Unstarted F → (ts : List Turn) → Turns (begin F) ts → StreamIs F ts
 stream-is F U ts made =
@@ -224,4 +231,4 @@ stream-is F U ts made =
     S = streamAfter (begin F) ts
 
     h : Holds F (broughtBy ts) (handedBy (begin F) ts) S
-    h = holds-after F [] [] (begin F) ts (holds-first F) made
+    h = all-hold F ts made

@@ -11,7 +11,7 @@ use Rattle.io.specs.Counts.{clamped}
 use Rattle.protocol.specs.Floor.{Floor}
 use Rattle.view.specs.View.{Lent, floorIn}
 use Rattle.frame_run.specs.declared.Progress.{Progress}
-use Rattle.frame_run.specs.CanRun.{Unstarted}
+use Rattle.frame_run.specs.CanRun.{CanRun, Unstarted}
 use Rattle.frame_stream.specs.declared.Feed.{Feed}
 use Rattle.frame_stream.specs.declared.Got.{Got}
 use Rattle.frame_stream.specs.declared.Handed.{Handed}
@@ -62,7 +62,14 @@ pub record Finished (F : Floor) (r : Ending) : Type 0 where
   pub made : Turns (begin F) turns
   pub frames : r .frames ≡ streamAfter (begin F) turns .index
   pub state : r .state ≡ streamAfter (begin F) turns .state
+  pub left : r .left ≡ length (streamAfter (begin F) turns .left)
   pub stopped : (2 ≤ r .state) ⊎ ((9223372036854775808 ≤ r .frames) ⊎ (length turns ≡ 18446744073709551615))
+
+-- the same over lent parts: they were L, and L′ says the floor after the last turn, with which a run could go on
+pub record RanAll (L L′ : Lent) (r : Ending) : Type 0 where
+  pub finished : Finished (floorIn L) r
+  pub ready : CanRun L′
+  pub floor : floorIn L′ ≡ streamAfter (begin (floorIn L)) (finished .turns) .floor
 
 -- and it prints the printed run
 pub record Streamed (r : Ending) : Type 0 where

@@ -12,9 +12,9 @@ ghost use Rattle.stations.specs.View.{headIn};
 ghost use Rattle.frame_lines.specs.Lines.{Tabled};
 ghost use Rattle.protocol.specs.Floor.{wholeFloor};
 ghost use Rattle.frame_run.specs.CanRun.{CanRun};
-ghost use Rattle.view.specs.View.{Lent, lent, floorIn};
+ghost use Rattle.view.specs.View.{Lent, lent};
 ghost use Rattle.frame_stream.specs.Stream.{stateAfter};
-ghost use Rattle.frame_stream.specs.Feed.{Inside, streamOf, Made, gotOf, afterRead, afterRun, Finished, Streamed};
+ghost use Rattle.frame_stream.specs.Feed.{Inside, streamOf, Made, gotOf, afterRead, afterRun, RanAll, Streamed};
 
 // The piece of input: the octets up to `at` were run, those up to `have` were read. The index of the next frame; what is to be done; whether the
 // input has ended; and how many octets of the output were handed on in the last turn.
@@ -43,38 +43,38 @@ pub const FAILED: u64 = 3;
 const FRAMES: u64 = 9223372036854775808;
 
 // The lent parts of a floor that is not started.
-fn no_stations() -> [u64; 1972]
+pub fn no_stations() -> [u64; 1972]
     ensures { λ r. ⌜ (length r ≡ 1972) × (headIn r .mark ≡ 0) ⌝ }
 {
     [0; 1972]
 }
 
-fn no_carts() -> [u64; 1216]
+pub fn no_carts() -> [u64; 1216]
     ensures { λ r. ⌜ length r ≡ 1216 ⌝ }
 {
     [0; 1216]
 }
 
-fn no_messages() -> [u64; 192]
+pub fn no_messages() -> [u64; 192]
     ensures { λ r. ⌜ length r ≡ 192 ⌝ }
 {
     [0; 192]
 }
 
-fn no_lines() -> [u64; 11250]
+pub fn no_lines() -> [u64; 11250]
     ensures { λ r. ⌜ length r ≡ 11250 ⌝ }
 {
     [0; 11250]
 }
 
-fn no_texts() -> [u8; 1024]
+pub fn no_texts() -> [u8; 1024]
     ensures { λ r. ⌜ length r ≡ 1024 ⌝ }
 {
     [0; 1024]
 }
 
 // The table of numbers, spelled once for the whole run.
-fn all_numbers() -> [u64; 10000]
+pub fn all_numbers() -> [u64; 10000]
     ensures { λ r. ⌜ Tabled r ⌝ }
 {
     let mut numbers = [0u64; 10000];
@@ -148,13 +148,13 @@ fn more(from: i32, input: &mut [u8], f: Feed) -> Feed
 }
 
 // The lines that were handed on to be written: how many octets, and whether all of them were taken.
-struct Handed {
-    size: usize,
-    accepted: bool,
+pub struct Handed {
+    pub size: usize,
+    pub accepted: bool,
 }
 
 // One write of all the lines.
-fn hand_on(to: i32, lines: &[u8]) -> Handed
+pub fn hand_on(to: i32, lines: &[u8]) -> Handed
     ensures { λ r. ⌜ r .size ≡ length (now (lines .entry)) ⌝ }
 {
     let accepted = io::write_all(to, lines);
@@ -289,14 +289,16 @@ fn goes_on(turns: u64, f: Feed) -> bool
     f.state < OVER
 }
 
-// How a run came out: how many frames there were, the refused one among them, and whether it is `OVER` or `FAILED`.
+// How a run came out: how many frames there were, the refused one among them, whether it is `OVER` or `FAILED`, and how many octets were read and
+// not run. An `OVER` run has none left at the end of its input, and some where a frame was refused.
 pub struct Ending {
     pub frames: u64,
     pub state: u64,
+    pub left: usize,
 }
 
-// All of the input.
-fn run_all(
+// All of the input, over a floor that the caller lends, and that is left as the last event left it.
+pub fn run_all(
     from: i32,
     to: i32,
     input: &mut [u8],
@@ -309,7 +311,7 @@ fn run_all(
     numbers: &[u64],
 ) -> Ending
     requires { ⌜ CanRun (lent wholeFloor (now stations) (now carts) (now messages) (now lines) (now texts)) × Tabled (now numbers) × (length (now input) ≡ 65536) × (length (now output) ≡ 65536) ⌝ }
-    ensures { λ r. ⌜ Finished (floorIn (lent wholeFloor (now (stations .entry)) (now (carts .entry)) (now (messages .entry)) (now (lines .entry)) (now (texts .entry)))) r ⌝ }
+    ensures { λ r. ⌜ RanAll (lent wholeFloor (now (stations .entry)) (now (carts .entry)) (now (messages .entry)) (now (lines .entry)) (now (texts .entry))) (lent wholeFloor (now (stations .exit)) (now (carts .exit)) (now (messages .exit)) (now (lines .exit)) (now (texts .exit))) r ⌝ }
 {
     let mut f = Feed {
         at: 0,
@@ -336,9 +338,11 @@ fn run_all(
             f,
         );
     }
+    let left = f.have - f.at;
     Ending {
         frames: f.index,
         state: f.state,
+        left,
     }
 }
 

@@ -69,7 +69,7 @@ returns c =
     let m = c .before .before .before .before .before .before .before .before .before .before .before .before .before .before .before .before .before .before .before .no-messages in
     let w = c .before .before .before .before .before .before .before .before .before .before .before .before .before .before .before .before .before .before .no-lines in
     let t = c .before .before .before .before .before .before .before .before .before .before .before .before .before .before .before .before .before .no-texts in
-    streamed (s .result) (k .result) (m .result) (w .result) (t .result) (s .ensures) (k .ensures) (m .ensures) (w .ensures) (t .ensures) (c .before .before .before .before .before .before .before .run-all .result) (c .before .before .before .before .before .before .before .run-all .ensures)
+    streamed (s .result) (k .result) (m .result) (w .result) (t .result) (s .ensures) (k .ensures) (m .ensures) (w .ensures) (t .ensures) (c .before .before .before .before .before .before .before .run-all .result) (c .before .before .before .before .before .before .before .run-all .ensures .finished)
 
 pub run-spec : {M : Type 1} → statement M
 run-spec =

@@ -10,7 +10,7 @@ use Rattle.view.specs.View.{lent, floorIn}
 use Rattle.frame_run.specs.CanRun.{CanRun}
 use Rattle.frame_run.proofs.Loop.{same-stations, same-carts, same-messages, same-lines, same-texts}
 use Rattle.frame_stream.specs.Feed.{Inside, streamOf}
-use Rattle.frame_stream.proofs.Loop.{Came, came-first, came-next, goes, finished}
+use Rattle.frame_stream.proofs.Loop.{Came, came-first, came-next, goes, ran-all}
 use Rattle.frame_stream.proofs.run_all.Statement.{statement}
 use Rattle.frame_stream.proofs.run_all.Tie as tie
 
@@ -54,46 +54,49 @@ loop-again c =
     let t = c .before .before .before .before .before .before .before .before .before .before .before .before .before .before .turn .ensures in
     (t .0 .0, t .0 .1, t .1 .1 .0 ∙ i .2, t .1 .1 .1 ∙ i .3, came-next _ _ _ _ (l .turns) _ (i .4) (t .1 .0) (omega (arith, g .0)))
 
+sub-left : tie.Need-sub-left Inv-loop μ-loop
+sub-left c = omega (arith, c .before .before .before .loop .inv .1 .run)
+
 same-length : tie.Need-same-length Inv-loop μ-loop
-same-length c = c .before .before .loop .inv .2 ∙ sym (c .before .before .before .before .before .before .before .before .before .before .before .pre .2)
+same-length c = c .before .before .before .loop .inv .2 ∙ sym (c .before .before .before .before .before .before .before .before .before .before .before .before .pre .2)
 
 same-length-2 : tie.Need-same-length-2 Inv-loop μ-loop
-same-length-2 c = c .before .before .loop .inv .3 ∙ sym (c .before .before .before .before .before .before .before .before .before .before .before .pre .3)
+same-length-2 c = c .before .before .before .loop .inv .3 ∙ sym (c .before .before .before .before .before .before .before .before .before .before .before .before .pre .3)
 
 same-length-3 : tie.Need-same-length-3 Inv-loop μ-loop
 same-length-3 c =
-    let s = c .before .before .before .before .before .before .before .before .before .before .before in
+    let s = c .before .before .before .before .before .before .before .before .before .before .before .before in
     let a = s .args in
-    same-stations (lent wholeFloor (now (a .stations)) (now (a .carts)) (now (a .messages)) (now (a .lines)) (now (a .texts))) _ (s .pre .0) (c .before .before .loop .inv .0)
+    same-stations (lent wholeFloor (now (a .stations)) (now (a .carts)) (now (a .messages)) (now (a .lines)) (now (a .texts))) _ (s .pre .0) (c .before .before .before .loop .inv .0)
 
 same-length-4 : tie.Need-same-length-4 Inv-loop μ-loop
 same-length-4 c =
-    let s = c .before .before .before .before .before .before .before .before .before .before .before in
+    let s = c .before .before .before .before .before .before .before .before .before .before .before .before in
     let a = s .args in
-    same-carts (lent wholeFloor (now (a .stations)) (now (a .carts)) (now (a .messages)) (now (a .lines)) (now (a .texts))) _ (s .pre .0) (c .before .before .loop .inv .0)
+    same-carts (lent wholeFloor (now (a .stations)) (now (a .carts)) (now (a .messages)) (now (a .lines)) (now (a .texts))) _ (s .pre .0) (c .before .before .before .loop .inv .0)
 
 same-length-5 : tie.Need-same-length-5 Inv-loop μ-loop
 same-length-5 c =
-    let s = c .before .before .before .before .before .before .before .before .before .before .before in
+    let s = c .before .before .before .before .before .before .before .before .before .before .before .before in
     let a = s .args in
-    same-messages (lent wholeFloor (now (a .stations)) (now (a .carts)) (now (a .messages)) (now (a .lines)) (now (a .texts))) _ (s .pre .0) (c .before .before .loop .inv .0)
+    same-messages (lent wholeFloor (now (a .stations)) (now (a .carts)) (now (a .messages)) (now (a .lines)) (now (a .texts))) _ (s .pre .0) (c .before .before .before .loop .inv .0)
 
 same-length-6 : tie.Need-same-length-6 Inv-loop μ-loop
 same-length-6 c =
-    let s = c .before .before .before .before .before .before .before .before .before .before .before in
+    let s = c .before .before .before .before .before .before .before .before .before .before .before .before in
     let a = s .args in
-    same-lines (lent wholeFloor (now (a .stations)) (now (a .carts)) (now (a .messages)) (now (a .lines)) (now (a .texts))) _ (s .pre .0) (c .before .before .loop .inv .0)
+    same-lines (lent wholeFloor (now (a .stations)) (now (a .carts)) (now (a .messages)) (now (a .lines)) (now (a .texts))) _ (s .pre .0) (c .before .before .before .loop .inv .0)
 
 same-length-7 : tie.Need-same-length-7 Inv-loop μ-loop
 same-length-7 c =
-    let s = c .before .before .before .before .before .before .before .before .before .before .before in
+    let s = c .before .before .before .before .before .before .before .before .before .before .before .before in
     let a = s .args in
-    same-texts (lent wholeFloor (now (a .stations)) (now (a .carts)) (now (a .messages)) (now (a .lines)) (now (a .texts))) _ (s .pre .0) (c .before .before .loop .inv .0)
+    same-texts (lent wholeFloor (now (a .stations)) (now (a .carts)) (now (a .messages)) (now (a .lines)) (now (a .texts))) _ (s .pre .0) (c .before .before .before .loop .inv .0)
 
 returns : tie.Need-returns Inv-loop μ-loop
 returns c =
-    let l = c .before .before .loop in
-    finished _ _ (l .turns) (l .f) _ _ (l .inv .4) refl refl refl (c .before .goes-on .ensures) (c .if1 .left)
+    let l = c .before .before .before .loop in
+    ran-all _ _ (l .input) (l .turns) (l .f) _ _ (l .inv .0) (l .inv .1) (l .inv .4) refl (c .before .before .goes-on .ensures) (c .before .if1 .left)
 
 pub run-all-spec : {M : Type 1} → statement M
 run-all-spec =
@@ -107,6 +110,7 @@ run-all-spec =
     turn-requires
     loop-less
     loop-again
+    sub-left
     same-length
     same-length-2
     same-length-3
