@@ -89,7 +89,7 @@ impl Behind {
         let mut out = [0; WORDS];
         let floor = &mut self.floor;
         match *event {
-            Event::Start(..) => out = event::apply(floor, event, buffer),
+            Event::Start(..) | Event::Quiet => out = event::apply(floor, event, buffer),
             Event::Enter(t, c) => call!((self.enter), floor, out, t, c),
             Event::Send(s, set, ref text) => {
                 call!((self.send), floor, out, s, set, text.as_ptr(), text.len())

@@ -67,7 +67,7 @@ fn receiver(numbers: &mut Numbers, floor: &Floor) -> Option<Event> {
 pub fn event(numbers: &mut Numbers, floor: Option<&Floor>, n: u64, k: u64) -> Event {
     let kind = match floor {
         None if numbers.below(5) == 0 => 0,
-        _ => [0, 1, 1, 2, 2, 2, 3, 3, 3, 3, 3, 4, 4, 4, 5, 5, 6][numbers.below(17) as usize],
+        _ => [0, 1, 1, 2, 2, 2, 3, 3, 3, 3, 3, 4, 4, 4, 5, 5, 6, 7][numbers.below(18) as usize],
     };
     if let (Some(floor), true) = (floor, numbers.below(4) > 0) {
         let sensible = match kind {
@@ -87,6 +87,7 @@ pub fn event(numbers: &mut Numbers, floor: Option<&Floor>, n: u64, k: u64) -> Ev
         3 => Event::Wire(near(numbers, n), near(numbers, n)),
         4 => Event::Radio(near(numbers, n), near(numbers, k)),
         5 => Event::Move(near(numbers, k), near(numbers, n)),
-        _ => Event::Flag(near(numbers, k), numbers.below(2) == 0),
+        6 => Event::Flag(near(numbers, k), numbers.below(2) == 0),
+        _ => Event::Quiet,
     }
 }

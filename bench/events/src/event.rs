@@ -1,4 +1,4 @@
-//! Events with any numbers, and what the plain floor answers to them.
+//! Events with any numbers, with them the call that runs the floor until it is quiet, and what the plain floor answers to them.
 
 use crate::proved::{Said, WORDS};
 use plain::words::Words;
@@ -15,10 +15,11 @@ pub enum Event {
     Radio(u64, u64),
     Move(u64, u64),
     Flag(u64, bool),
+    Quiet,
 }
 
-/// The kinds in the order of their numbers.
-pub const KINDS: [&str; 7] = ["start", "enter", "send", "wire", "radio", "move", "flag"];
+/// The kinds in the order of their numbers. No frame has the last.
+pub const KINDS: [&str; 8] = ["start", "enter", "send", "wire", "radio", "move", "flag", "quiet"];
 
 impl Event {
     pub fn kind(&self) -> usize {
@@ -30,6 +31,15 @@ impl Event {
             Event::Radio(..) => 4,
             Event::Move(..) => 5,
             Event::Flag(..) => 6,
+            Event::Quiet => 7,
+        }
+    }
+
+    /// How many words its answer has.
+    pub fn words(&self) -> usize {
+        match self {
+            Event::Quiet => 2,
+            _ => WORDS,
         }
     }
 }
@@ -62,6 +72,14 @@ pub fn said(kind: u64, answer: Result<(Step, usize), Refusal>) -> Said {
     }
 }
 
+/// The refusal, or 0 and the number of steps.
+fn quiet_said(answer: Result<u32, Refusal>) -> Said {
+    match answer {
+        Err(refusal) => refused(refusal.number() as u64),
+        Ok(steps) => [0, steps as u64, 0, 0, 0, 0, 0, 0],
+    }
+}
+
 /// The event on the plain floor.
 #[inline(always)]
 pub fn apply(floor: &mut Floor, event: &Event, buffer: &mut [u8]) -> Said {
@@ -73,6 +91,7 @@ pub fn apply(floor: &mut Floor, event: &Event, buffer: &mut [u8]) -> Said {
         Event::Radio(t, c) => return said(4, floor.radio(station(t), cart(c), buffer)),
         Event::Move(c, to) => (5, floor.move_cart(cart(c), station(to))),
         Event::Flag(c, steady) => (6, floor.set_steady(cart(c), steady)),
+        Event::Quiet => return quiet_said(floor.quiet(buffer)),
     };
     said(kind, answer.map(|step| (step, 0)))
 }

@@ -10,6 +10,8 @@ mod damage;
 mod event;
 mod proved;
 mod reach;
+#[cfg(test)]
+mod stored;
 mod timing;
 mod trials;
 

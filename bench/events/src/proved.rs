@@ -3,7 +3,7 @@
 use crate::event::Event;
 use plain::words::Words;
 
-/// Words for an answer: the refusal or 0, kind, a, b, p, w, q, and how many octets of text.
+/// Words for an answer: the refusal or 0, kind, a, b, p, w, q, and how many octets of text. Quiet has two: the refusal or 0, and the steps.
 pub const WORDS: usize = 8;
 pub type Said = [u64; WORDS];
 
@@ -37,6 +37,7 @@ linked! {
     mekhturia_radio, mekhturia_step_radio => (station: u64, cart: u64, buffer: *mut u8, size: usize);
     mekhturia_move, mekhturia_step_move => (cart: u64, to: u64);
     mekhturia_flag, mekhturia_step_flag => (cart: u64, steady: u64);
+    mekhturia_quiet => (buffer: *mut u8, size: usize);
 }
 
 /// Lends the floor's parts, then what the event has, then the words for the answer.
@@ -70,6 +71,9 @@ macro_rules! call_one {
             }
             Event::Move(c, to) => call!($move, $w, $out, c, to),
             Event::Flag(c, steady) => call!($flag, $w, $out, c, steady as u64),
+            Event::Quiet => {
+                call!(mekhturia_quiet, $w, $out, $buffer.as_mut_ptr(), $buffer.len())
+            }
         }
     }};
 }
@@ -86,7 +90,7 @@ pub fn call(w: &mut Words, event: &Event, buffer: &mut [u8], out: &mut [u64]) {
     }
 }
 
-/// An event without the form test; start has none.
+/// An event without the form test; start has none, and quiet has its own.
 ///
 /// # Safety
 /// The floor passes the form rule, and a text has at most 32 octets.

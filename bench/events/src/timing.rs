@@ -1,5 +1,6 @@
 //! Times of the events beside the plain floor's, on a floor of 16 stations and 64 carts, in turns in one run. The events come in cycles that
-//! leave the floor as it was, but for the numbers: hand-offs of all carts, or sixteen messages from their send to their last delete.
+//! leave the floor as it was, but for the numbers: hand-offs of all carts, or sixteen messages from their send to their last delete. A call that
+//! runs a full floor until it is quiet is measured by its steps.
 
 use crate::behind::Behind;
 use crate::event::{self, Event};
@@ -10,11 +11,13 @@ use shared::numbers::Numbers;
 use std::hint::black_box;
 use std::time::Instant;
 
-/// Rounds of each cycle; the numbers rise by one in each.
+/// Rounds of each cycle; the numbers rise by one in each, and by 32 where a round fills the floor: there are 65,535.
 const ROUNDS: usize = 2_000;
 /// Messages that stay on the floor all the time; the carts they name are all at one station, which the cycle of messages leaves alone.
 const STAY: u64 = 8;
 const BLOCKED: u64 = 15;
+/// The most steps that a run is known to leave until the floor is quiet.
+const STEPS: u64 = 3_712;
 
 /// Events of one sort, measured together.
 struct Batch {
@@ -107,14 +110,21 @@ fn accept(floor: &mut Floor, events: &[Event]) {
     }
 }
 
-/// All carts entered, station c % 16 for cart c, and STAY messages buffered everywhere.
-fn settled() -> Floor {
+/// All carts entered, station c % 16 for cart c.
+fn entered() -> Floor {
     let mut floor = Floor::new();
     let mut events = vec![Event::Start(16, 64)];
     events.extend((0..64).map(|c| Event::Enter(c % 16, c)));
-    let blocked = (0..64).filter(|c| c % 16 == BLOCKED).fold(0, |set, c| set | 1 << c);
-    events.extend((0..STAY).map(|m| Event::Send(m, blocked, vec![m as u8; 9])));
     accept(&mut floor, &events);
+    floor
+}
+
+/// The same, and STAY messages buffered everywhere.
+fn settled() -> Floor {
+    let mut floor = entered();
+    let blocked = (0..64).filter(|c| c % 16 == BLOCKED).fold(0, |set, c| set | 1 << c);
+    let sends: Vec<Event> = (0..STAY).map(|m| Event::Send(m, blocked, vec![m as u8; 9])).collect();
+    accept(&mut floor, &sends);
     wire_all(&mut floor);
     floor
 }
@@ -167,16 +177,23 @@ fn messages(floor: &mut Floor) -> Vec<Batch> {
     ]
 }
 
+/// Where a cart goes: from where it entered to the next station, and in the other turn back.
+fn to(c: u64, turn: u64) -> u64 {
+    (c + 1 - turn) % 16
+}
+
+fn moves(turn: u64) -> Vec<Event> {
+    (0..64).map(|c| Event::Move(c, to(c, turn))).collect()
+}
+
 /// Every cart goes to the next station, and back.
 fn hand_offs(floor: &mut Floor) -> Vec<Batch> {
     let mut batches = vec![];
     for turn in 0..2 {
         let here = |c: u64| (c + turn) % 16;
-        let to = |c: u64| (c + 1 - turn) % 16;
-        let moves = (0..64).map(|c| Event::Move(c, to(c))).collect();
-        let deregisters = (0..64).map(|c| Event::Wire(to(c), here(c))).collect();
-        let registers = (0..64).map(|c| Event::Wire(here(c), to(c))).collect();
-        batches.push(Batch { name: "move", events: moves });
+        let deregisters = (0..64).map(|c| Event::Wire(to(c, turn), here(c))).collect();
+        let registers = (0..64).map(|c| Event::Wire(here(c), to(c, turn))).collect();
+        batches.push(Batch { name: "move", events: moves(turn) });
         batches.push(Batch { name: "wire, deregister", events: deregisters });
         batches.push(Batch { name: "wire, register", events: registers });
     }
@@ -286,6 +303,44 @@ fn start() {
     println!("start: whole event {least:.1} ns, all written afresh");
 }
 
+/// Fills a floor and runs it until it is quiet: the nanoseconds for each of the steps.
+fn until_quiet<S: Side>(side: &mut S, fill: &[Event]) -> f64 {
+    for event in fill {
+        let said = side.answer(event, &mut [0; 32]);
+        assert!(said[0] == 0, "{event:?} is refused with {}", said[0]);
+    }
+    let mut buffer = [0; 32];
+    let begin = Instant::now();
+    let said = black_box(side.answer(black_box(&Event::Quiet), &mut buffer));
+    let all = begin.elapsed().as_nanos() as f64;
+    assert!(said[..2] == [0, STEPS], "the call answers {said:?}");
+    all / STEPS as f64
+}
+
+/// The floor that takes STEPS: 32 messages to all carts are on the lines, and each cart has greeted another station. Afterwards nothing is held,
+/// and it can be filled again.
+fn quiet() {
+    let base = entered();
+    let (mut proved, mut plain) = (StepOnly(base.words(|k| k)), Plain(Box::new(base)));
+    let (mut least, mut ratios) = ([f64::MAX; 2], vec![]);
+    for round in 0..ROUNDS as u64 {
+        let mut fill = vec![Event::Send(0, u64::MAX, vec![0x71]); 32];
+        fill.extend(moves(round % 2));
+        let (ours, theirs) = (until_quiet(&mut proved, &fill), until_quiet(&mut plain, &fill));
+        least = [ours.min(least[0]), theirs.min(least[1])];
+        ratios.push(theirs / ours);
+    }
+    assert_eq!(proved.floor().difference(&plain.floor()), None, "the floors differ");
+    ratios.sort_by(f64::total_cmp);
+    println!(
+        "quiet: {STEPS} steps; for each {:.2} ns, plain {:.2}, ratio {:.2}, in the median of all rounds {:.2}",
+        least[0],
+        least[1],
+        least[1] / least[0],
+        ratios[ROUNDS / 2]
+    );
+}
+
 /// Prints the times; for a profile of the steps, without those of the whole events.
 pub fn run(steps_alone: bool) -> Result<(), String> {
     println!("16 stations, 64 carts; the least of {ROUNDS} rounds, for one event");
@@ -303,5 +358,6 @@ pub fn run(steps_alone: bool) -> Result<(), String> {
     print(&batches, &in_turns(&base, &batches, false, steps_alone));
     let batches = hand_offs(&mut base.clone());
     print(&batches, &in_turns(&base, &batches, false, steps_alone));
+    quiet();
     Ok(())
 }

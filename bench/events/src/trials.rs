@@ -3,7 +3,7 @@
 use crate::choose;
 use crate::damage;
 use crate::event::{self, Event, KINDS};
-use crate::proved::{self, WORDS};
+use crate::proved::{self, Said, WORDS};
 use crate::reach;
 use plain::words::Words;
 use plain::Floor;
@@ -17,7 +17,7 @@ use std::time::{Duration, Instant};
 const ON_ONE: u64 = 100;
 /// Events after one damage, while they are accepted.
 const IN_A_ROW: u64 = 4;
-/// A word behind those of the answer, which stays.
+/// The words behind those of the answer, which stay.
 const BEHIND: u64 = 0xbe41_17d5;
 
 /// How often which kind of event had which answer, 0 where accepted, and what was done to the floors.
@@ -28,6 +28,18 @@ struct Counts {
     passed: BTreeMap<&'static str, [u64; 3]>,
     faults: BTreeMap<Fault, u64>,
     events: u64,
+    /// The longest way to a quiet floor.
+    most_steps: u64,
+}
+
+impl Counts {
+    fn answer(&mut self, event: &Event, said: &Said) {
+        self.events += 1;
+        *self.answers.entry((event.kind(), said[0])).or_default() += 1;
+        if let Event::Quiet = event {
+            self.most_steps = self.most_steps.max(said[1]);
+        }
+    }
 }
 
 /// Rows of the pool as a young floor has them, or far apart.
@@ -70,9 +82,9 @@ fn one(w: &mut Words, event: &Event, lent: &[u8], counts: &mut Counts) -> Result
         step_alone(&before, event, lent, (w, &buffer, &out))?;
     }
     let (said, floor) = event::plain(&before, found.ok(), event, &mut expected);
-    counts.events += 1;
-    *counts.answers.entry((event.kind(), said[0])).or_default() += 1;
-    if out[..WORDS] != said || out[WORDS] != BEHIND {
+    counts.answer(event, &said);
+    let (answer, behind) = out.split_at(event.words());
+    if *answer != said[..answer.len()] || behind.iter().any(|&word| word != BEHIND) {
         return Err(format!("the proved event answers {out:?}, the plain floor {said:?}"));
     }
     if buffer != expected {
@@ -129,6 +141,7 @@ fn report(counts: &Counts, trials: u64) {
             (1..=25).filter(|&r| of(r) > 0).map(|r| format!("{r}: {}", of(r))).collect();
         println!("  {name:<6} {:>9}   {}", of(0), refusals.join(", "));
     }
+    println!("most steps until a floor was quiet: {}", counts.most_steps);
     let met = |r: u64| counts.answers.keys().any(|&(_, s)| s == r);
     let missing: Vec<u64> = (4..22).chain([24, 25]).filter(|&r| !met(r)).collect();
     println!("refusals 4 to 21, 24 and 25 that never occurred: {missing:?}");

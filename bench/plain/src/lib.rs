@@ -4,6 +4,7 @@
 //!
 //! * [`floor`]: the records of stations, carts and held messages, and the wired lines.
 //! * [`steps`]: the events: start, enter, send, wire, radio, move, steady.
+//! * [`quiet`]: the floor run until it is quiet.
 //! * [`frames`]: frames taken apart into events.
 //! * [`report`]: the printed run.
 //! * [`run`]: frames in, printed run out.
@@ -13,6 +14,7 @@
 
 pub mod floor;
 pub mod frames;
+pub mod quiet;
 pub mod report;
 pub mod run;
 pub mod steps;

@@ -3,14 +3,8 @@
 use std::io;
 use std::process::ExitCode;
 
+use plain::run::{run, status};
+
 fn main() -> ExitCode {
-    match plain::run::run(io::stdin().lock(), io::stdout().lock()) {
-        Ok(()) => ExitCode::SUCCESS,
-        // A reader that has seen enough closes the pipe; that is no failure of the run.
-        Err(error) if error.kind() == io::ErrorKind::BrokenPipe => ExitCode::SUCCESS,
-        Err(error) => {
-            eprintln!("plain: {error}");
-            ExitCode::FAILURE
-        }
-    }
+    status("plain", run(io::stdin().lock(), io::stdout().lock()))
 }

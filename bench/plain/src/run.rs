@@ -1,6 +1,7 @@
 //! A run: frames in, printed run out.
 
 use std::io::{self, Read, Write};
+use std::process::ExitCode;
 
 use crate::floor::{Floor, TEXT};
 use crate::frames::{self, Event, Reader, Taken};
@@ -12,8 +13,32 @@ const PIECE: usize = 1 << 16;
 
 /// Reads frames to the end of the input, or to a frame that cannot be taken apart, and prints the
 /// run. What was printed goes out before each reading, so a slow sender sees his answers.
-pub fn run(mut input: impl Read, mut output: impl Write) -> io::Result<()> {
+pub fn run(input: impl Read, output: impl Write) -> io::Result<()> {
+    run_on(&mut Box::new(Floor::new()), input, output).map(drop)
+}
+
+/// The same, and at the end of the input the floor is run until it is quiet. One line more says how
+/// many steps that took and how many messages are then held. Where a refusal ended the run before,
+/// there is no such line: its own was the last.
+pub fn closing(input: impl Read, mut output: impl Write) -> io::Result<()> {
     let mut floor = Box::new(Floor::new());
+    if run_on(&mut floor, input, &mut output)?.is_some() {
+        return Ok(());
+    }
+    match floor.quiet(&mut [0; TEXT]) {
+        Ok(steps) => writeln!(output, "quiet {steps} {}", floor.held())?,
+        Err(refusal) => writeln!(output, "quiet no {}", refusal.number())?,
+    }
+    output.flush()
+}
+
+/// A run on a lent floor, which is left as the last event left it. Answers the refusal that ended
+/// the run, if one did.
+pub fn run_on(
+    floor: &mut Floor,
+    mut input: impl Read,
+    mut output: impl Write,
+) -> io::Result<Option<Refusal>> {
     let mut report = Report::new(PIECE);
     let mut piece = vec![0; PIECE].into_boxed_slice();
     let mut filled = 0;
@@ -25,35 +50,55 @@ pub fn run(mut input: impl Read, mut output: impl Write) -> io::Result<()> {
         };
         filled += read;
         let mut reader = Reader::new(&piece[..filled]);
-        let refused = loop {
-            if report.is_full() {
-                output.write_all(report.lines())?;
-                report.clear();
-            }
-            match reader.take() {
-                Taken::Event(event) => handle(&mut floor, &event, &mut report),
-                Taken::End => break None,
-                Taken::Refused(refusal) => break Some(refusal),
-            }
-        };
+        let refused = take_all(&mut reader, floor, &mut report, &mut output)?;
         // Only the end of the input cuts a frame; the end of a piece does not.
-        let cut = refused == Some(Refusal::CutFrame);
-        let last = match refused {
-            Some(refusal) if !cut || read == 0 => {
-                report.refused(refusal);
-                true
-            }
-            _ => read == 0,
-        };
+        let last = refused.filter(|refusal| *refusal != Refusal::CutFrame || read == 0);
+        if let Some(refusal) = last {
+            report.refused(refusal);
+        }
         output.write_all(report.lines())?;
         report.clear();
-        if last {
-            return output.flush();
-        }
         output.flush()?;
+        if last.is_some() || read == 0 {
+            return Ok(last);
+        }
         let taken = reader.position();
         piece.copy_within(taken..filled, 0);
         filled -= taken;
+    }
+}
+
+/// Handles the frames of a piece, to its end or to a frame that is refused.
+#[inline(always)]
+fn take_all(
+    reader: &mut Reader,
+    floor: &mut Floor,
+    report: &mut Report,
+    output: &mut impl Write,
+) -> io::Result<Option<Refusal>> {
+    loop {
+        if report.is_full() {
+            output.write_all(report.lines())?;
+            report.clear();
+        }
+        match reader.take() {
+            Taken::Event(event) => handle(floor, &event, report),
+            Taken::End => return Ok(None),
+            Taken::Refused(refusal) => return Ok(Some(refusal)),
+        }
+    }
+}
+
+/// The exit status of a program that runs a floor, and what it says where it failed.
+pub fn status(program: &str, outcome: io::Result<()>) -> ExitCode {
+    match outcome {
+        Ok(()) => ExitCode::SUCCESS,
+        // A reader that has seen enough closes the pipe; that is no failure of the run.
+        Err(error) if error.kind() == io::ErrorKind::BrokenPipe => ExitCode::SUCCESS,
+        Err(error) => {
+            eprintln!("{program}: {error}");
+            ExitCode::FAILURE
+        }
     }
 }
 

@@ -279,7 +279,7 @@ impl Floor {
     }
 
     #[inline(always)]
-    fn check_started(&self) -> Result<(), Refusal> {
+    pub(crate) fn check_started(&self) -> Result<(), Refusal> {
         if self.started {
             Ok(())
         } else {
