@@ -18,8 +18,7 @@ use Rattle.sets.proofs.MaskLaws.{with-here, with-other, without-here, without-o
 use Rattle.lines.specs.Lines.{recordsOn}
 use Rattle.view.specs.Records.{linesIn}
 use Rattle.view.proofs.LinesView.{line-empty}
-use Rattle.dispatcher.specs.declared.Busy.{Busy}
-use Rattle.dispatcher.specs.Busy.{busyRow, RowRight, Shaped, IsBusy, fromWith, busyWith, takenOff, renewed}
+use Rattle.dispatcher.specs.Busy.{Busy, busyRow, RowRight, Shaped, IsBusy, withIfAny, busyWith, takenOff, renewed}
 
 -- A ROW, line by line
 abbrev pub rowTo : (ℕ → ℕ → List Record) → ℕ → ℕ → ℕ
@@ -74,42 +73,46 @@ row-without lines lines′ i j same gone =
     no-more : has (busyRow lines′ i) j ≡ false
     no-more = by-lt j 16 (λ l. in-row lines′ i j l ∙ ap not gone) (λ l. beyond-row lines′ i j l)
 
+-- A SET WITH STATION i in it if what it has is not empty
+module _ (set i word : ℕ) where
+  pub any-here : has (withIfAny set i word) i ≡ not (eqb word 0)
+  any-here = by-test (eqb word 0) (λ e. rw e (without-here set i)) (λ e. rw e (with-here set i))
+
+  pub any-other : (k : ℕ) → (k ≡ i → ⊥) → has (withIfAny set i word) k ≡ has set k
+  any-other k n = by-test (eqb word 0) (λ e. rw e (without-other set i k (λ z. n (sym z)))) (λ e. rw e (with-other set i k (λ z. n (sym z))))
+
+  -- as the code chose it
+  pub any-none : (r : ℕ) → word ≡ 0 → r ≡ without set i → r ≡ withIfAny set i word
+  any-none r z e = e ∙ rw (eq-eqb word 0 z) refl
+
+  pub any-some : (r : ℕ) → (word ≡ 0 → ⊥) → r ≡ with set i → r ≡ withIfAny set i word
+  any-some r n e = e ∙ rw (ne-eqb word 0 n) refl
+
 -- ANOTHER ROW of station i
 module _ (b : Busy) (i row : ℕ) (h : Shaped b) (low : i < 16) where
   pub with-shaped : Shaped (busyWith b i row)
   with-shaped = record {
     size = simp length-set (h .size);
-    few = by-test (eqb row 0) (λ e. rw e (without-lt 16 (b .from) i (h .few))) (λ e. rw e (with-lt 16 (b .from) i (h .few) low));
+    few = by-test (eqb row 0) (λ e. rw e (without-lt 16 (b .sources) i (h .few))) (λ e. rw e (with-lt 16 (b .sources) i (h .few) low));
   }
-
-  from-here : has (fromWith (b .from) i row) i ≡ not (eqb row 0)
-  from-here = by-test (eqb row 0) (λ e. rw e (without-here (b .from) i)) (λ e. rw e (with-here (b .from) i))
 
   pub with-right : (lines : ℕ → ℕ → List Record) → row ≡ busyRow lines i → RowRight lines (busyWith b i row) i
   with-right lines e = record {
-    to = getD-set-same (b .to) i row 0 (let z = h .size in omega arith) ∙ e;
-    from = from-here ∙ ap (λ (r : ℕ). not (eqb r 0)) e;
+    targets = getD-set-same (b .targets) i row 0 (let z = h .size in omega arith) ∙ e;
+    source = any-here (b .sources) i row ∙ ap (λ (r : ℕ). not (eqb r 0)) e;
   }
 
   pub with-others : (lines : ℕ → ℕ → List Record) (k : ℕ) → (k ≡ i → ⊥) → RowRight lines b k → RowRight lines (busyWith b i row) k
   with-others lines k n r = record {
-    to = getD-set-other (b .to) i k row 0 n ∙ r .to;
-    from = by-test (eqb row 0) (λ e. rw e (without-other (b .from) i k (λ z. n (sym z)) ∙ r .from)) (λ e. rw e (with-other (b .from) i k (λ z. n (sym z)) ∙ r .from));
+    targets = getD-set-other (b .targets) i k row 0 n ∙ r .targets;
+    source = any-other (b .sources) i row k n ∙ r .source;
   }
-
--- as the code chose it
-module _ (from i row r : ℕ) where
-  pub from-without : row ≡ 0 → r ≡ without from i → r ≡ fromWith from i row
-  from-without z e = e ∙ rw (eq-eqb row 0 z) refl
-
-  pub from-joined : (row ≡ 0 → ⊥) → r ≡ with from i → r ≡ fromWith from i row
-  from-joined n e = e ∙ rw (ne-eqb row 0 n) refl
 
 -- a row that is right stays so where its lines are empty alike
 pub right-again : (lines lines′ : ℕ → ℕ → List Record) (b : Busy) (i : ℕ) → ((j : ℕ) → j < 16 → isEmpty (lines′ i j) ≡ isEmpty (lines i j)) → RowRight lines b i → RowRight lines′ b i
 right-again lines lines′ b i same r =
     let e = same-rows lines lines′ i same in
-    record { to = r .to ∙ sym e; from = r .from ∙ ap (λ (x : ℕ). not (eqb x 0)) (sym e) }
+    record { targets = r .targets ∙ sym e; source = r .source ∙ ap (λ (x : ℕ). not (eqb x 0)) (sym e) }
 
 -- THE FIRST ROWS, as the walk at the start makes them
 pub record FirstRows (lines : ℕ → ℕ → List Record) (b : Busy) (n : ℕ) : Type 0 where
@@ -117,7 +120,7 @@ pub record FirstRows (lines : ℕ → ℕ → List Record) (b : Busy) (n : ℕ) 
   pub shaped : Shaped b
   pub rows : (i : ℕ) → i < n → RowRight lines b i
 
-pub rows-none : (lines : ℕ → ℕ → List Record) (b : Busy) → length (b .to) ≡ 16 → b .from ≡ 0 → FirstRows lines b 0
+pub rows-none : (lines : ℕ → ℕ → List Record) (b : Busy) → length (b .targets) ≡ 16 → b .sources ≡ 0 → FirstRows lines b 0
 rows-none lines b e z = record { within = omega arith; shaped = record { size = e; few = omega arith }; rows = λ i l. absurd (omega arith) }
 
 pub rows-more : (lines : ℕ → ℕ → List Record) (b b′ : Busy) (n row : ℕ) → FirstRows lines b n → n < 16 → row ≡ busyRow lines n → b′ ≡ busyWith b n row → FirstRows lines b′ (n + 1)
@@ -140,7 +143,7 @@ module _ (W : List ℕ) (i j : ℕ) (li : i < 16) (lj : j < 16) (empty : Bool) (
   unfolding takenOff
   off-stays e = rw (is-asked, not-true empty e) refl
 
-  pub off-empty : not empty ≡ false → (row : ℕ) (b′ : Busy) → row ≡ without (getD (b .to) i 0) j → b′ ≡ busyWith b i row → b′ ≡ takenOff (linesIn W) b i j
+  pub off-empty : not empty ≡ false → (row : ℕ) (b′ : Busy) → row ≡ without (getD (b .targets) i 0) j → b′ ≡ busyWith b i row → b′ ≡ takenOff (linesIn W) b i j
   unfolding takenOff
   off-empty e row b′ q r = r ∙ ap (busyWith b i) q ∙ rw (is-asked, not-false empty e) refl
 
@@ -162,7 +165,7 @@ module _ (lines lines′ : ℕ → ℕ → List Record) (b : Busy) (right : IsBu
 
     off-shaped : Shaped off
     unfolding takenOff
-    off-shaped = by-test (isEmpty (lines′ i j)) (λ e. rw e (with-shaped b i (without (getD (b .to) i 0) j) (right .shaped) li)) (λ e. rw e (right .shaped))
+    off-shaped = by-test (isEmpty (lines′ i j)) (λ e. rw e (with-shaped b i (without (getD (b .targets) i 0) j) (right .shaped) li)) (λ e. rw e (right .shaped))
 
     -- a row of which only that line may have become empty
     off-row : (k : ℕ) → k < 16 → ((h : ℕ) → h < 16 → (k ≡ i → h ≡ j → ⊥) → isEmpty (lines′ k h) ≡ isEmpty (lines k h)) → RowRight lines′ off k
@@ -170,9 +173,9 @@ module _ (lines lines′ : ℕ → ℕ → List Record) (b : Busy) (right : IsBu
     off-row k lk same =
         by-test (isEmpty (lines′ i j))
         (λ e. rw e (by-eq k i
-        (λ z. rw z (with-right b i (without (getD (b .to) i 0) j) (right .shaped) li lines′
-        (rw (right .rows i li .to) (row-without lines lines′ i j (λ h lh n. let s = same h lh (λ y x. n x) in rw z at s) e))))
-        (λ z. with-others b i (without (getD (b .to) i 0) j) (right .shaped) li lines′ k z
+        (λ z. rw z (with-right b i (without (getD (b .targets) i 0) j) (right .shaped) li lines′
+        (rw (right .rows i li .targets) (row-without lines lines′ i j (λ h lh n. let s = same h lh (λ y x. n x) in rw z at s) e))))
+        (λ z. with-others b i (without (getD (b .targets) i 0) j) (right .shaped) li lines′ k z
         (right-again lines lines′ b k (λ h lh. same h lh (λ y x. z y)) (right .rows k lk)))))
         (λ e. rw e (right-again lines lines′ b k
         (λ h lh. by-eq k i

@@ -1,7 +1,7 @@
 -- What the dispatcher chooses is the written choice.
 use mathlib.Core.Path.{_≡_, refl, sym, ap, _∙_}
 use mathlib.Core.Bool.{Bool, true, false, not, _&&_}
-use mathlib.Core.List.{List, [], _∷_}
+use mathlib.Core.List.{List, []}
 use mathlib.Core.Option.{Option, none, some}
 use Prim.Native.Nat.{ℕ, _+_, _^_, _≤_, _<_}
 use native.Mathlib.Omega.{arith}
@@ -12,10 +12,10 @@ use Rattle.protocol.specs.Folds.{first, byOption, isNone, isEmpty}
 use Rattle.protocol.specs.CartSets.{has}
 use Rattle.protocol.specs.Floor.{Product, Limits, limitsOf, Floor, Record}
 use Rattle.protocol.specs.Events.{wire, radio}
-use Rattle.protocol.specs.Wireless.{headAmong}
+use Rattle.protocol.specs.Wireless.{headAmong, queueHead}
 use Rattle.protocol.specs.Form.{passesForm}
 use Rattle.protocol.specs.Quiet.{busyTo, busyFrom, wireFrom, wouldReceive, firstCart, firstStation, radioAt, nextEvent}
-use Rattle.protocol.proofs.Tests.{by-lt, by-eq, by-test, by-option, clash, and-intro, and-second-false, first-is, first-nowhere, first-none, first-some, first-least}
+use Rattle.protocol.proofs.Tests.{by-lt, by-eq, by-test, by-option, clash, and-intro, and-second-false, on-option, first-is, first-nowhere, first-none, first-some, first-least}
 use Rattle.protocol.proofs.NextEvent.{empty-is}
 use Rattle.protocol.proofs.SetLaws.{member-below, has-zero}
 use Rattle.protocol.proofs.FormFacts.{past, some-history}
@@ -34,8 +34,8 @@ use Rattle.queue.specs.Rooms.{tablesFloor, QueueRooms, roomCode, roomIn}
 use Rattle.queue.specs.Keys.{Keyed}
 use Rattle.queue.proofs.Codes.{room-in, no-room-in}
 use Rattle.event_radio.proofs.RadioMeets.{room-fits, head-found, room-low, queue-rooms, keys}
-use Rattle.dispatcher.specs.declared.Busy.{Busy}
-use Rattle.dispatcher.specs.Busy.{busyRow, IsBusy}
+use Rattle.dispatcher.specs.Busy.{Busy, busyRow, IsBusy}
+use Rattle.dispatcher.specs.Queues.{QueuedIn}
 use Rattle.dispatcher.specs.Choice.{cartCode, lowestSteady, AllEmpty}
 use Rattle.dispatcher.proofs.BusyLaws.{in-row, beyond-row, row-word}
 
@@ -178,68 +178,97 @@ module _ (P : Product) (S C M W T : List ℕ) (p : passesForm (limitsOf P) (floo
     unfolding nextEvent
     by-radio = rw no-line refl
 
-    -- nobody at the stations before t
-    abbrev pub Nobody : ℕ → Type 0
-    Nobody t = (k : ℕ) → k < t → firstCart N F k ≡ none
+    -- nobody would receive at a station without an entry
+    not-queued : (t : ℕ) → t < F .stations → ((m : ℕ) → F .queue m t ≡ 0) → firstCart N F t ≡ none
+    unfolding firstCart
+    not-queued t on bare =
+        first-nowhere (F .carts) (wouldReceive N F t)
+        (λ c l. all-empty-radio N F (past N F (X .facts)) (some-history N F (X .facts)) (X .sized) p (λ i j li lj. empty i j) t c on l
+        ∙ on-option (λ (b : Bool). b ≡ false) (queueHead N F t) (λ q. refl) (λ m q. ap (λ (x : ℕ). has x c && F .steady c) (bare m) ∙ rw (has-zero c) refl))
 
-    none-before : (t : ℕ) → Nobody t → (k : ℕ) → k < t → not (isNone (firstCart N F k)) ≡ false
-    none-before t before k l = ap (λ (o : Option ℕ). not (isNone o)) (before k l)
+    -- nobody at the stations of the floor before t
+    abbrev pub Nobody : ℕ → Type 0
+    Nobody t = (k : ℕ) → k < t → k < F .stations → firstCart N F k ≡ none
+
+    none-before : (t : ℕ) → t ≤ F .stations → Nobody t → (k : ℕ) → k < t → not (isNone (firstCart N F k)) ≡ false
+    none-before t on before k l = ap (λ (o : Option ℕ). not (isNone o)) (before k l (omega arith))
 
     -- and somebody there
-    pub radio-next : (t c : ℕ) → t < F .stations → Nobody t → c ≡ cartCode (firstCart N F t) → c < 64 → nextEvent N F ≡ some (radio t c 32)
+    radio-next : (t c : ℕ) → t < F .stations → Nobody t → c ≡ cartCode (firstCart N F t) → c < 64 → nextEvent N F ≡ some (radio t c 32)
     unfolding firstStation
     radio-next t c lt before e l =
         let here : firstCart N F t ≡ some c = code-some (firstCart N F t) c e l in
-        let station : firstStation N F ≡ some t = first-is (F .stations) (λ u. not (isNone (firstCart N F u))) t lt (ap (λ (o : Option ℕ). not (isNone o)) here) (none-before t before) in
+        let station : firstStation N F ≡ some t = first-is (F .stations) (λ u. not (isNone (firstCart N F u))) t lt (ap (λ (o : Option ℕ). not (isNone o)) here) (none-before t (omega arith) before) in
         by-radio ∙ ap (λ (o : Option ℕ). byOption o none (radioAt N F)) station ∙ ap (λ (o : Option ℕ). byOption o none (λ d. some (radio t d 32))) here
 
     -- or nobody either
-    pub nobody-more : (t c : ℕ) → t < F .stations → Nobody t → c ≡ cartCode (firstCart N F t) → 64 ≤ c → Nobody (t + 1)
-    nobody-more t c lt before e l k h =
+    nobody-more : (t c : ℕ) → t < F .stations → Nobody t → c ≡ cartCode (firstCart N F t) → 64 ≤ c → Nobody (t + 1)
+    nobody-more t c lt before e l k h on =
         by-eq k t
         (λ z. rw z (code-none (firstCart N F t) c (cart-low t lt) e l))
-        (λ z. before k (omega arith))
+        (λ z. before k (omega arith) on)
 
     -- nowhere
-    pub nothing-next : Nobody (F .stations) → nextEvent N F ≡ none
+    nothing-next : Nobody (F .stations) → nextEvent N F ≡ none
     unfolding firstStation
     nothing-next all =
         by-radio
-        ∙ ap (λ (o : Option ℕ). byOption o none (radioAt N F)) (first-nowhere (F .stations) (λ u. not (isNone (firstCart N F u))) (none-before (F .stations) all))
+        ∙ ap (λ (o : Option ℕ). byOption o none (radioAt N F)) (first-nowhere (F .stations) (λ u. not (isNone (firstCart N F u))) (none-before (F .stations) (omega arith) all))
+
+    -- THE WALK over those that have an entry has come to k
+    module _ (queued left k : ℕ) (Q : QueuedIn S queued) (A : Ahead 64 queued left k) (before : Nobody k) where
+      module _ (t : ℕ) (pos : 0 < left) (e : least 64 left ≡ some t) where
+        nobody-skipped : Nobody t
+        nobody-skipped u l on =
+            by-lt u k (λ h. before u h on) (λ h. not-queued u on (Q .others u on (ahead-skips 64 queued left k t A pos e u h l)))
+
+        is-on : t < F .stations
+        is-on = Q .on-floor t (ahead-member 64 queued left k t A pos e)
+
+        pub radio-found : (c : ℕ) → c ≡ cartCode (firstCart N F t) → c < 64 → nextEvent N F ≡ some (radio t c 32)
+        radio-found c is l = radio-next t c is-on nobody-skipped is l
+
+        pub nobody-found : (c : ℕ) → c ≡ cartCode (firstCart N F t) → 64 ≤ c → Nobody (t + 1)
+        nobody-found c is l = nobody-more t c is-on nobody-skipped is l
+
+      pub nothing-found : left ≡ 0 → nextEvent N F ≡ none
+      nothing-found z =
+          let A₀ : Ahead 64 queued 0 k = rw z at A in
+          nothing-next (λ u l on. by-lt u k (λ h. before u h on) (λ h. not-queued u on (Q .others u on (ahead-end 64 queued k A₀ u h))))
 
   -- THE FIRST NONEMPTY LINE, by what is known of the lines
   module _ (b : Busy) (right : IsBusy (linesIn W) b) where
     -- a station that is not among those has no record on a line
-    not-from : (i : ℕ) → i < 16 → has (b .from) i ≡ false → (j : ℕ) → linesIn W i j ≡ []
+    not-from : (i : ℕ) → i < 16 → has (b .sources) i ≡ false → (j : ℕ) → linesIn W i j ≡ []
     not-from i li e j =
         by-lt j 16
         (λ lj. let r = right .rows i li in
-        let zero : busyRow (linesIn W) i ≡ 0 = eqb-true (busyRow (linesIn W) i) 0 (not-false (eqb (busyRow (linesIn W) i) 0) (sym (r .from) ∙ e)) in
+        let zero : busyRow (linesIn W) i ≡ 0 = eqb-true (busyRow (linesIn W) i) 0 (not-false (eqb (busyRow (linesIn W) i) 0) (sym (r .source) ∙ e)) in
         empty-is (linesIn W i j) (sym (in-row (linesIn W) i j lj) ∙ ap (λ (x : ℕ). has x j) zero ∙ has-zero j))
         (λ lj. line-beyond W i j (λ x y. omega arith))
 
-    pub all-empty : b .from ≡ 0 → AllEmpty F
+    pub all-empty : b .sources ≡ 0 → AllEmpty F
     all-empty z i j =
         by-lt i 16
         (λ li. not-from i li (ap (λ (x : ℕ). has x i) z ∙ has-zero i) j)
         (λ li. line-beyond W i j (λ x y. omega arith))
 
-    module _ (some-from : b .from ≡ 0 → ⊥) (i : ℕ) (least-from : least 64 (b .from) ≡ some i) where
-      from-lowest : Lowest 64 (b .from) i
-      from-lowest = let a = right .shaped .few in least-lowest 64 (b .from) i (omega arith) (omega (arith, some-from)) least-from
+    module _ (some-from : b .sources ≡ 0 → ⊥) (i : ℕ) (least-from : least 64 (b .sources) ≡ some i) where
+      from-lowest : Lowest 64 (b .sources) i
+      from-lowest = let a = right .shaped .few in least-lowest 64 (b .sources) i (omega arith) (omega (arith, some-from)) least-from
 
       pub from-low : i < 16
-      from-low = member-below 16 (b .from) i (right .shaped .few) (from-lowest .member)
+      from-low = member-below 16 (b .sources) i (right .shaped .few) (from-lowest .member)
 
-      row-is : getD (b .to) i 0 ≡ busyRow (linesIn W) i
-      row-is = right .rows i from-low .to
+      row-is : getD (b .targets) i 0 ≡ busyRow (linesIn W) i
+      row-is = right .rows i from-low .targets
 
-      pub row-some : 0 < getD (b .to) i 0
+      pub row-some : 0 < getD (b .targets) i 0
       row-some =
-          let some-row = eqb-false (busyRow (linesIn W) i) 0 (not-true (eqb (busyRow (linesIn W) i) 0) (sym (right .rows i from-low .from) ∙ from-lowest .member)) in
+          let some-row = eqb-false (busyRow (linesIn W) i) 0 (not-true (eqb (busyRow (linesIn W) i) 0) (sym (right .rows i from-low .source) ∙ from-lowest .member)) in
           omega (arith, row-is, some-row)
 
-      module _ (j : ℕ) (least-to : least 64 (getD (b .to) i 0) ≡ some j) where
+      module _ (j : ℕ) (least-to : least 64 (getD (b .targets) i 0) ≡ some j) where
         to-lowest : Lowest 64 (busyRow (linesIn W) i) j
         to-lowest =
             let a = row-word (linesIn W) i in

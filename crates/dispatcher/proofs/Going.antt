@@ -21,17 +21,20 @@ use Rattle.protocol.proofs.NextEvent.{next-accepted}
 use Rattle.protocol.proofs.QuietRun.{dispatched-none, dispatched-some}
 use Rattle.protocol.proofs.QuietCall.{run-leaves-length}
 use Rattle.protocol.proofs.Theorems.{quiet-at-last}
+use Rattle.stations.specs.View.{HasHead, headIn}
 use Rattle.lines.specs.Form.{form}
 use Rattle.view.specs.Records.{linesIn}
 use Rattle.view.specs.View.{lent, floorIn}
 use Rattle.view.proofs.Lengths.{Lengths, nothing-beyond}
-use Rattle.view.proofs.Standing.{standing}
-use Rattle.dispatcher.specs.declared.Busy.{Busy}
+use Rattle.view.proofs.Standing.{standing, few-stations}
 use Rattle.dispatcher.specs.declared.Next.{Next}
-use Rattle.dispatcher.specs.Busy.{IsBusy}
+use Rattle.dispatcher.specs.Busy.{Busy, IsBusy}
+use Rattle.dispatcher.specs.Queues.{QueuedIn}
 use Rattle.dispatcher.specs.Choice.{nextIn, isStep, Watched, OfEach}
 use Rattle.dispatcher.specs.Taken.{Due, StepTaken, TakenByEach}
+use Rattle.dispatcher.specs.Seen.{HasPlaces, busyAfter, queuedAfter}
 use Rattle.dispatcher.specs.Quieted.{QuietedByEach}
+use Rattle.dispatcher.proofs.StepLaws.{busy-again, queued-again, places-there}
 
 -- no product takes more steps than the floor of 01 may
 pub few-steps : (P : Product) → mostSteps (limitsOf P) ≤ 5248
@@ -104,12 +107,13 @@ module _ (M : Limits) where
 abbrev pub Passes : Product → List ℕ → List ℕ → List ℕ → List ℕ → List ℕ → Type 0
 Passes P S C M W T = passesForm (limitsOf P) (floorIn (lent P S C M W T)) ≡ true
 
-pub record Running (S₀ C₀ M₀ W₀ S C M W T : List ℕ) (buffer₀ buffer : List ℕ) (steps : ℕ) (b : Busy) (n : Next) : Type 0 where
+pub record Running (S₀ C₀ M₀ W₀ S C M W T : List ℕ) (buffer₀ buffer : List ℕ) (steps : ℕ) (b : Busy) (queued : ℕ) (n : Next) : Type 0 where
   pub passes : (P : Product) → Passes P S₀ C₀ M₀ W₀ T → Passes P S C M W T
   pub going : (P : Product) → Passes P S₀ C₀ M₀ W₀ T
       → Going (limitsOf P) (floorIn (lent P S₀ C₀ M₀ W₀ T)) (floorIn (lent P S C M W T)) buffer₀ buffer steps
   pub next : (P : Product) → Passes P S₀ C₀ M₀ W₀ T → nextEvent (limitsOf P) (floorIn (lent P S C M W T)) ≡ nextIn n
   pub busy : IsBusy (linesIn W) b
+  pub queues : QueuedIn S queued
   pub kept : length buffer ≡ length buffer₀
 
 -- the lines of a floor that passes are whole
@@ -117,18 +121,27 @@ pub chains-of : (P : Product) (S C M W T : List ℕ) → Passes P S C M W T → 
 chains-of P S C M W T p = standing (lent P S C M W T) p .laid .chains
 
 module _ (S₀ C₀ M₀ W₀ T buffer₀ : List ℕ) where
-  pub running-first : (b : Busy) (n : Next) → IsBusy (linesIn W₀) b
+  -- what is asked of the table for the first look at the queues
+  pub first-queues : (P : Product) → Passes P S₀ C₀ M₀ W₀ T → HasHead S₀ × (headIn S₀ .stations ≤ 16) × (116 + headIn S₀ .stations * 116 ≤ length S₀)
+  first-queues P p =
+      let X = standing (lent P S₀ C₀ M₀ W₀ T) p in
+      let size = X .lengths .stations in
+      let most = X .sized .counts .stations in
+      (omega arith, few-stations (lent P S₀ C₀ M₀ W₀ T) X, omega arith)
+
+  pub running-first : (b : Busy) (queued : ℕ) (n : Next) → IsBusy (linesIn W₀) b → QueuedIn S₀ queued
       → OfEach S₀ C₀ M₀ (λ N F. IsBusy (F .lines) b → nextEvent N F ≡ nextIn n)
-      → Running S₀ C₀ M₀ W₀ S₀ C₀ M₀ W₀ T buffer₀ buffer₀ 0 b n
-  running-first b n right next = record {
+      → Running S₀ C₀ M₀ W₀ S₀ C₀ M₀ W₀ T buffer₀ buffer₀ 0 b queued n
+  running-first b queued n right Q next = record {
     passes = λ P p. p;
     going = λ P p. going-first (limitsOf P) (floorIn (lent P S₀ C₀ M₀ W₀ T)) buffer₀;
     next = λ P p. next P W₀ T p right;
     busy = right;
+    queues = Q;
     kept = refl;
   }
 
-  module _ (S C M W buffer : List ℕ) (steps : ℕ) (b : Busy) (n : Next) (R : Running S₀ C₀ M₀ W₀ S C M W T buffer₀ buffer steps b n) where
+  module _ (S C M W buffer : List ℕ) (steps : ℕ) (b : Busy) (queued : ℕ) (n : Next) (R : Running S₀ C₀ M₀ W₀ S C M W T buffer₀ buffer steps b queued n) where
     module _ (P : Product) (p : Passes P S₀ C₀ M₀ W₀ T) where
       pub still-due : Due (lent P S C M W T) n
       still-due = record { passes = R .passes P p; next = R .next P p }
@@ -165,7 +178,7 @@ module _ (S₀ C₀ M₀ W₀ T buffer₀ : List ℕ) where
             let room = going-room (limitsOf P) (floorIn (lent P S₀ C₀ M₀ W₀ T)) (floorIn (lent P S C M W T)) buffer₀ buffer steps e blank-first p (R .going P p) (R .next P p ∙ q) in
             omega arith
 
-        module _ (S′ C′ M′ W′ buffer′ : List ℕ) (b′ : Busy) (taken : StepTaken (lent P S C M W T) (lent P S′ C′ M′ W′ T) e buffer buffer′ b b′) where
+        module _ (S′ C′ M′ W′ buffer′ : List ℕ) (records : ℕ) (taken : StepTaken (lent P S C M W T) (lent P S′ C′ M′ W′ T) e buffer buffer′ records) where
           passes-on : Passes P S′ C′ M′ W′ T
           passes-on = subst (λ (Y : Floor). passesForm (limitsOf P) Y ≡ true) (sym (taken .floor)) (form-kept (limitsOf P) (floorIn (lent P S C M W T)) e blank-now (R .passes P p) .1)
 
@@ -199,31 +212,53 @@ module _ (S₀ C₀ M₀ W₀ T buffer₀ : List ℕ) where
         pub turn-left : (P : Product) → Passes P S₀ C₀ M₀ W₀ T → steps < 5248
         turn-left P p = let s = some-event asked is t in step-left P p (s .0) (s .1)
 
-        module _ (S′ C′ M′ W′ buffer′ : List ℕ) (b′ : Busy)
-            (taken : TakenByEach (λ P. lent P S C M W T) (λ P. lent P S′ C′ M′ W′ T) n buffer buffer′ b b′) where
-          taken-by : (P : Product) → Passes P S₀ C₀ M₀ W₀ T → StepTaken (lent P S C M W T) (lent P S′ C′ M′ W′ T) (some-event asked is t .0) buffer buffer′ b b′
+        module _ (S′ C′ M′ W′ buffer′ : List ℕ) (records : ℕ)
+            (taken : TakenByEach (λ P. lent P S C M W T) (λ P. lent P S′ C′ M′ W′ T) n buffer buffer′ records) where
+          taken-by : (P : Product) → Passes P S₀ C₀ M₀ W₀ T → StepTaken (lent P S C M W T) (lent P S′ C′ M′ W′ T) (some-event asked is t .0) buffer buffer′ records
           taken-by P p = let s = some-event asked is t in taken P (s .0) (still-due P p) (s .1)
 
           pub passes-then : (P : Product) → Passes P S₀ C₀ M₀ W₀ T → Passes P S′ C′ M′ W′ T
-          passes-then P p = let s = some-event asked is t in passes-on P p (s .0) (s .1) S′ C′ M′ W′ buffer′ b′ (taken-by P p)
+          passes-then P p = let s = some-event asked is t in passes-on P p (s .0) (s .1) S′ C′ M′ W′ buffer′ records (taken-by P p)
 
-          pub watched-then : (P : Product) → Passes P S₀ C₀ M₀ W₀ T → Watched S′ C′ M′ b′
-          watched-then P p = record { floor = record { product = P; lines = W′; texts = T; passes = passes-then P p }; busy = taken-by P p .busy (R .busy) }
+          -- what is asked for the look at what it changed
+          pub look-asks : (P : Product) → Passes P S₀ C₀ M₀ W₀ T → (form W′ ≡ true) × HasPlaces S′ n
+          look-asks P p =
+              let now-size = standing (lent P S C M W T) (R .passes P p) .lengths .stations in
+              let then-size = standing (lent P S′ C′ M′ W′ T) (passes-then P p) .lengths .stations in
+              (chains-of P S′ C′ M′ W′ T (passes-then P p), places-there (lent P S C M W T) S′ n (still-due P p) (then-size ∙ sym now-size))
 
-          pub running-on : (P : Product) → Passes P S₀ C₀ M₀ W₀ T → 32 ≤ length buffer₀ → (n′ : Next)
-              → OfEach S′ C′ M′ (λ N F. IsBusy (F .lines) b′ → nextEvent N F ≡ nextIn n′)
-              → Running S₀ C₀ M₀ W₀ S′ C′ M′ W′ T buffer₀ buffer′ (steps + 1) b′ n′
-          running-on P p long n′ next =
-              let s = some-event asked is t in
-              let same = kept-on P p (s .0) (s .1) S′ C′ M′ W′ buffer′ b′ (taken-by P p) (let k = R .kept in omega arith) in
-              let right : IsBusy (linesIn W′) b′ = taken-by P p .busy (R .busy) in
-              record {
-                passes = passes-then;
-                going = λ Q r. goes-on Q r (s .0) (s .1) S′ C′ M′ W′ buffer′ b′ (taken-by Q r);
-                next = λ Q r. next Q W′ T (passes-then Q r) right;
-                busy = right;
-                kept = same ∙ R .kept;
-              }
+          -- what was kept, and was looked at
+          module _ (b′ : Busy) (queued′ : ℕ) (seen : b′ ≡ busyAfter (linesIn W′) b n records) (queue-seen : queued′ ≡ queuedAfter S′ queued n) where
+            busy-then : (P : Product) → Passes P S₀ C₀ M₀ W₀ T → IsBusy (linesIn W′) b′
+            busy-then P p =
+                let s = some-event asked is t in
+                subst (λ (x : Busy). IsBusy (linesIn W′) x) (sym seen)
+                (busy-again (lent P S C M W T) (lent P S′ C′ M′ W′ T) buffer buffer′ records n (s .0) (still-due P p) (s .1) (taken-by P p) b (R .busy))
+
+            queues-then : (P : Product) → Passes P S₀ C₀ M₀ W₀ T → QueuedIn S′ queued′
+            queues-then P p =
+                let s = some-event asked is t in
+                subst (λ (x : ℕ). QueuedIn S′ x) (sym queue-seen)
+                (queued-again (lent P S C M W T) (lent P S′ C′ M′ W′ T) buffer buffer′ records n (s .0) (still-due P p) (s .1) (taken-by P p) queued (R .queues))
+
+            pub watched-then : (P : Product) → Passes P S₀ C₀ M₀ W₀ T → Watched S′ C′ M′ b′ × QueuedIn S′ queued′
+            watched-then P p =
+                (record { floor = record { product = P; lines = W′; texts = T; passes = passes-then P p }; busy = busy-then P p }, queues-then P p)
+
+            pub running-on : (P : Product) → Passes P S₀ C₀ M₀ W₀ T → 32 ≤ length buffer₀ → (n′ : Next)
+                → OfEach S′ C′ M′ (λ N F. IsBusy (F .lines) b′ → nextEvent N F ≡ nextIn n′)
+                → Running S₀ C₀ M₀ W₀ S′ C′ M′ W′ T buffer₀ buffer′ (steps + 1) b′ queued′ n′
+            running-on P p long n′ next =
+                let s = some-event asked is t in
+                let same = kept-on P p (s .0) (s .1) S′ C′ M′ W′ buffer′ records (taken-by P p) (let k = R .kept in omega arith) in
+                record {
+                  passes = passes-then;
+                  going = λ Q r. goes-on Q r (s .0) (s .1) S′ C′ M′ W′ buffer′ records (taken-by Q r);
+                  next = λ Q r. next Q W′ T (passes-then Q r) (busy-then P p);
+                  busy = busy-then P p;
+                  queues = queues-then P p;
+                  kept = same ∙ R .kept;
+                }
 
       -- THE END
       pub running-last : asked ≡ false → QuietedByEach (λ P. lent P S₀ C₀ M₀ W₀ T) (λ P. lent P S C M W T) buffer₀ buffer steps

@@ -1,4 +1,5 @@
 pub mod BusyLaws
+pub mod QueueLaws
 pub mod Choices
 pub mod StepLaws
 pub mod Going

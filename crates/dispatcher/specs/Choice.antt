@@ -12,10 +12,9 @@ use Rattle.protocol.specs.Form.{passesForm}
 use Rattle.carts.specs.View.{cartsIn}
 use Rattle.view.specs.Records.{linesIn}
 use Rattle.view.specs.View.{lent, floorIn}
-use Rattle.dispatcher.specs.declared.Busy.{Busy}
 use Rattle.dispatcher.specs.declared.Next.{Next}
 use Rattle.dispatcher.specs.declared.Next.the-variants.{Wire, Radio, Nothing}
-use Rattle.dispatcher.specs.Busy.{IsBusy}
+use Rattle.dispatcher.specs.Busy.{Busy, IsBusy}
 
 -- the event, if any: "The library lends the dispatcher a text buffer of 32 octets"
 abbrev pub nextIn : Next → Option Event

@@ -1,31 +1,35 @@
 // "Run the floor until it is quiet. At closing time nobody sends or moves." The dispatcher chooses one wire or radio step after the other, and takes
-// it by the code of the events. Which lines are not empty it keeps from step to step, so that no choice goes over all lines.
+// it by the code of the events. Which lines are not empty, and which stations have an entry in their queue, it keeps from step to step, so that no
+// choice goes over all lines or all stations.
 use event_answers::Answer;
 use ids::CartNumber;
 use ids::Station;
 ghost use mathlib.Core.Path.{_≡_};
 ghost use mathlib.Core.Bool.{true};
-ghost use Prim.Native.Nat.{ℕ, _<_, _≤_};
+ghost use Prim.Native.Nat.{ℕ, _+_, _*_, _<_, _≤_};
 ghost use lib.ListN.{length};
 ghost use Rattle.protocol.specs.CartSets.{has};
 ghost use Rattle.protocol.specs.Quiet.{firstCart, nextEvent};
-ghost use Rattle.stations.specs.View.{headIn};
+ghost use Rattle.stations.specs.View.{HasHead, HasStation, headIn};
 ghost use Rattle.carts.specs.Words.{HasRow};
 ghost use Rattle.lines.specs.Form.{form};
 ghost use Rattle.view.specs.Records.{linesIn};
 ghost use Rattle.view.specs.View.{lent};
-ghost use Rattle.dispatcher.specs.Busy.{busyRow, IsBusy, fromWith, busyWith, takenOff, renewed};
+ghost use Rattle.dispatcher.specs.Busy.{busy, busyRow, IsBusy, withIfAny, busyWith, takenOff, renewed};
+ghost use Rattle.dispatcher.specs.Queues.{queuedWith, QueuedIn};
 ghost use Rattle.dispatcher.specs.Choice.{nextIn, isStep, cartCode, lowestSteady, OfFloor, Watched, OfEach, AllEmpty};
 ghost use Rattle.dispatcher.specs.Taken.{recordsIn, DueBySome, TakenByEach};
+ghost use Rattle.dispatcher.specs.Seen.{HasPlaces, busyAfter, queuedAfter};
 ghost use Rattle.dispatcher.specs.Quieted.{PassesBySome, QuietedByEach};
 
 // The word for no cart.
 const NOBODY: u64 = 64;
 
-// Which lines are not empty: for each station the set of those to which it has a record on a line, and the set of the stations that have one.
-struct Busy {
-    to: [u64; 16],
-    from: u64,
+// What is kept from step to step: the stations that have a record on a line, and those that have an entry in their queue. Beside it there are
+// sixteen words, the targets: for each station the set of those to which it has a record on a line. These are lent, so that no step copies them.
+struct Pending {
+    sources: u64,
+    queued: u64,
 }
 
 // What the dispatcher takes next: a wire step (from, to), a radio step (station, cart), or nothing, and the floor is quiet.
@@ -57,70 +61,92 @@ fn row_from(lines: &[u64], i: usize) -> u64
     row
 }
 
-// The stations that have a record on a line, when station i has that row.
-fn from_with(from: u64, i: u64, row: u64) -> u64
+// A set of stations with station i in it exactly if what it has, a row of targets or entries of its queue, is not empty.
+fn with_if_any(set: u64, i: u64, word: u64) -> u64
     requires { ⌜ i < 16 ⌝ }
-    ensures { λ r. ⌜ r ≡ fromWith from i row ⌝ }
+    ensures { λ r. ⌜ r ≡ withIfAny set i word ⌝ }
 {
-    if row == 0 {
-        sets::without_member(from, i)
+    if word == 0 {
+        sets::without_member(set, i)
     } else {
-        sets::with_member(from, i)
+        sets::with_member(set, i)
     }
 }
 
-impl Busy {
-    // Station i has another row.
-    fn with_row(mut self, i: usize, row: u64) -> Busy
-        requires { ⌜ i < 16 ⌝ }
-        ensures { λ r. ⌜ r ≡ busyWith self i row ⌝ }
-    {
-        self.to[i] = row;
-        self.from = from_with(self.from, i as u64, row);
-        self
-    }
+// Station i has another row of targets. Answers which stations have a record on a line then.
+fn put_row(targets: &mut [u64], sources: u64, i: usize, row: u64) -> u64
+    requires { ⌜ (i < 16) × (length (now targets) ≡ 16) ⌝ }
+    ensures { λ r. ⌜ busy (now (targets .exit)) r ≡ busyWith (busy (now (targets .entry)) sources) i row ⌝ }
+{
+    targets[i] = row;
+    with_if_any(sources, i as u64, row)
 }
 
 // Every line is looked at once, at the start.
-fn busy_lines(lines: &[u64]) -> Busy
-    requires { ⌜ form (now lines) ≡ true ⌝ }
-    ensures { λ r. ⌜ IsBusy (linesIn (now (lines .entry))) r ⌝ }
+fn busy_lines(targets: &mut [u64], lines: &[u64]) -> u64
+    requires { ⌜ (length (now targets) ≡ 16) × (form (now lines) ≡ true) ⌝ }
+    ensures { λ r. ⌜ IsBusy (linesIn (now (lines .entry))) (busy (now (targets .exit)) r) ⌝ }
 {
-    let mut busy = Busy {
-        to: [0; 16],
-        from: 0,
-    };
+    let mut sources: u64 = 0;
     let mut i: usize = 0;
     while i < products::INITIATORS {
-        busy = busy.with_row(i, row_from(lines, i));
+        let row = row_from(lines, i);
+        sources = put_row(targets, sources, i, row);
         i += 1;
     }
-    busy
+    sources
 }
 
 // A record was taken off the line from one station to another: it may have been the last there.
-fn taken_off(lines: &[u64], busy: Busy, from: Station, to: Station) -> Busy
-    requires { ⌜ (from .0 < 16) × (to .0 < 16) × (form (now lines) ≡ true) ⌝ }
-    ensures { λ r. ⌜ r ≡ takenOff (linesIn (now (lines .entry))) busy (from .0) (to .0) ⌝ }
+fn taken_off(targets: &mut [u64], lines: &[u64], sources: u64, from: Station, to: Station) -> u64
+    requires { ⌜ (from .0 < 16) × (to .0 < 16) × (length (now targets) ≡ 16) × (form (now lines) ≡ true) ⌝ }
+    ensures { λ r. ⌜ busy (now (targets .exit)) r ≡ takenOff (linesIn (now (lines .entry))) (busy (now (targets .entry)) sources) (from .0) (to .0) ⌝ }
 {
     let i = from.0 as usize;
     let j = to.0 as usize;
     if !lines::is_empty(lines, i, j) {
-        return busy;
+        return sources;
     }
-    busy.with_row(i, sets::without_member(busy.to[i], to.0))
+    let row = sets::without_member(targets[i], to.0);
+    put_row(targets, sources, i, row)
 }
 
 // So many records were put on lines by a step at the station. All of them went on lines from there, and where none was put nothing has to be looked at.
-fn renewed(lines: &[u64], busy: Busy, station: Station, records: u64) -> Busy
-    requires { ⌜ (station .0 < 16) × (form (now lines) ≡ true) ⌝ }
-    ensures { λ r. ⌜ r ≡ renewed (linesIn (now (lines .entry))) busy (station .0) records ⌝ }
+fn renewed(targets: &mut [u64], lines: &[u64], sources: u64, station: Station, records: u64) -> u64
+    requires { ⌜ (station .0 < 16) × (length (now targets) ≡ 16) × (form (now lines) ≡ true) ⌝ }
+    ensures { λ r. ⌜ busy (now (targets .exit)) r ≡ renewed (linesIn (now (lines .entry))) (busy (now (targets .entry)) sources) (station .0) records ⌝ }
 {
     if records == 0 {
-        return busy;
+        return sources;
     }
     let t = station.0 as usize;
-    busy.with_row(t, row_from(lines, t))
+    let row = row_from(lines, t);
+    put_row(targets, sources, t, row)
+}
+
+// ---- Which stations have an entry in their queue.
+
+// The station's queue is looked at, which costs a load.
+fn queue_seen(stations: &[u64], queued: u64, station: Station) -> u64
+    requires { ⌜ HasStation (now stations) (station .0) × (station .0 < 16) ⌝ }
+    ensures { λ r. ⌜ r ≡ queuedWith (now (stations .entry)) queued (station .0) ⌝ }
+{
+    with_if_any(queued, station.0, stations::entries_of(stations, station))
+}
+
+// Every queue is looked at once, at the start.
+fn queued_stations(stations: &[u64]) -> u64
+    requires { ⌜ HasHead (now stations) × (headIn (now stations) .stations ≤ 16) × (116 + headIn (now stations) .stations * 116 ≤ length (now stations)) ⌝ }
+    ensures { λ r. ⌜ QueuedIn (now (stations .entry)) r ⌝ }
+{
+    let n = stations::station_count(stations);
+    let mut queued: u64 = 0;
+    let mut t: u64 = 0;
+    while t < n {
+        queued = queue_seen(stations, queued, Station(t));
+        t += 1;
+    }
+    queued
 }
 
 // ---- What is next.
@@ -154,35 +180,41 @@ fn receiver_at(stations: &[u64], carts: &[u64], messages: &[u64], station: Stati
     lowest_steady(carts, stations::queue_of(stations, m, station))
 }
 
-// "with all lines empty, the lowest station at which a radio step would be accepted, and the lowest cart there". A station without an entry costs a
-// load.
-fn next_radio(stations: &[u64], carts: &[u64], messages: &[u64]) -> Next
-    requires { ⌜ OfFloor (now stations) (now carts) (now messages) ⌝ }
+// "with all lines empty, the lowest station at which a radio step would be accepted, and the lowest cart there". Only stations with an entry are
+// looked at, and mostly the first serves: another is looked at where all carts of a head entry are unsteady.
+fn next_radio(stations: &[u64], carts: &[u64], messages: &[u64], queued: u64) -> Next
+    requires { ⌜ OfFloor (now stations) (now carts) (now messages) × QueuedIn (now stations) queued ⌝ }
     ensures { λ r. ⌜ OfEach (now (stations .entry)) (now (carts .entry)) (now (messages .entry)) (λ N F. AllEmpty F → nextEvent N F ≡ nextIn r) ⌝ }
 {
-    let n = stations::station_count(stations);
-    let mut t: u64 = 0;
-    while t < n {
+    let mut left = queued;
+    while 0 < left {
+        let t = sets::first(left);
         let cart = receiver_at(stations, carts, messages, Station(t));
         if cart < NOBODY {
             return Next::Radio(Station(t), CartNumber(cart));
         }
-        t += 1;
+        left = sets::without_first(left);
     }
     Next::Nothing
 }
 
 // "A dispatcher takes the first nonempty line by from, then to"; with all lines empty, a radio step.
-fn next_step(stations: &[u64], carts: &[u64], messages: &[u64], busy: Busy) -> Next
-    requires { ⌜ Watched (now stations) (now carts) (now messages) busy ⌝ }
-    ensures { λ r. ⌜ OfEach (now (stations .entry)) (now (carts .entry)) (now (messages .entry)) (λ N F. IsBusy (F .lines) busy → nextEvent N F ≡ nextIn r) ⌝ }
+fn next_step(
+    stations: &[u64],
+    carts: &[u64],
+    messages: &[u64],
+    targets: &[u64],
+    pending: Pending,
+) -> Next
+    requires { ⌜ Watched (now stations) (now carts) (now messages) (busy (now targets) (pending .sources)) × QueuedIn (now stations) (pending .queued) ⌝ }
+    ensures { λ r. ⌜ OfEach (now (stations .entry)) (now (carts .entry)) (now (messages .entry)) (λ N F. IsBusy (F .lines) (busy (now (targets .entry)) (pending .sources)) → nextEvent N F ≡ nextIn r) ⌝ }
 {
-    if busy.from == 0 {
-        return next_radio(stations, carts, messages);
+    if pending.sources == 0 {
+        return next_radio(stations, carts, messages, pending.queued);
     }
-    let from = sets::first(busy.from);
+    let from = sets::first(pending.sources);
     let i = from as usize;
-    let to = sets::first(busy.to[i]);
+    let to = sets::first(targets[i]);
     Next::Wire(Station(from), Station(to))
 }
 
@@ -209,7 +241,7 @@ fn records_of(answer: Answer) -> u64
     }
 }
 
-// The step is taken, and it is known again which lines are not empty.
+// The step is taken. Answers how many records it put on lines.
 fn take_step(
     stations: &mut [u64],
     carts: &mut [u64],
@@ -218,16 +250,14 @@ fn take_step(
     texts: &[u8],
     buffer: &mut [u8],
     next: Next,
-    busy: Busy,
-) -> Busy
+) -> u64
     requires { ⌜ DueBySome (λ P. lent P (now stations) (now carts) (now messages) (now lines) (now texts)) next × (32 ≤ length (now buffer)) ⌝ }
-    ensures { λ r. ⌜ TakenByEach (λ P. lent P (now (stations .entry)) (now (carts .entry)) (now (messages .entry)) (now (lines .entry)) (now (texts .entry))) (λ P. lent P (now (stations .exit)) (now (carts .exit)) (now (messages .exit)) (now (lines .exit)) (now (texts .entry))) next (now (buffer .entry)) (now (buffer .exit)) busy r ⌝ }
+    ensures { λ r. ⌜ TakenByEach (λ P. lent P (now (stations .entry)) (now (carts .entry)) (now (messages .entry)) (now (lines .entry)) (now (texts .entry))) (λ P. lent P (now (stations .exit)) (now (carts .exit)) (now (messages .exit)) (now (lines .exit)) (now (texts .entry))) next (now (buffer .entry)) (now (buffer .exit)) r ⌝ }
 {
     match next {
         Next::Wire(from, to) => {
             let answer = event_wire::wire(stations, carts, messages, lines, texts, from, to);
-            let left = taken_off(lines, busy, from, to);
-            renewed(lines, left, to, records_of(answer))
+            records_of(answer)
         }
         Next::Radio(station, cart) => {
             let answer = event_radio::radio_into(
@@ -240,9 +270,39 @@ fn take_step(
                 cart,
                 buffer,
             );
-            renewed(lines, busy, station, records_of(answer))
+            records_of(answer)
         }
-        Next::Nothing => busy,
+        Next::Nothing => 0,
+    }
+}
+
+// What is kept is looked at again after a step: only the line that it took a record off, the lines from the station where it happened and the queue
+// there may have changed.
+fn seen_after(
+    targets: &mut [u64],
+    stations: &[u64],
+    lines: &[u64],
+    pending: Pending,
+    next: Next,
+    records: u64,
+) -> Pending
+    requires { ⌜ (length (now targets) ≡ 16) × (form (now lines) ≡ true) × HasPlaces (now stations) next ⌝ }
+    ensures { λ r. ⌜ busy (now (targets .exit)) (r .sources) ≡ busyAfter (linesIn (now (lines .entry))) (busy (now (targets .entry)) (pending .sources)) next records ⌝ }
+    ensures { λ r. ⌜ r .queued ≡ queuedAfter (now (stations .entry)) (pending .queued) next ⌝ }
+{
+    match next {
+        Next::Wire(from, to) => {
+            let left = taken_off(targets, lines, pending.sources, from, to);
+            let sources = renewed(targets, lines, left, to, records);
+            let queued = queue_seen(stations, pending.queued, to);
+            Pending { sources, queued }
+        }
+        Next::Radio(station, _) => {
+            let sources = renewed(targets, lines, pending.sources, station, records);
+            let queued = queue_seen(stations, pending.queued, station);
+            Pending { sources, queued }
+        }
+        Next::Nothing => pending,
     }
 }
 
@@ -259,12 +319,16 @@ pub fn run_until_quiet(
     ensures { λ r. ⌜ QuietedByEach (λ P. lent P (now (stations .entry)) (now (carts .entry)) (now (messages .entry)) (now (lines .entry)) (now (texts .entry))) (λ P. lent P (now (stations .exit)) (now (carts .exit)) (now (messages .exit)) (now (lines .exit)) (now (texts .entry))) (now (buffer .entry)) (now (buffer .exit)) r ⌝ }
 {
     let mut steps: u64 = 0;
-    let mut busy = busy_lines(lines);
-    let mut next = next_step(stations, carts, messages, busy);
+    let mut targets = [0u64; 16];
+    let sources = busy_lines(&mut targets, lines);
+    let queued = queued_stations(stations);
+    let mut pending = Pending { sources, queued };
+    let mut next = next_step(stations, carts, messages, &targets, pending);
     while is_step(next) {
-        busy = take_step(stations, carts, messages, lines, texts, buffer, next, busy);
+        let records = take_step(stations, carts, messages, lines, texts, buffer, next);
+        pending = seen_after(&mut targets, stations, lines, pending, next, records);
         steps += 1;
-        next = next_step(stations, carts, messages, busy);
+        next = next_step(stations, carts, messages, &targets, pending);
     }
     steps
 }

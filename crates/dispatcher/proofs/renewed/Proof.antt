@@ -7,19 +7,24 @@ use Rattle.dispatcher.proofs.renewed.Tie as tie
 
 returns : tie.Need-returns
 returns c =
-    let a = c .before .before .args in
+    let a = c .before .before .before .args in
     none-put (linesIn (a .lines .now)) _ (a .station .0) (a .records) (c .if1 .taken)
 
 row-from-requires : tie.Need-row-from-requires
 row-from-requires c κs = search needs
 
-with-row-requires : tie.Need-with-row-requires
-with-row-requires c κs = search needs
+put-row-requires : tie.Need-put-row-requires
+put-row-requires c κs = search needs
+
+same-length : tie.Need-same-length
+same-length c = search needs
 
 returns-2 : tie.Need-returns-2
 returns-2 c =
-    let a = c .before .before .before .before .args in
-    some-put (linesIn (a .lines .now)) _ (a .station .0) (a .records) (c .before .before .if1 .left) _ _ (c .before .row-from .ensures) (c .with-row .ensures)
+    let put = c .before .before in
+    let looked = c .before .before .before .before in
+    let a = c .before .before .before .before .before .before .before .before .args in
+    some-put (linesIn (a .lines .now)) _ (a .station .0) (a .records) (c .before .before .before .before .before .if1 .left) _ _ (looked .row-from .ensures) (put .put-row .ensures)
 
 pub renewed-spec : {M : Type 1} → statement M
-renewed-spec = tie.close (tie.spec returns row-from-requires with-row-requires returns-2)
+renewed-spec = tie.close (tie.spec returns row-from-requires put-row-requires same-length returns-2)

@@ -1,8 +1,8 @@
 -- `dispatcher::take_step` meets its contract.
 use denote.Ref.{now}
 use Rattle.view.specs.View.{lent}
-use Rattle.dispatcher.proofs.StepLaws.{wire-ready, off-asks, wire-comes, radio-ready, there-asks, radio-comes, nothing-comes}
 use borrow.Author.Needs.{needs}
+use Rattle.dispatcher.proofs.StepLaws.{wire-ready, wire-comes, radio-ready, radio-comes, nothing-comes}
 use Rattle.dispatcher.proofs.take_step.Statement.{statement}
 use Rattle.dispatcher.proofs.take_step.Tie as tie
 
@@ -11,66 +11,28 @@ enum-known-next c = search needs
 
 wire-requires : tie.Need-wire-requires
 wire-requires c κs =
-    let chosen = c .before .before .before .before .before in
-    let start = chosen .before .before .before .before .before .before .before .before in
+    let start = c .before .before .before .before .before .before .before .before .before .before .before .before .before in
     let a = start .args in
     let P = start .pre .0 .0 in
-    let d = start .pre .0 .1 in
-    let w = chosen .next .given in
-    (P, wire-ready (lent P (now (a .stations)) (now (a .carts)) (now (a .messages)) (now (a .lines)) (now (a .texts))) (a .next) d (w .0 .0) (w .0 .1 .0) (w .1))
-
-taken-off-requires : tie.Need-taken-off-requires
-taken-off-requires c κs =
-    let wired = c .before .before .before .before .before .before .before .before .before in
-    let chosen = wired .before .before .before .before .before .before in
-    let start = chosen .before .before .before .before .before .before .before .before in
-    let a = start .args in
-    let P = start .pre .0 .0 in
-    let d = start .pre .0 .1 in
-    let w = chosen .next .given in
-    off-asks (lent P (now (a .stations)) (now (a .carts)) (now (a .messages)) (now (a .lines)) (now (a .texts))) (a .next) d (w .0 .0) (w .0 .1 .0) (w .1) _ (wired .wire .result) (wired .wire .ensures P (wire-ready (lent P (now (a .stations)) (now (a .carts)) (now (a .messages)) (now (a .lines)) (now (a .texts))) (a .next) d (w .0 .0) (w .0 .1 .0) (w .1)))
+    let w = c .before .before .before .before .before .next .given in
+    (P, wire-ready (lent P (now (a .stations)) (now (a .carts)) (now (a .messages)) (now (a .lines)) (now (a .texts))) (a .next) (start .pre .0 .1) (w .0 .0) (w .0 .1 .0) (w .1))
 
 records-of-requires : tie.Need-records-of-requires
 records-of-requires c κs = search needs
-
-renewed-requires : tie.Need-renewed-requires
-renewed-requires c κs =
-    let wired = c .before .before .before .before .before .before .before .before .before .before .before .before in
-    let chosen = wired .before .before .before .before .before .before in
-    let start = chosen .before .before .before .before .before .before .before .before in
-    let a = start .args in
-    let P = start .pre .0 .0 in
-    let d = start .pre .0 .1 in
-    let w = chosen .next .given in
-    let asks = off-asks (lent P (now (a .stations)) (now (a .carts)) (now (a .messages)) (now (a .lines)) (now (a .texts))) (a .next) d (w .0 .0) (w .0 .1 .0) (w .1) _ (wired .wire .result) (wired .wire .ensures P (wire-ready (lent P (now (a .stations)) (now (a .carts)) (now (a .messages)) (now (a .lines)) (now (a .texts))) (a .next) d (w .0 .0) (w .0 .1 .0) (w .1))) in
-    (asks .1, asks .2)
 
 enum-known-next-2 : tie.Need-enum-known-next-2
 enum-known-next-2 c = search needs
 
 radio-into-requires : tie.Need-radio-into-requires
 radio-into-requires c κs =
-    let chosen = c .before .before .before .before .before .before in
-    let start = chosen .before .before .before .before .before .before .before .before in
+    let start = c .before .before .before .before .before .before .before .before .before .before .before .before .before .before in
     let a = start .args in
     let P = start .pre .0 .0 in
-    let d = start .pre .0 .1 in
-    let w = chosen .next2 .given in
-    (P, radio-ready (lent P (now (a .stations)) (now (a .carts)) (now (a .messages)) (now (a .lines)) (now (a .texts))) (a .next) d (w .0 .0) (w .0 .1 .0) (w .1))
+    let w = c .before .before .before .before .before .before .next2 .given in
+    (P, radio-ready (lent P (now (a .stations)) (now (a .carts)) (now (a .messages)) (now (a .lines)) (now (a .texts))) (a .next) (start .pre .0 .1) (w .0 .0) (w .0 .1 .0) (w .1))
 
 records-of-requires-2 : tie.Need-records-of-requires-2
 records-of-requires-2 c κs = search needs
-
-renewed-requires-2 : tie.Need-renewed-requires-2
-renewed-requires-2 c κs =
-    let heard = c .before .before .before .before .before .before .before .before .before .before in
-    let chosen = heard .before .before .before .before .before .before .before in
-    let start = chosen .before .before .before .before .before .before .before .before in
-    let a = start .args in
-    let P = start .pre .0 .0 in
-    let d = start .pre .0 .1 in
-    let w = chosen .next2 .given in
-    there-asks (lent P (now (a .stations)) (now (a .carts)) (now (a .messages)) (now (a .lines)) (now (a .texts))) (a .next) d (w .0 .0) (w .0 .1 .0) (w .1) _ (heard .radio-into .result) _ _ (heard .radio-into .ensures P (radio-ready (lent P (now (a .stations)) (now (a .carts)) (now (a .messages)) (now (a .lines)) (now (a .texts))) (a .next) d (w .0 .0) (w .0 .1 .0) (w .1)))
 
 enum-told : tie.Need-enum-told
 enum-told c = search needs
@@ -89,16 +51,14 @@ same-length-4 c = search needs
 
 returns : tie.Need-returns
 returns c =
-    let counted = c .before in
-    let off = counted .before .before in
-    let wired = off .before .before .before .before .before .before .before .before .before .before in
-    let chosen = wired .before .before .before .before .before .before in
-    let start = chosen .before .before .before .before .before .before .before .before in
+    let wired = c .before .before .before .before .before .before .before .before .before in
+    let start = c .before .before .before .before .before .before .before .before .before .before .before .before .before .before .before .before .before .before .before .before .before .before .before in
     let a = start .args in
-    let w = chosen .next .given in
+    let w = c .before .before .before .before .before .before .before .before .before .before .before .before .before .before .before .next .given in
     λ P e d q.
-    wire-comes (lent P (now (a .stations)) (now (a .carts)) (now (a .messages)) (now (a .lines)) (now (a .texts))) (a .next) d (w .0 .0) (w .0 .1 .0) (w .1) _ (wired .wire .result) (wired .wire .ensures P (wire-ready (lent P (now (a .stations)) (now (a .carts)) (now (a .messages)) (now (a .lines)) (now (a .texts))) (a .next) d (w .0 .0) (w .0 .1 .0) (w .1)))
-    (now (a .buffer)) _ _ _ _ (off .taken-off .ensures) (counted .records-of .ensures) (c .renewed .ensures) e q
+    wire-comes (lent P (now (a .stations)) (now (a .carts)) (now (a .messages)) (now (a .lines)) (now (a .texts))) (a .next) d (w .0 .0) (w .0 .1 .0) (w .1) _ (wired .wire .result)
+    (wired .wire .ensures P (wire-ready (lent P (now (a .stations)) (now (a .carts)) (now (a .messages)) (now (a .lines)) (now (a .texts))) (a .next) d (w .0 .0) (w .0 .1 .0) (w .1)))
+    (now (a .buffer)) _ (c .records-of .ensures) e q
 
 same-length-5 : tie.Need-same-length-5
 same-length-5 c = search needs
@@ -117,15 +77,14 @@ same-length-9 c = search needs
 
 returns-2 : tie.Need-returns-2
 returns-2 c =
-    let counted = c .before in
-    let heard = counted .before .before .before .before .before .before .before .before .before .before in
-    let chosen = heard .before .before .before .before .before .before .before in
-    let start = chosen .before .before .before .before .before .before .before .before in
+    let heard = c .before .before .before .before .before .before .before .before .before in
+    let start = c .before .before .before .before .before .before .before .before .before .before .before .before .before .before .before .before .before .before .before .before .before .before .before .before in
     let a = start .args in
-    let w = chosen .next2 .given in
+    let w = c .before .before .before .before .before .before .before .before .before .before .before .before .before .before .before .before .next2 .given in
     λ P e d q.
-    radio-comes (lent P (now (a .stations)) (now (a .carts)) (now (a .messages)) (now (a .lines)) (now (a .texts))) (a .next) d (w .0 .0) (w .0 .1 .0) (w .1) _ (heard .radio-into .result) _ _ (heard .radio-into .ensures P (radio-ready (lent P (now (a .stations)) (now (a .carts)) (now (a .messages)) (now (a .lines)) (now (a .texts))) (a .next) d (w .0 .0) (w .0 .1 .0) (w .1)))
-    (start .pre .1) _ _ _ (counted .records-of2 .ensures) (c .renewed2 .ensures) e q
+    radio-comes (lent P (now (a .stations)) (now (a .carts)) (now (a .messages)) (now (a .lines)) (now (a .texts))) (a .next) d (w .0 .0) (w .0 .1 .0) (w .1) _ (heard .radio-into .result) _ _
+    (heard .radio-into .ensures P (radio-ready (lent P (now (a .stations)) (now (a .carts)) (now (a .messages)) (now (a .lines)) (now (a .texts))) (a .next) d (w .0 .0) (w .0 .1 .0) (w .1)))
+    (start .pre .1) _ (c .records-of2 .ensures) e q
 
 returns-3 : tie.Need-returns-3
 returns-3 c =
@@ -138,13 +97,10 @@ take-step-spec =
     (tie.spec
     enum-known-next
     wire-requires
-    taken-off-requires
     records-of-requires
-    renewed-requires
     enum-known-next-2
     radio-into-requires
     records-of-requires-2
-    renewed-requires-2
     enum-told
     same-length
     same-length-2
