@@ -8,7 +8,7 @@ use lib.ListN.{drop, length, replicate, take}
 use borrow.Author.Tests.{ne-eqb}
 use Rattle.protocol.specs.Folds.{count, every, first, listOf, sum}
 use Rattle.protocol.specs.CartSets.{has, minus, setOf, union, with, without}
-use Rattle.protocol.specs.Floor.{Floor, limits, unstarted}
+use Rattle.protocol.specs.Floor.{Floor, Limits, kit, limits, limitsOf, unstarted}
 use Rattle.protocol.specs.Events.{Answer, Event}
 use Rattle.protocol.specs.Order.{placeIn}
 use Rattle.protocol.specs.Handoff.{arrive, bufferedFor, catchUp, catchUpEach, catchUpStop, climb, deepest, largestPlace, onEnter, onFlag, onMove, onRegister, passedOver, placeGiven, roomOf, struck}
@@ -30,39 +30,39 @@ use Rattle.protocol.proofs.QuietCall.{call-runs, else-runs}
 
 -- The starred examples, by computation.
 -- what is computed for a row: with refusal 5 read off the mark
-unfoldable pub quickOutcome : Given → Shown
-quickOutcome (frames octets) = printed (quickLines limits (suc (length octets)) unstarted 0 octets)
-quickOutcome (framesOn F octets) = printed (quickLines limits (suc (length octets)) F 0 octets)
-quickOutcome (events F es hidden) = answered (drop hidden (quickAnswers limits F es))
-quickOutcome (after F es) = holds (heldOn (quickFloor limits F es))
-quickOutcome (form F) = passes (passesForm limits F)
+unfoldable pub quickOutcome : Limits → Given → Shown
+quickOutcome M (frames octets) = printed (quickLines M (suc (length octets)) unstarted 0 octets)
+quickOutcome M (framesOn F octets) = printed (quickLines M (suc (length octets)) F 0 octets)
+quickOutcome M (events F es hidden) = answered (drop hidden (quickAnswers M F es))
+quickOutcome M (after F es) = holds (heldOn M (quickFloor M F es))
+quickOutcome M (form F) = passes (passesForm M F)
 
 -- a row's floor, where it is started, passes the form rule
-abbrev pub ReadyFor : Given → Type 0
-ReadyFor (frames octets) = Unit {0}
-ReadyFor (framesOn F octets) = Ready limits F
-ReadyFor (events F es hidden) = Ready limits F
-ReadyFor (after F es) = Ready limits F
-ReadyFor (form F) = Unit {0}
+abbrev pub ReadyFor : Limits → Given → Type 0
+ReadyFor M (frames octets) = Unit {0}
+ReadyFor M (framesOn F octets) = Ready M F
+ReadyFor M (events F es hidden) = Ready M F
+ReadyFor M (after F es) = Ready M F
+ReadyFor M (form F) = Unit {0}
 
-from-unstarted : Ready limits unstarted
-from-unstarted = ready-unstarted limits unstarted refl
+from-unstarted : {M : Limits} → Ready M unstarted
+from-unstarted {M} = ready-unstarted M unstarted refl
 
-quick-outcome : (g : Given) → ReadyFor g → outcome g ≡ quickOutcome g
+quick-outcome : (M : Limits) (g : Given) → ReadyFor M g → outcome M g ≡ quickOutcome M g
 unfolding outcome quickOutcome printedRun
-quick-outcome (frames octets) R = ap printed (quick-lines limits (suc (length octets)) unstarted 0 octets from-unstarted)
-quick-outcome (framesOn F octets) R = ap printed (quick-lines limits (suc (length octets)) F 0 octets R)
-quick-outcome (events F es hidden) R = ap (λ (l : List Answer). answered (drop hidden l)) (quick-answers limits F es R)
-quick-outcome (after F es) R = ap (λ (X : Floor). holds (heldOn X)) (quick-floor limits F es R)
-quick-outcome (form F) R = refl
+quick-outcome M (frames octets) R = ap printed (quick-lines M (suc (length octets)) unstarted 0 octets from-unstarted)
+quick-outcome M (framesOn F octets) R = ap printed (quick-lines M (suc (length octets)) F 0 octets R)
+quick-outcome M (events F es hidden) R = ap (λ (l : List Answer). answered (drop hidden l)) (quick-answers M F es R)
+quick-outcome M (after F es) R = ap (λ (X : Floor). holds (heldOn M X)) (quick-floor M F es R)
+quick-outcome M (form F) R = refl
 
 abbrev pub AllReady : List Row → Type 0
 AllReady [] = Unit {0}
-AllReady (r ∷ rows) = ReadyFor (r .given) × AllReady rows
+AllReady (r ∷ rows) = ReadyFor (r .within) (r .given) × AllReady rows
 
-quick-table : (rows : List Row) → AllReady rows → map (λ r. outcome (r .given)) rows ≡ map (λ r. quickOutcome (r .given)) rows
+quick-table : (rows : List Row) → AllReady rows → map (λ r. outcome (r .within) (r .given)) rows ≡ map (λ r. quickOutcome (r .within) (r .given)) rows
 quick-table [] R = refl
-quick-table (r ∷ rows) R = ap₂ (λ (x : Shown) (l : List Shown). x ∷ l) (quick-outcome (r .given) (R .0)) (quick-table rows (R .1))
+quick-table (r ∷ rows) R = ap₂ (λ (x : Shown) (l : List Shown). x ∷ l) (quick-outcome (r .within) (r .given) (R .0)) (quick-table rows (R .1))
 
 near-the-last-passes : passesForm limits nearTheLast ≡ true
 unfolding passesForm test every has count sum roomOf first listOf
@@ -94,7 +94,7 @@ no-text-blank =
       lines = record { below = λ i j h. refl; right = λ i j h. refl };
     }
 
-computed : map (λ r. quickOutcome (r .given)) examples ≡ map (λ r. r .shown) examples
+computed : map (λ r. quickOutcome (r .within) (r .given)) examples ≡ map (λ r. r .shown) examples
 unfolding quickOutcome quickLines quickAnswers quickFloor quickStep quickAnswer refusalIf accept frameOf frameRefusal fieldsRefusal fieldsOf bigEndian unlisted eventOf restOf lineOf decimal decimalDigits hexadecimal onEnter onFlag onSend onWire onRadio onMove handle onMulticast multicastByRow onAckList onDelete onDeregister bufferedRooms inOrder insert isComplete testEach listsSent leave onRegister arrive passedOver deepest largestPlace placeGiven placeOfNew placeIn catchUpEach catchUp catchUpStop climb bufferedFor roomOf freeRoom struck withMessage buffer receive sendAcks allAcked handOver queueHead headAmong neverEntered passesForm test every count sum first listOf has union minus with without setOf
 computed = refl
 
@@ -105,18 +105,24 @@ no-text : Ready limits holdsNoText
 no-text s = (no-text-blank, no-text-passes)
 
 -- THE TABLE
-pub table-holds : map (λ r. outcome (r .given)) examples ≡ map (λ r. r .shown) examples
+pub table-holds : map (λ r. outcome (r .within) (r .given)) examples ≡ map (λ r. r .shown) examples
 table-holds =
-    quick-table examples (tt, (from-unstarted, (from-unstarted, (from-unstarted, (from-unstarted, (from-unstarted, (tt, (near-the-last, (from-unstarted, (from-unstarted, (from-unstarted, (from-unstarted, (tt, (no-text, (no-text, (no-text, (from-unstarted, tt)))))))))))))))))
+    quick-table examples (tt, (u, (u, (u, (u, (u, (tt, (near-the-last, (u, (u, (u, (u, (tt, (no-text, (no-text, (no-text, (u, (k, (k, (k, (tt, (tt, tt))))))))))))))))))))))
     ∙ computed
+  where
+    u : Ready limits unstarted
+    u = from-unstarted
+
+    k : Ready (limitsOf kit) unstarted
+    k = from-unstarted
 
 -- THE CART THAT ROLLS AWAY
-rolls-away : heldOn (quickFloor limits unstarted rollsAway) ≡ 0
+rolls-away : heldOn limits (quickFloor limits unstarted rollsAway) ≡ 0
 unfolding quickFloor quickStep refusalIf accept onEnter onFlag onSend onWire onRadio onMove handle onMulticast multicastByRow onAckList onDelete onDeregister bufferedRooms inOrder insert isComplete testEach listsSent leave onRegister arrive passedOver deepest largestPlace placeGiven placeOfNew placeIn catchUpEach catchUp catchUpStop climb bufferedFor roomOf freeRoom struck withMessage buffer receive sendAcks allAcked handOver queueHead headAmong neverEntered every count sum first listOf has union minus with without setOf
 rolls-away = refl
 
-pub rolled-away : heldOn (floorAfter limits unstarted rollsAway) ≡ 0
-rolled-away = ap (λ (X : Floor). heldOn X) (quick-floor limits unstarted rollsAway from-unstarted) ∙ rolls-away
+pub rolled-away : heldOn limits (floorAfter limits unstarted rollsAway) ≡ 0
+rolled-away = ap (λ (X : Floor). heldOn limits X) (quick-floor limits unstarted rollsAway from-unstarted) ∙ rolls-away
 
 -- THE SAME RUN CLOSED once the cart has greeted its new station: the dispatcher's events, and the buffer that they leave
 closing : Floor

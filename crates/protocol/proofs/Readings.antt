@@ -1,24 +1,27 @@
 use mathlib.Core.Path.{ap, refl, _∙_, _≡_}
-use mathlib.Core.Bool.{Bool, false, not, true}
+use mathlib.Core.Bool.{_&&_, Bool, false, not, true}
+use mathlib.Core.Logic.{_⊎_, inl, inr}
 use mathlib.Core.Option.{none, some}
 use mathlib.Core.List.{_++_, List, [], _∷_}
 use Prim.Native.Nat.{_+_, _/_, _<_, suc, zero, ℕ, _≤_}
 use native.Mathlib.Omega.{arith}
-use lib.Dec.{eqb}
-use borrow.Author.Tests.{eqb-true, le-ltb, ne-eqb, not-true}
+use lib.Dec.{eqb, leb, ltb}
+use lib.ListN.{length}
+use borrow.Author.Tests.{eqb-true, le-ltb, lt-leb, ne-eqb, not-true}
+use Rattle.protocol.specs.Folds.{isEmpty}
 use Rattle.protocol.specs.CartSets.{has, union}
-use Rattle.protocol.specs.Floor.{Floor, Limits, Place, ackList, at, entered, isAt, isLocal, register, setPlace, setTexts}
-use Rattle.protocol.specs.Events.{Done, flag, radio, send}
+use Rattle.protocol.specs.Floor.{Floor, Limits, Place, ackList, at, entered, isAt, isHeld, isLocal, register, setPlace, setTexts}
+use Rattle.protocol.specs.Events.{Done, flag, radio, send, start}
 use Rattle.protocol.specs.Order.{placeIn}
 use Rattle.protocol.specs.Handoff.{arrive, catchUp, catchUpEach, catchUpStop, entryOf, onMove, onRegister, roomOf, rowOf, struck, withRow}
-use Rattle.protocol.specs.Wired.{buffer, localRow, multicastByRow, onAckList, placeOfNew}
+use Rattle.protocol.specs.Wired.{buffer, freeRoom, localRow, multicastByRow, onAckList, placeOfNew}
 use Rattle.protocol.specs.Wireless.{allAcked, handOver, receive, sendAcks, sendAcksIfAll, standsBefore}
 use Rattle.protocol.specs.Deregister.{bufferedRooms, isComplete, leave, onDeregister, sendIfComplete, testEach}
 use Rattle.protocol.specs.Claims.{True}
 use Rattle.protocol.specs.Form.{formRule}
 use Rattle.protocol.specs.Refusals.{neverEntered, noCart, noStation, refusalIf, strangers}
 use Rattle.protocol.specs.Frames.{Fields, fieldsRefusal, unlisted}
-use Rattle.protocol.proofs.Tests.{and-false, and-left, and-right, by-lt, by-option, by-test, clash, eqb-self, on-cond, on-option, or-right}
+use Rattle.protocol.proofs.Tests.{and-false, and-left, and-right, by-lt, by-option, by-test, clash, eqb-self, first-nowhere, on-cond, on-option, or-right}
 use Rattle.protocol.proofs.SetLaws.{has-setOf, has-with, has-without}
 
 -- "Readings that lose or double a correction": for each of them, what the written steps do instead. Behind them, for each later request, the
@@ -178,3 +181,23 @@ deregister-keeps-flags M F i t c = test-keeps-flags (leave F i t c) t (bufferedR
 pub move-keeps-flags : (F : Floor) (c to : ℕ) → onMove F c to .floor .steady ≡ F .steady
 unfolding onMove
 move-keeps-flags F c to = refl
+
+-- THE DEMONSTRATION CASE: "Refusals 5 .., 7 and 14 use the caller's limits"
+
+-- more stations than the caller's, or more carts
+pub too-large-is-7 : (M : Limits) (F : Floor) (broken : Bool) (n k : ℕ) → F .lengthsRight ≡ true → F .started ≡ false
+    → (M .stations < n) ⊎ (M .carts < k)
+    → refusalIf M F broken (start n k) ≡ 7
+unfolding refusalIf
+too-large-is-7 M F broken n k lengths fresh (inl l) = rw (lengths, fresh, lt-leb n (M .stations) l, and-false (ltb 0 n))
+too-large-is-7 M F broken n k lengths fresh (inr l) =
+    rw (lengths, fresh, lt-leb k (M .carts) l, and-false (ltb 0 k), and-false (ltb 0 n && leb n (M .stations)))
+
+-- as many messages held as the caller may hold
+pub none-free-is-14 : (M : Limits) (F : Floor) (s set : ℕ) (text : List ℕ) → length text ≤ M .text → noStation F s ≡ false → strangers F set ≡ false
+    → eqb set 0 ≡ false → neverEntered F set ≡ false → isEmpty text ≡ false → F .sent s ≤ M .last → ((m : ℕ) → m < M .held → isHeld F m ≡ true)
+    → refusalIf M F false (send s set text) ≡ 14
+unfolding refusalIf freeRoom
+none-free-is-14 M F s set text a4 a8 a9 a11 a12 a24 a13 full =
+    let taken : freeRoom M F ≡ none = first-nowhere (M .held) (λ m. eqb (F .waiting m) 0) (λ m l. not-true (eqb (F .waiting m) 0) (full m l)) in
+    rw (le-ltb (M .text) (length text) a4, a8, a9, a11, a12, a24, le-ltb (M .last) (F .sent s) a13, taken)

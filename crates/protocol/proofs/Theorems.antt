@@ -1,5 +1,6 @@
 use mathlib.Core.Path.{_≡_, ap, refl, subst, sym, _∙_}
 use mathlib.Core.Bool.{_&&_, Bool, cond, false, not, true, _||_}
+use mathlib.Core.Logic.{_⊎_}
 use mathlib.Core.Option.{none, some}
 use mathlib.Core.List.{_++_, List, [], map, _∷_}
 use Prim.Native.Nat.{_*_, _+_, _-_, _<_, _^_, max, suc, ℕ, _≤_}
@@ -30,7 +31,7 @@ use Rattle.protocol.specs.Ranges.{InRange, NumbersBelow, Wide}
 use Rattle.protocol.specs.Examples.{examples, heldOn, outcome, rollsAway}
 use Rattle.protocol.proofs.Tests.{by-eq, clash, on-cond}
 use Rattle.protocol.proofs.InOrder.{deregister-counts, none-stays, tested-once}
-use Rattle.protocol.proofs.Readings.{arrive-keeps-flags, deregister-keeps-flags, form-without-texts, move-keeps-flags, never-entered-is-12, never-in-is-18, no-cart-is-9, no-text-is-24, not-here-is-16, other-flag-is-3, places-not-asked, register-is-last, register-keeps-flags, row-kept, row-of-local, unsteady-is-25}
+use Rattle.protocol.proofs.Readings.{arrive-keeps-flags, deregister-keeps-flags, form-without-texts, move-keeps-flags, never-entered-is-12, never-in-is-18, no-cart-is-9, no-text-is-24, none-free-is-14, not-here-is-16, other-flag-is-3, places-not-asked, register-is-last, register-keeps-flags, row-kept, row-of-local, too-large-is-7, unsteady-is-25}
 use Rattle.protocol.proofs.Accepted.{MayWire, accepted-passes, accepted-report, may-move, may-radio, may-send, may-wire, passed-check}
 use Rattle.protocol.proofs.Demand3.{nothing, rule-after, started-ok}
 use Rattle.protocol.proofs.Counting.{sum-ext, sum-term}
@@ -196,13 +197,9 @@ record-bound M F B h =
 pub floor-records : (F : Floor) → BlankBeyond limits F → passesForm limits F ≡ true → onTheLines (F .stations) (F .lines) ≤ 3136
 floor-records F B h = record-bound limits F B h
 
--- the limits of a small floor
-abbrev pub small : ℕ → ℕ → Limits
-small last text = record { stations = 4; carts = 8; held = 8; last = last; text = text; columns = 16; fits = omega arith }
-
--- of 4 stations, 8 carts and 8 held messages: at most 136 records
-pub small-floor-records : (last text : ℕ) (F : Floor) → BlankBeyond (small last text) F → passesForm (small last text) F ≡ true → onTheLines (F .stations) (F .lines) ≤ 136
-small-floor-records last text F B h = record-bound (small last text) F B h
+-- the kit: "at most 8 × (4 + 4 + 8) + 8 = 136 line records"
+pub kit-records : (F : Floor) → BlankBeyond (limitsOf kit) F → passesForm (limitsOf kit) F ≡ true → onTheLines (F .stations) (F .lines) ≤ 136
+kit-records F B h = record-bound (limitsOf kit) F B h
 
 -- one line has no more records than all lines
 pub one-line : (n : ℕ) (lines : ℕ → ℕ → List Record) (i j : ℕ) → i < n → j < n → length (lines i j) ≤ onTheLines n lines
@@ -346,7 +343,7 @@ pub deregister-w : (M : Limits) (F : Floor) (i t c : ℕ) → onDeregister M F i
 deregister-w M F i t c = deregister-counts M F i t c
 
 -- "Two carts are local and named. One receives; the other rolls away before it does": in the end nothing is held
-pub rolls-away-deleted : heldOn (floorAfter limits unstarted rollsAway) ≡ 0
+pub rolls-away-deleted : heldOn limits (floorAfter limits unstarted rollsAway) ≡ 0
 rolls-away-deleted = rolled-away
 
 -- HOLD WHILE THE VACUUM SETTLES
@@ -572,6 +569,22 @@ pub closing-rolls-away : (quietEvents limits (floorAfter limits unstarted (take 
     × (quietCall limits (floorAfter limits unstarted (take 8 rollsAway)) (replicate 32 0) .buffer ≡ 0xa1 ∷ replicate 31 0))
 closing-rolls-away = closed
 
--- THE EXAMPLES: "The starred examples are gathered as rows of a single proved table over the written steps"
-pub examples-hold : map (λ r. outcome (r .given)) examples ≡ map (λ r. r .shown) examples
+-- THE DEMONSTRATION CASE: "a second caller of the same steps with its own limits". Every theorem above that takes M is the kit's at `limitsOf kit`,
+-- the three demands among them; `kit-records` and `kit-quiet-bound` are its numbers
+
+-- "Refusals 5 .., 7 and 14 use the caller's limits": 7, by the stations and carts of the caller
+pub size-by-limits : (M : Limits) (F : Floor) (n k : ℕ) → F .lengthsRight ≡ true → F .started ≡ false → (M .stations < n) ⊎ (M .carts < k)
+    → answer M F (start n k) ≡ refused 7
+unfolding answer refusal
+size-by-limits M F n k lengths fresh above = rw (too-large-is-7 M F (not (passesForm M F)) n k lengths fresh above)
+
+-- 14, by the messages that the caller may hold: on a floor that passes, a send that passes all other checks finds that many held
+pub full-by-limits : (M : Limits) (F : Floor) (s set : ℕ) (text : List ℕ) → passesForm M F ≡ true → length text ≤ M .text → noStation F s ≡ false
+    → strangers F set ≡ false → eqb set 0 ≡ false → neverEntered F set ≡ false → isEmpty text ≡ false → F .sent s ≤ M .last
+    → ((m : ℕ) → m < M .held → isHeld F m ≡ true) → answer M F (send s set text) ≡ refused 14
+full-by-limits M F s set text h a4 a8 a9 a11 a12 a24 a13 full =
+    refused-with M F (send s set text) 14 (omega arith) h (none-free-is-14 M F s set text a4 a8 a9 a11 a12 a24 a13 full)
+
+-- THE EXAMPLES: "The starred examples are gathered as rows of a single proved table over the written steps", each row within its own limits
+pub examples-hold : map (λ r. outcome (r .within) (r .given)) examples ≡ map (λ r. r .shown) examples
 examples-hold = table-holds

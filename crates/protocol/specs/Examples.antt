@@ -1,12 +1,13 @@
--- THE STARRED EXAMPLES K1 to K10, and further ones of a message with no text and of places in rising order, as rows of one table.
-use mathlib.Core.Bool.{Bool, true, cond, _&&_}
+-- THE STARRED EXAMPLES K1 to K10, and further ones of a message with no text, of places in rising order and of the demonstration kit, as rows of
+-- one table.
+use mathlib.Core.Bool.{Bool, true, false, cond, _&&_}
 use mathlib.Core.List.{List, [], _∷_, _++_}
 use Prim.Native.Nat.{ℕ, zero, suc}
 use Prim.Native.Char.{code}
 use Prim.Native.String.{String, [] as endOfText, _∷_ as _then_}
 use lib.Dec.{eqb}
 use lib.ListN.{length, drop, replicate}
-use Rattle.protocol.specs.Floor.{limits, outside, at, Floor, unstarted}
+use Rattle.protocol.specs.Floor.{Limits, limitsOf, limits, kit, outside, at, Floor, justStarted, unstarted}
 use Rattle.protocol.specs.Events.{Event, start, enter, send, wire, radio, move, Answer, refused, accepted}
 use Rattle.protocol.specs.Form.{passesForm}
 use Rattle.protocol.specs.Step.{floorAfter, answers}
@@ -29,22 +30,23 @@ pub data Shown : Type 0 where
   holds : ℕ → Shown
   passes : Bool → Shown
 
--- a row of the table
+-- a row of the table, and within which limits it is: the floor's or the kit's
 pub record Row : Type 0 where
+  pub within : Limits
   pub given : Given
   pub shown : Shown
 
 -- how many messages a floor holds
-abbrev pub heldOn : Floor → ℕ
-heldOn = heldCount limits
+abbrev pub heldOn : Limits → Floor → ℕ
+heldOn M F = heldCount M F
 
 -- what the written steps say of it
-unfoldable pub outcome : Given → Shown
-outcome (frames octets) = printed (printedRun limits octets)
-outcome (framesOn F octets) = printed (linesFrom limits (suc (length octets)) F 0 octets)
-outcome (events F es hidden) = answered (drop hidden (answers limits F es))
-outcome (after F es) = holds (heldOn (floorAfter limits F es))
-outcome (form F) = passes (passesForm limits F)
+unfoldable pub outcome : Limits → Given → Shown
+outcome M (frames octets) = printed (printedRun M octets)
+outcome M (framesOn F octets) = printed (linesFrom M (suc (length octets)) F 0 octets)
+outcome M (events F es hidden) = answered (drop hidden (answers M F es))
+outcome M (after F es) = holds (heldOn M (floorAfter M F es))
+outcome M (form F) = passes (passesForm M F)
 
 -- the octets of a text
 abbrev pub octetsOf : String → List ℕ
@@ -65,6 +67,7 @@ yes kind a b p w q text = accepted (record { kind = kind; a = a; b = b; p = p; w
 abbrev pub K1 : Row
 K1 =
     record {
+      within = limits;
       given = frames
           (frame 0x01 0x00 0x00 0 ++ frame 0x10 0x00 0x00 0 ++ frame 0x21 0x00 0x01 1 ++ (0xa1 ∷ []) ++ frame 0x31 0x00 0x40 0 ++ frame 0x50 0x00 0x40 0 ++ frame 0x31 0x00 0x00 0
           ++ frame 0x40 0x00 0x00 0 ++ frame 0x31 0x00 0x00 0 ++ frame 0x30 0x00 0x40 0 ++ frame 0x41 0x00 0x00 0 ++ frame 0x31 0x00 0x40 0 ++ frame 0x31 0x00 0x00 0 ++ frame 0x31 0x00 0x40 0);
@@ -72,9 +75,13 @@ K1 =
           (octetsOf "0 0 2 1 0 0 0\n1 1 0 0 0 0 0\n2 2 1 0 0 2 0\n3 3 1 0 0 0 0\n4 5 0 1 0 1 0\n5 3 1 0 0 0 1\n6 no 16\n7 3 4 0 0 1 0\n8 3 5 0 0 0 1\n9 4 1 0 0 1 0 a1\n10 3 2 0 0 2 0\n11 3 3 0 0 0 0\n12 3 3 0 0 0 0\n");
     }
 
--- a row of events from a floor not yet started
+-- a row of events within such limits, from a floor not yet started
+abbrev pub askWithin : Limits → List Event → ℕ → List Answer → Row
+askWithin M es hidden shown = record { within = M; given = events unstarted es hidden; shown = answered shown }
+
+-- within the floor's
 abbrev pub ask : List Event → ℕ → List Answer → Row
-ask es hidden shown = record { given = events unstarted es hidden; shown = answered shown }
+ask es hidden shown = askWithin limits es hidden shown
 
 -- an event so many times
 abbrev pub times : ℕ → Event → List Event
@@ -131,11 +138,11 @@ nearTheLast =
 
 -- it "passes the form rule"
 abbrev pub K6form : Row
-K6form = record { given = form nearTheLast; shown = passes true }
+K6form = record { within = limits; given = form nearTheLast; shown = passes true }
 
 -- "K6. Number 65,534 accepted, the next send is 13"
 abbrev pub K6 : Row
-K6 = record { given = events nearTheLast (send0 ∷ send0 ∷ []) 0; shown = answered (yes 2 0 65534 0 1 0 [] ∷ refused 13 ∷ []) }
+K6 = record { within = limits; given = events nearTheLast (send0 ∷ send0 ∷ []) 0; shown = answered (yes 2 0 65534 0 1 0 [] ∷ refused 13 ∷ []) }
 
 -- 32 messages held, by one station, for one cart
 abbrev pub full : List Event
@@ -200,30 +207,50 @@ holdsNoText =
 
 -- "The form rule still admits them"
 abbrev pub noTextForm : Row
-noTextForm = record { given = form holdsNoText; shown = passes true }
+noTextForm = record { within = limits; given = form holdsNoText; shown = passes true }
 
 -- "handed out, acknowledged and deleted, and still print -": radio 0, cart 0; wire 0→0 twice. Then a send from 0 to {0} with length 0, which "is
 -- now turned away"
 abbrev pub noText : Row
 noText =
     record {
+      within = limits;
       given = framesOn holdsNoText (frame 0x40 0x00 0x00 0 ++ frame 0x30 0x00 0x00 0 ++ frame 0x30 0x00 0x00 0 ++ frame 0x20 0x00 0x00 1);
       shown = printed (octetsOf "0 4 0 0 0 1 0 -\n1 3 2 0 0 1 0\n2 3 3 0 0 0 0\n3 no 24\n");
     }
 
 -- acknowledged, it is still held
 abbrev pub noTextHeld : Row
-noTextHeld = record { given = after holdsNoText (radio 0 0 32 ∷ wire 0 0 ∷ []); shown = holds 1 }
+noTextHeld = record { within = limits; given = after holdsNoText (radio 0 0 32 ∷ wire 0 0 ∷ []); shown = holds 1 }
 
 -- deleted, it is not, and its room is free
 abbrev pub noTextGone : Row
-noTextGone = record { given = after holdsNoText (radio 0 0 32 ∷ wire 0 0 ∷ wire 0 0 ∷ []); shown = holds 0 }
+noTextGone = record { within = limits; given = after holdsNoText (radio 0 0 32 ∷ wire 0 0 ∷ wire 0 0 ∷ []); shown = holds 0 }
+
+-- THE DEMONSTRATION KIT: "at most 4 stations, 8 carts and 8 held messages"; "Refusals 5 (form rule ..), 7 and 14 use the caller's limits"
+
+-- 4 stations and 8 carts are accepted
+abbrev pub kitLargest : Row
+kitLargest = askWithin (limitsOf kit) (start 4 8 ∷ []) 0 (yes 0 4 8 0 0 0 [] ∷ [])
+
+-- 7: 5 stations, or 9 carts
+abbrev pub kitTooLarge : Row
+kitTooLarge = askWithin (limitsOf kit) (start 5 8 ∷ start 4 9 ∷ []) 0 (refused 7 ∷ refused 7 ∷ [])
+
+-- 14: the ninth held message
+abbrev pub kitFull : Row
+kitFull = askWithin (limitsOf kit) (start 1 1 ∷ enter 0 0 ∷ times 9 send0) 9 (yes 2 0 7 0 1 0 [] ∷ refused 14 ∷ [])
+
+-- 5, the form rule: a floor of 5 stations, which passes within the floor's limits, does not within the kit's
+abbrev pub startedWithin : Limits → Bool → Row
+startedWithin M isRight = record { within = M; given = form (justStarted 5 8); shown = passes isRight }
 
 -- THE TABLE: "The starred examples are gathered as rows of a single proved table over the written steps"
 abbrev pub examples : List Row
 examples =
     K1 ∷ K2 ∷ K3 ∷ K4 (wire 0 0) (wire 1 0) ∷ K4 (wire 1 0) (wire 0 0) ∷ K5 ∷ K6form ∷ K6 ∷ K7 ∷ K8 ∷ K9 ∷ K10
-    ∷ noTextForm ∷ noText ∷ noTextHeld ∷ noTextGone ∷ rising ∷ []
+    ∷ noTextForm ∷ noText ∷ noTextHeld ∷ noTextGone ∷ rising
+    ∷ kitLargest ∷ kitTooLarge ∷ kitFull ∷ startedWithin (limitsOf kit) false ∷ startedWithin limits true ∷ []
 
 -- A RUN OF WHICH A THEOREM SPEAKS: "Two carts are local and named. One receives; the other rolls away before it does." Its deregister sends the
 -- first cart's acknowledgement on; it receives at its new station, and every record is handled
