@@ -4,29 +4,22 @@ use dispatcher::Quiet;
 use event_answers::Answer;
 use ids::CartNumber;
 use ids::Station;
-ghost use mathlib.Core.Path.{_≡_};
+use products::Bounds;
 ghost use mathlib.Core.List.{[]};
-ghost use Rattle.protocol.specs.Floor.{kit, limitsOf};
+ghost use Rattle.protocol.specs.Floor.{kit};
 ghost use Rattle.protocol.specs.Events.{start, enter, send, wire, move, flag};
-ghost use Rattle.protocol.specs.Form.{passesForm};
-ghost use Rattle.view.specs.View.{lent, floorIn};
+ghost use Rattle.products.specs.Numbers.{Fits, NumbersOf};
+ghost use Rattle.view.specs.View.{lent};
 ghost use Rattle.event_answers.specs.Answers.{answerIn};
 ghost use Rattle.event_answers.specs.Met.{Met};
 ghost use Rattle.event_answers.specs.Delivered.{Delivered};
 ghost use Rattle.dispatcher.specs.Called.{QuietMet};
 
-// The lent floor passes the form rule.
-fn passes(stations: &[u64], carts: &[u64], messages: &[u64], lines: &[u64], texts: &[u8]) -> bool
-    ensures { λ r. ⌜ r ≡ passesForm (limitsOf kit) (floorIn (lent kit (now (stations .entry)) (now (carts .entry)) (now (messages .entry)) (now (lines .entry)) (now (texts .entry)))) ⌝ }
+// The kit's limits, by which every event goes.
+fn own_bounds() -> Bounds
+    ensures { λ r. ⌜ Fits r × NumbersOf kit r ⌝ }
 {
-    form_test::passes(
-        stations,
-        carts,
-        messages,
-        lines,
-        texts,
-        products::kit_bounds(),
-    )
+    products::kit_bounds()
 }
 
 // Start, of so many stations and carts: it looks at the lengths of the lent parts, at the mark and at the two numbers, "and it writes all the
@@ -42,16 +35,7 @@ pub fn start(
 ) -> Answer
     ensures { λ a. ⌜ Met (lent kit (now (stations .entry)) (now (carts .entry)) (now (messages .entry)) (now (lines .entry)) (now (texts .entry))) (lent kit (now (stations .exit)) (now (carts .exit)) (now (messages .exit)) (now (lines .exit)) (now (texts .entry))) (start n k) (answerIn a []) ⌝ }
 {
-    event_start::start(
-        stations,
-        carts,
-        messages,
-        lines,
-        texts,
-        n,
-        k,
-        products::kit_bounds(),
-    )
+    event_start::start(stations, carts, messages, lines, texts, n, k, own_bounds())
 }
 
 // "Enter (station, cart)".
@@ -66,10 +50,16 @@ pub fn enter(
 ) -> Answer
     ensures { λ a. ⌜ Met (lent kit (now (stations .entry)) (now (carts .entry)) (now (messages .entry)) (now (lines .entry)) (now (texts .entry))) (lent kit (now (stations .exit)) (now (carts .exit)) (now (messages .entry)) (now (lines .entry)) (now (texts .entry))) (enter (station .0) (cart .0)) (answerIn a []) ⌝ }
 {
-    if !passes(stations, carts, messages, lines, texts) {
-        return Answer::Refused(5);
-    }
-    event_carts::enter(stations, carts, messages, lines, texts, station, cart)
+    tested_events::enter(
+        stations,
+        carts,
+        messages,
+        lines,
+        texts,
+        station,
+        cart,
+        own_bounds(),
+    )
 }
 
 // "Send (station, set, text)". A text longer than 32 octets is met before anything of the floor.
@@ -85,13 +75,7 @@ pub fn send(
 ) -> Answer
     ensures { λ a. ⌜ Met (lent kit (now (stations .entry)) (now (carts .entry)) (now (messages .entry)) (now (lines .entry)) (now (texts .entry))) (lent kit (now (stations .exit)) (now (carts .entry)) (now (messages .exit)) (now (lines .exit)) (now (texts .exit))) (send (station .0) set (now (text .entry))) (answerIn a []) ⌝ }
 {
-    if products::TEXT < text.len() {
-        return Answer::Refused(4);
-    }
-    if !passes(stations, carts, messages, lines, texts) {
-        return Answer::Refused(5);
-    }
-    event_send::send(
+    tested_events::send(
         stations,
         carts,
         messages,
@@ -100,7 +84,7 @@ pub fn send(
         station,
         set,
         text,
-        products::kit_bounds(),
+        own_bounds(),
     )
 }
 
@@ -116,10 +100,16 @@ pub fn wire(
 ) -> Answer
     ensures { λ a. ⌜ Met (lent kit (now (stations .entry)) (now (carts .entry)) (now (messages .entry)) (now (lines .entry)) (now (texts .entry))) (lent kit (now (stations .exit)) (now (carts .exit)) (now (messages .exit)) (now (lines .exit)) (now (texts .entry))) (wire (from .0) (to .0)) (answerIn a []) ⌝ }
 {
-    if !passes(stations, carts, messages, lines, texts) {
-        return Answer::Refused(5);
-    }
-    event_wire::wire(stations, carts, messages, lines, texts, from, to)
+    tested_events::wire(
+        stations,
+        carts,
+        messages,
+        lines,
+        texts,
+        from,
+        to,
+        own_bounds(),
+    )
 }
 
 // "Radio (station, cart)": `Delivered` says of the lent text buffer, too, what it is afterwards.
@@ -135,10 +125,7 @@ pub fn radio(
 ) -> Answer
     ensures { λ a. ⌜ Delivered (lent kit (now (stations .entry)) (now (carts .entry)) (now (messages .entry)) (now (lines .entry)) (now (texts .entry))) (lent kit (now (stations .exit)) (now (carts .exit)) (now (messages .entry)) (now (lines .exit)) (now (texts .entry))) (station .0) (cart .0) a (now (buffer .entry)) (now (buffer .exit)) ⌝ }
 {
-    if !passes(stations, carts, messages, lines, texts) {
-        return Answer::Refused(5);
-    }
-    event_radio::radio_into(
+    tested_events::radio(
         stations,
         carts,
         messages,
@@ -147,6 +134,7 @@ pub fn radio(
         station,
         cart,
         buffer,
+        own_bounds(),
     )
 }
 
@@ -162,10 +150,16 @@ pub fn move_cart(
 ) -> Answer
     ensures { λ a. ⌜ Met (lent kit (now (stations .entry)) (now (carts .entry)) (now (messages .entry)) (now (lines .entry)) (now (texts .entry))) (lent kit (now (stations .entry)) (now (carts .exit)) (now (messages .entry)) (now (lines .exit)) (now (texts .entry))) (move (cart .0) (to .0)) (answerIn a []) ⌝ }
 {
-    if !passes(stations, carts, messages, lines, texts) {
-        return Answer::Refused(5);
-    }
-    event_carts::move_cart(stations, carts, messages, lines, texts, cart, to)
+    tested_events::move_cart(
+        stations,
+        carts,
+        messages,
+        lines,
+        texts,
+        cart,
+        to,
+        own_bounds(),
+    )
 }
 
 // "A cart counts as steady from its entry until told": the cart is told steady, or not.
@@ -180,10 +174,16 @@ pub fn flag_cart(
 ) -> Answer
     ensures { λ a. ⌜ Met (lent kit (now (stations .entry)) (now (carts .entry)) (now (messages .entry)) (now (lines .entry)) (now (texts .entry))) (lent kit (now (stations .entry)) (now (carts .exit)) (now (messages .entry)) (now (lines .entry)) (now (texts .entry))) (flag (cart .0) steady) (answerIn a []) ⌝ }
 {
-    if !passes(stations, carts, messages, lines, texts) {
-        return Answer::Refused(5);
-    }
-    event_carts::flag_cart(stations, carts, messages, lines, texts, cart, steady)
+    tested_events::flag_cart(
+        stations,
+        carts,
+        messages,
+        lines,
+        texts,
+        cart,
+        steady,
+        own_bounds(),
+    )
 }
 
 // "Run the floor until it is quiet", with a lent text buffer: 5, "21 if that buffer is shorter than 32, after 5, before the first step", and then all steps
@@ -198,11 +198,13 @@ pub fn quiet(
 ) -> Quiet
     ensures { λ a. ⌜ QuietMet (lent kit (now (stations .entry)) (now (carts .entry)) (now (messages .entry)) (now (lines .entry)) (now (texts .entry))) (lent kit (now (stations .exit)) (now (carts .exit)) (now (messages .exit)) (now (lines .exit)) (now (texts .entry))) (now (buffer .entry)) (now (buffer .exit)) a ⌝ }
 {
-    if !passes(stations, carts, messages, lines, texts) {
-        return Quiet::Refused(5);
-    }
-    if buffer.len() < products::TEXT {
-        return Quiet::Refused(21);
-    }
-    Quiet::After(dispatcher::run_until_quiet(stations, carts, messages, lines, texts, buffer))
+    tested_events::quiet(
+        stations,
+        carts,
+        messages,
+        lines,
+        texts,
+        buffer,
+        own_bounds(),
+    )
 }

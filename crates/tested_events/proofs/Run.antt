@@ -15,7 +15,7 @@ use Rattle.view.specs.View.{Lent, floorIn}
 use Rattle.event_answers.specs.Met.{Met}
 use Rattle.dispatcher.specs.declared.Quiet.the-variants.{After}
 use Rattle.dispatcher.specs.Called.{QuietMet}
-use Rattle.controller.specs.Run.{Call, Calls, leftBy, listsOf, eventsOf, RunIs, EndsQuiet}
+use Rattle.tested_events.specs.Run.{Call, Calls, leftBy, listsOf, eventsOf, RunIs, EndsQuiet}
 
 -- the floor
 pub floor-of-calls : (L : Lent) (ks : List Call) → Calls L ks → floorIn (leftBy L ks) ≡ floorAfter (limitsOf (L .product)) (floorIn L) (eventsOf ks)
