@@ -1,0 +1,8 @@
+-- `controller::wire` meets its contract.
+use borrow.Author.Needs.{needs}
+use Rattle.protocol.specs.Floor.{wholeFloor}
+use Rattle.controller.proofs.wire.Statement.{statement}
+use Rattle.controller.proofs.wire.Tie as tie
+
+pub wire-spec : {M : Type 1} → statement M
+wire-spec = tie.close (tie.spec (λ c κs. search needs) (λ c κs. search needs) (λ c. search needs) (λ c. search needs) (λ c. search needs) (λ c. search needs) (λ c. c .before .before .before .before .before .before .before .before .wire .ensures wholeFloor (search needs)))
