@@ -12,6 +12,25 @@ pub const STATIONS: usize = 16;
 pub const CARTS: usize = 64;
 /// Most messages held at a time, on the whole floor.
 pub const HELD: usize = 32;
+
+/// What a product's floors have at most. The steps are the same for every product, and the records
+/// here have room for the largest.
+#[derive(Clone, Copy, Debug, PartialEq, Eq)]
+pub struct Limits {
+    pub stations: u8,
+    pub carts: u8,
+    /// Messages held at a time, on the whole floor.
+    pub held: u8,
+}
+
+impl Limits {
+    /// The floor of document 01.
+    pub const FLOOR: Limits =
+        Limits { stations: STATIONS as u8, carts: CARTS as u8, held: HELD as u8 };
+    /// "Sales carries a small kit: at most 4 stations, 8 carts and 8 held messages."
+    pub const KIT: Limits = Limits { stations: 4, carts: 8, held: 8 };
+}
+
 /// Longest text, in octets.
 pub const TEXT: usize = 32;
 /// The last number that a station gives to a message.
@@ -259,6 +278,7 @@ pub(crate) enum Record {
 /// The floor: stations, carts, held messages and lines.
 #[derive(Clone)]
 pub struct Floor {
+    pub(crate) limits: Limits,
     pub(crate) started: bool,
     pub(crate) stations: u8,
     pub(crate) carts: u8,
@@ -292,6 +312,16 @@ impl Default for Floor {
 impl Floor {
     /// A floor that is not started.
     pub fn new() -> Self {
+        Self::within(Limits::FLOOR)
+    }
+
+    /// A floor of the demonstration kit, not started.
+    pub fn kit() -> Self {
+        Self::within(Limits::KIT)
+    }
+
+    /// A floor with the limits of its product, not started.
+    pub fn within(limits: Limits) -> Self {
         let station = Station {
             expected: [0; STATIONS],
             local: 0,
@@ -312,6 +342,7 @@ impl Floor {
             text: [0; TEXT],
         };
         Floor {
+            limits,
             started: false,
             stations: 0,
             carts: 0,
@@ -338,6 +369,10 @@ impl Floor {
 
 /// Looking at a floor from outside, for programs that choose events. No event is among these.
 impl Floor {
+    pub fn limits(&self) -> Limits {
+        self.limits
+    }
+
     pub fn stations(&self) -> u8 {
         self.stations
     }

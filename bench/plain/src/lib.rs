@@ -20,5 +20,5 @@ pub mod run;
 pub mod steps;
 pub mod words;
 
-pub use floor::{CartNo, Floor, MessageNo, Place, StationNo};
+pub use floor::{CartNo, Floor, Limits, MessageNo, Place, StationNo};
 pub use steps::{Refusal, Step};

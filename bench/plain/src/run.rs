@@ -17,6 +17,11 @@ pub fn run(input: impl Read, output: impl Write) -> io::Result<()> {
     run_on(&mut Box::new(Floor::new()), input, output).map(drop)
 }
 
+/// The same on a floor of the demonstration kit.
+pub fn demo(input: impl Read, output: impl Write) -> io::Result<()> {
+    run_on(&mut Box::new(Floor::kit()), input, output).map(drop)
+}
+
 /// The same, and at the end of the input the floor is run until it is quiet. One line more says how
 /// many steps that took and how many messages are then held. Where a refusal ended the run before,
 /// there is no such line: its own was the last.

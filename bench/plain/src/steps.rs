@@ -3,7 +3,7 @@
 
 use crate::floor::{
     carts_of, line, rooms_of, stations_of, CartNo, Floor, Held, Place, Record, Room, StationNo,
-    CARTS, HELD, LAST_NUMBER, STATIONS, TEXT,
+    LAST_NUMBER, STATIONS, TEXT,
 };
 
 /// What an accepted event answers.
@@ -75,7 +75,9 @@ impl Floor {
         if self.started {
             return Err(Refusal::AlreadyStarted);
         }
-        if !(1..=STATIONS as u8).contains(&stations) || !(1..=CARTS as u8).contains(&carts) {
+        // "Refusals 5 (form rule and lent lengths), 7 and 14 use the caller's limits."
+        let most = self.limits;
+        if !(1..=most.stations).contains(&stations) || !(1..=most.carts).contains(&carts) {
             return Err(Refusal::FloorSize);
         }
         // A floor is started once, and `new` left everything else empty.
@@ -252,7 +254,7 @@ impl Floor {
         if number > LAST_NUMBER {
             return Err(Refusal::NumbersUsedUp);
         }
-        if self.rooms.count_ones() as usize == HELD {
+        if self.rooms.count_ones() >= self.limits.held as u32 {
             return Err(Refusal::NoRoom);
         }
         Ok(number)

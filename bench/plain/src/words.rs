@@ -1,5 +1,6 @@
 //! A floor in the words that the proved controller keeps it in: five parts, laid out as
-//! docs/ARCHITECTURE.md says under "The lent parts".
+//! docs/ARCHITECTURE.md says under "The lent parts". The words are those of the whole floor; the
+//! kit's parts, which are shorter, are not made here.
 
 use crate::floor::{
     line, CartNo, Floor, Place, Record, Room, StationNo, CARTS, HELD, STATIONS, TEXT,
@@ -277,6 +278,9 @@ impl Floor {
     /// its text, what a station keeps for it, or a line. Rooms that are free are not looked at, nor
     /// the copy of a station that has handled the delete.
     pub fn difference(&self, other: &Floor) -> Option<String> {
+        if self.limits != other.limits {
+            return Some(format!("limits: {:?}, {:?}", self.limits, other.limits));
+        }
         let size = |f: &Floor| (f.started, f.stations, f.carts, f.entered, f.rooms, f.rooms_by);
         if size(self) != size(other) {
             return Some(format!("sizes and rooms: {:?}, {:?}", size(self), size(other)));

@@ -13,10 +13,13 @@ use numbers::Numbers;
 use plain::floor::{carts_of, TEXT};
 use plain::frames::{Event, Reader, Taken};
 use plain::run::{closing, run, run_on};
-use plain::{CartNo, Floor, StationNo};
+use plain::{CartNo, Floor, Limits, StationNo};
 
-/// "That count is at most 5,248 = 32 × (16 + 16 + 64 + 64) + 2 × 64".
-const MOST_STEPS: u32 = 5_248;
+/// "That count is at most 5,248 = 32 × (16 + 16 + 64 + 64) + 2 × 64", and in the kit "at most 208".
+fn most_steps(limits: Limits) -> u32 {
+    let (stations, carts) = (limits.stations as u32, limits.carts as u32);
+    limits.held as u32 * (stations + stations + carts + carts) + 2 * carts
+}
 
 /// For each station and cart, the numbers and texts that were sent, and those that were received.
 type List = BTreeMap<(u8, u8), Vec<(u16, Vec<u8>)>>;
@@ -66,7 +69,7 @@ fn both(floor: &Floor, lists: &Lists) -> (u32, Lists) {
     }
     assert_eq!((steps, buffer), (count, worded));
     assert_eq!(ours.difference(&theirs), None);
-    assert!(steps <= MOST_STEPS, "{steps} steps");
+    assert!(steps <= most_steps(floor.limits()), "{steps} steps");
     if floor.entered() & floor.unsteady() == 0 {
         assert_eq!(ours.held(), 0);
     }
@@ -96,13 +99,15 @@ fn event(floor: &mut Floor, lists: &mut Lists, numbers: &mut Numbers, flags: boo
     };
 }
 
-#[test]
-fn the_same_as_the_worded_dispatcher() {
+/// The call and the worded dispatcher on many floors of a product: the most steps, and how often an
+/// unsteady cart kept something from being received.
+fn on_many_floors(unstarted: &Floor, seeds: u64) -> (u32, u32) {
     let (mut most, mut blocked) = (0, 0);
-    for seed in 1..120 {
+    let Limits { stations, carts, .. } = unstarted.limits();
+    for seed in 1..seeds {
         let mut numbers = Numbers(seed * 0x9e37_79b9);
-        let (n, k) = (1 + numbers.below(16), 1 + numbers.below(64));
-        let mut floor = Floor::new();
+        let (n, k) = (1 + numbers.below(stations as u64), 1 + numbers.below(carts as u64));
+        let mut floor = unstarted.clone();
         floor.start(n as u8, k as u8).expect("the size is one that a floor may have");
         let mut lists = Lists::default();
         for at in 0..1_500 {
@@ -125,7 +130,16 @@ fn the_same_as_the_worded_dispatcher() {
             }
         }
     }
+    (most, blocked)
+}
+
+#[test]
+fn the_same_as_the_worded_dispatcher() {
+    assert_eq!((most_steps(Limits::FLOOR), most_steps(Limits::KIT)), (5_248, 208));
+    let (most, blocked) = on_many_floors(&Floor::new(), 120);
     assert!(most > 1_000 && blocked > 100, "{most} steps at most, {blocked} not quite empty");
+    let (most, blocked) = on_many_floors(&Floor::kit(), 60);
+    assert!(most > 80 && blocked > 50, "{most} steps at most, {blocked} not quite empty");
 }
 
 /// The crate that has the stored runs, seen from this package.
@@ -191,14 +205,15 @@ fn said(floor: &mut Floor, length: usize) -> String {
 }
 
 /// Every stored call on the floor that its run leaves: those in `data`, or in the folder that
-/// QUIET_RUNS names.
+/// STORED_RUNS names. A name that begins with `kit.` is of the kit.
 #[test]
 fn the_stored_calls() {
     let data = Path::new(env!("CARGO_MANIFEST_DIR")).join("tests/data");
-    let folder = std::env::var_os("QUIET_RUNS").map_or(data, PathBuf::from);
+    let folder = std::env::var_os("STORED_RUNS").map_or(data, PathBuf::from);
     for path in files(&folder, "quiet") {
         let frames = fs::read(path.with_extension("frames")).unwrap();
-        let mut floor = Floor::new();
+        let kit = path.file_name().unwrap().to_string_lossy().starts_with("kit.");
+        let mut floor = if kit { Floor::kit() } else { Floor::new() };
         run_on(&mut floor, &frames[..], std::io::sink()).unwrap();
         for line in fs::read_to_string(&path).unwrap().lines() {
             let length = line.split(' ').nth(1).and_then(|word| word.parse().ok());

@@ -2,7 +2,7 @@
 
 use std::fs;
 use std::io::{self, Read, Write};
-use std::path::Path;
+use std::path::{Path, PathBuf};
 use std::process::{Command, Stdio};
 
 /// The crate that has the stored runs, seen from this package: the frames of each in `data`, and in
@@ -47,23 +47,53 @@ fn assert_same(run: &Stored, printed: &[u8]) {
     panic!("{}: line {at}: {:?}, not {:?}", run.name, printed.get(at), wanted.get(at));
 }
 
+/// What a program prints.
+fn printed(program: &str, frames: &[u8]) -> Vec<u8> {
+    let frames = frames.to_vec();
+    let mut program =
+        Command::new(program).stdin(Stdio::piped()).stdout(Stdio::piped()).spawn().unwrap();
+    let mut input = program.stdin.take().unwrap();
+    // The program may end before it has read all: refusals 1 to 4 end a run.
+    let writer = std::thread::spawn(move || drop(input.write_all(&frames)));
+    let output = program.wait_with_output().unwrap();
+    writer.join().unwrap();
+    assert!(output.status.success());
+    output.stdout
+}
+
 #[test]
 fn the_program_prints_every_stored_run() {
     for run in stored_runs() {
-        let frames = run.frames.clone();
-        let mut program = Command::new(env!("CARGO_BIN_EXE_plain"))
-            .stdin(Stdio::piped())
-            .stdout(Stdio::piped())
-            .spawn()
-            .unwrap();
-        let mut input = program.stdin.take().unwrap();
-        // The program may end before it has read all: refusals 1 to 4 end a run.
-        let writer = std::thread::spawn(move || drop(input.write_all(&frames)));
-        let output = program.wait_with_output().unwrap();
-        writer.join().unwrap();
-        assert!(output.status.success());
-        assert_same(&run, &output.stdout);
+        assert_same(&run, &printed(env!("CARGO_BIN_EXE_plain"), &run.frames));
     }
+}
+
+/// The program that a stored run is of, by the beginning of its name.
+fn program_of(name: &str) -> &'static str {
+    match name.split_once('.') {
+        Some(("kit", _)) => env!("CARGO_BIN_EXE_demo"),
+        _ => env!("CARGO_BIN_EXE_plain"),
+    }
+}
+
+/// The runs of `data` that have their output beside the frames, or those of the folder that
+/// STORED_RUNS names.
+#[test]
+fn the_programs_print_the_runs_of_each_product() {
+    let data = Path::new(env!("CARGO_MANIFEST_DIR")).join("tests/data");
+    let folder = std::env::var_os("STORED_RUNS").map_or(data, PathBuf::from);
+    let mut runs = 0;
+    for path in fs::read_dir(&folder).unwrap().map(|entry| entry.unwrap().path()) {
+        if path.extension().is_none_or(|found| found != "out") {
+            continue;
+        }
+        let name = path.file_stem().unwrap().to_string_lossy().into_owned();
+        let frames = fs::read(path.with_extension("frames")).unwrap();
+        let run = Stored { name, frames, printed: fs::read(&path).unwrap() };
+        assert_same(&run, &printed(program_of(&run.name), &run.frames));
+        runs += 1;
+    }
+    assert!(runs > 0, "{}: no run", folder.display());
 }
 
 /// Lends its octets in pieces of a fixed size, with an interruption before each.

@@ -55,6 +55,7 @@ fn busy(random: &mut Random, most: usize) -> Vec<u8> {
         held: 1 + random.below(40),
         lines: 1 + random.below(if crowded { 600 } else { 60 }),
         bad: [0, 2, 20, 60][random.below(4)],
+        kit: false,
     };
     let count = 1 + random.below(most);
     generate::stream(random.octets(), count, wishes).0

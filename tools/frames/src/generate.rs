@@ -5,9 +5,9 @@
 //! local cart, and goes when that cart has received the message or has left. So carts roll away
 //! whatever waits for them, and once in a while lists go in a deregister step.
 
-use plain::floor::{carts_of, HELD, LAST_NUMBER, TEXT};
+use plain::floor::{carts_of, LAST_NUMBER, TEXT};
 use plain::frames::{put, Event};
-use plain::{CartNo, Floor, Place, Refusal, StationNo, Step};
+use plain::{CartNo, Floor, Limits, Place, Refusal, StationNo, Step};
 
 use crate::random::Random;
 
@@ -26,11 +26,21 @@ pub struct Wishes {
     pub lines: usize,
     /// Percent of random and refused events.
     pub bad: usize,
+    /// Whether the floor is the demonstration kit's, with its limits.
+    pub kit: bool,
+}
+
+impl Wishes {
+    /// A full floor of the kit.
+    pub fn of_kit() -> Self {
+        let Limits { stations, carts, .. } = Limits::KIT;
+        Wishes { stations, carts, held: 4, lines: 10, kit: true, ..Wishes::default() }
+    }
 }
 
 impl Default for Wishes {
     fn default() -> Self {
-        Wishes { stations: 16, carts: 64, held: 8, lines: 40, bad: 2 }
+        Wishes { stations: 16, carts: 64, held: 8, lines: 40, bad: 2, kit: false }
     }
 }
 
@@ -60,7 +70,7 @@ impl Generator {
     pub fn new(seed: u64, wishes: Wishes) -> Self {
         Generator {
             random: Random::new(seed),
-            floor: Box::new(Floor::new()),
+            floor: Box::new(if wishes.kit { Floor::kit() } else { Floor::new() }),
             wishes,
             started: false,
             on_lines: 0,
@@ -182,7 +192,7 @@ impl Generator {
         // The wish, more or less: a floor that always holds the same number would be a tame one.
         let wanted = self.wishes.held / 4 + self.random.below(self.wishes.held + 1);
         let station = self.station();
-        let room = self.floor.held() < wanted.clamp(1, HELD);
+        let room = self.floor.held() < wanted.clamp(1, self.floor.limits().held as usize);
         (room && self.floor.sent(station) <= LAST_NUMBER).then_some(station)
     }
 

@@ -6,10 +6,12 @@ use std::process::ExitCode;
 use frames::cases::{case, CASES};
 use frames::generate::{Generator, Wishes};
 use frames::script::{script, show};
+use plain::Limits;
 
 const USAGE: &str = "\
-frames gen SEED COUNT [--stations N] [--carts N] [--held H] [--lines L] [--bad PERCENT]
-    writes a random stream of COUNT frames that keeps a floor busy
+frames gen SEED COUNT [--kit] [--stations N] [--carts N] [--held H] [--lines L] [--bad PERCENT]
+    writes a random stream of COUNT frames that keeps a floor busy; --kit: one of the
+    demonstration kit
 frames script < TEXT > FRAMES
     writes the frames of a script, one event on a line: start STATIONS CARTS,
     enter STATION CART, send STATION CARTS TEXT, wire FROM TO, radio STATION CART,
@@ -70,21 +72,32 @@ fn number(what: &str, word: &str, least: u64, most: u64) -> Result<u64, String> 
     }
 }
 
-fn generate(seed: &str, count: &str, words: &[&str]) -> Result<(), String> {
-    let seed = number("SEED", seed, 0, u64::MAX)?;
-    let count = number("COUNT", count, 0, u64::MAX)?;
-    let mut wishes = Wishes::default();
+fn wishes_of(words: &[&str]) -> Result<Wishes, String> {
+    let (mut wishes, words) = match *words {
+        ["--kit", ref words @ ..] => (Wishes::of_kit(), words),
+        _ => (Wishes::default(), words),
+    };
+    let Limits { stations, carts, held } = if wishes.kit { Limits::KIT } else { Limits::FLOOR };
+    let most = |n: u8| n as u64;
     for pair in words.chunks(2) {
         match *pair {
-            ["--stations", n] => wishes.stations = number("--stations", n, 1, 16)? as u8,
-            ["--carts", n] => wishes.carts = number("--carts", n, 1, 64)? as u8,
-            ["--held", n] => wishes.held = number("--held", n, 1, 32)? as usize,
+            ["--stations", n] => {
+                wishes.stations = number("--stations", n, 1, most(stations))? as u8;
+            }
+            ["--carts", n] => wishes.carts = number("--carts", n, 1, most(carts))? as u8,
+            ["--held", n] => wishes.held = number("--held", n, 1, most(held))? as usize,
             ["--lines", n] => wishes.lines = number("--lines", n, 1, 3136)? as usize,
             ["--bad", n] => wishes.bad = number("--bad", n, 0, 100)? as usize,
             _ => return Err(format!("{}: not understood\n{USAGE}", pair[0])),
         }
     }
-    let mut generator = Generator::new(seed, wishes);
+    Ok(wishes)
+}
+
+fn generate(seed: &str, count: &str, words: &[&str]) -> Result<(), String> {
+    let seed = number("SEED", seed, 0, u64::MAX)?;
+    let count = number("COUNT", count, 0, u64::MAX)?;
+    let mut generator = Generator::new(seed, wishes_of(words)?);
     let mut octets = Vec::with_capacity(2 * PIECE);
     for _ in 0..count {
         generator.frame(&mut octets);

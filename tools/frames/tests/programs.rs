@@ -39,6 +39,15 @@ fn gen_show_and_script() {
 }
 
 #[test]
+fn gen_for_the_kit() {
+    let stream = frames(&["gen", "1", "100", "--kit"], b"");
+    let script = frames(&["show"], &stream.stdout);
+    assert_eq!(text(&script.stdout).lines().next(), Some("start 4 8"));
+    let output = frames(&["gen", "1", "100", "--kit", "--stations", "5"], b"");
+    assert_eq!(text(&output.stderr), "--stations: \"5\" is not a number from 1 to 4\n");
+}
+
+#[test]
 fn mistakes_are_named_and_have_status_1() {
     let output = frames(&["script"], b"start 2 1\n\nenter 0 99\n");
     assert_eq!(output.status.code(), Some(1));

@@ -90,7 +90,14 @@ const LAST_REFUSAL: usize = 25;
 /// Gives a stream to a floor; answers the accepted and the refused events, the latter by number,
 /// and the most messages held in the last tenth.
 fn give_all(octets: &[u8], frames: usize) -> (usize, [usize; LAST_REFUSAL + 1], usize) {
-    let mut floor = Box::new(Floor::new());
+    give_all_to(Floor::new(), octets, frames)
+}
+
+fn give_all_to(
+    mut floor: Floor,
+    octets: &[u8],
+    frames: usize,
+) -> (usize, [usize; LAST_REFUSAL + 1], usize) {
     let mut reader = Reader::new(octets);
     let (mut accepted, mut refused, mut held) = (0, [0; LAST_REFUSAL + 1], 0);
     for index in 0..frames {
@@ -125,6 +132,14 @@ fn without_bad_events_all_are_accepted() {
         let (octets, _) = stream(11, 20_000, wishes);
         assert_eq!(give_all(&octets, 20_000).0, 20_000);
     }
+}
+
+#[test]
+fn streams_of_the_kit_keep_to_its_limits() {
+    let wishes = Wishes { held: 8, lines: 30, bad: 0, ..Wishes::of_kit() };
+    let (octets, _) = stream(12, 20_000, wishes);
+    let (accepted, _, held) = give_all_to(Floor::kit(), &octets, 20_000);
+    assert_eq!((accepted, held), (20_000, 8));
 }
 
 #[test]

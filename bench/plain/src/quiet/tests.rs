@@ -1,5 +1,5 @@
 use super::*;
-use crate::floor::CARTS;
+use crate::floor::Limits;
 
 const BUFFER: [u8; TEXT] = [0; TEXT];
 
@@ -144,21 +144,30 @@ fn a_cart_that_is_not_steady_waits_and_others_do_not() {
     assert_eq!(f.held(), 0);
 }
 
-#[test]
-fn the_most_steps_that_a_run_is_known_to_leave() {
-    let mut f = floor(16, 64);
-    for cart in 0..64 {
-        f.enter(s(cart % 16), c(cart)).unwrap();
+/// A full floor of a product with all messages sent and every cart leaving; the steps until it is
+/// quiet.
+fn most_steps(mut f: Floor) -> u32 {
+    let Limits { stations, carts, held } = f.limits();
+    f.start(stations, carts).unwrap();
+    for cart in 0..carts {
+        f.enter(s(cart % stations), c(cart)).unwrap();
     }
-    for _ in 0..32 {
-        f.send(s(0), u64::MAX, &[0x71]).unwrap();
+    for _ in 0..held {
+        f.send(s(0), f.all_carts(), &[0x71]).unwrap();
     }
-    for cart in 0..64 {
-        f.move_cart(c(cart), s((cart + 1) % 16)).unwrap();
+    for cart in 0..carts {
+        f.move_cart(c(cart), s((cart + 1) % stations)).unwrap();
     }
-    // A multicast, an ack list and a delete for each station and 64 receipts, of each message; and
-    // two records for each cart.
-    assert_eq!(f.quiet(&mut BUFFER.clone()), Ok(32 * (16 + 16 + 16 + 64) + 2 * CARTS as u32));
+    let steps = f.quiet(&mut BUFFER.clone()).unwrap();
     assert_eq!(f.held(), 0);
     assert_eq!(f.quiet(&mut BUFFER.clone()), Ok(0));
+    steps
+}
+
+#[test]
+fn the_most_steps_that_a_run_is_known_to_leave() {
+    // A multicast, an ack list and a delete for each station and a receipt for each cart, of each
+    // message; and two records for each cart.
+    assert_eq!(most_steps(Floor::new()), 32 * (16 + 16 + 16 + 64) + 2 * 64);
+    assert_eq!(most_steps(Floor::kit()), 8 * (4 + 4 + 4 + 8) + 2 * 8);
 }

@@ -258,6 +258,30 @@ fn k10_sizes_of_a_floor() {
 }
 
 #[test]
+fn the_kit_has_limits_of_its_own() {
+    let mut f = Floor::kit();
+    for (stations, carts) in [(5, 8), (4, 9), (0, 8), (4, 0), (16, 64)] {
+        assert_eq!(refusal(f.start(stations, carts)), 7);
+        assert_eq!(refusal(f.enter(s(0), c(0))), 5);
+    }
+    assert_eq!(answer(f.start(4, 8)), (4, 8, 0, 0));
+    assert_eq!(refusal(f.start(5, 9)), 6);
+    assert_eq!(refusal(f.enter(s(4), c(0))), 8);
+    assert_eq!(refusal(f.enter(s(3), c(8))), 9);
+    f.enter(s(3), c(7)).unwrap();
+    assert_eq!(refusal(f.send(s(0), 1 << 8, ONE)), 9);
+    for number in 0..8 {
+        assert_eq!(answer(f.send(s(0), 1 << 7, ONE)), (0, number, 0, 4));
+    }
+    for station in 0..4 {
+        assert_eq!(refusal(f.send(s(station), 1 << 7, ONE)), 14);
+    }
+    // Behind the last delete the room is free again.
+    f.quiet(&mut [0; TEXT]).unwrap();
+    assert_eq!(answer(f.send(s(0), 1 << 7, ONE)), (0, 8, 0, 4));
+}
+
+#[test]
 fn nothing_before_a_start() {
     let mut f = Floor::new();
     assert_eq!(refusal(f.send(s(99), 0, &[0; 33])), 4);
