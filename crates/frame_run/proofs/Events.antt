@@ -1,15 +1,19 @@
--- THE EVENT OF A FRAME: its text, what it answered, the rest of its line; and that the run can go on with what it leaves.
+-- THE EVENT OF A FRAME: its text, what it answered, the rest of its line.
 use mathlib.Core.Path.{_≡_, refl, sym, ap, _∙_, subst}
 use mathlib.Core.Bool.{true, false}
 use mathlib.Core.List.{List, []}
-use Prim.Native.Nat.{ℕ, _+_, _-_, _*_, _≤_}
+use Prim.Native.Nat.{ℕ, _+_, _-_, _*_, _<_, _≤_}
 use native.Mathlib.Omega.{arith}
 use lib.ListN.{length, take, drop, length-take}
 use lib.Seq.{take-nil, take-take, drop-drop}
+use Rattle.protocol.specs.Floor.{Product}
 use Rattle.protocol.specs.Events.{send, refused}
 use Rattle.protocol.specs.Events as events
 use Rattle.protocol.specs.Printed.{restOf}
-use Rattle.view.specs.View.{Lent}
+use Rattle.products.specs.declared.Bounds.{Bounds}
+use Rattle.products.specs.Numbers.{Fits, NumbersOf}
+use Rattle.view.specs.View.{Lent, lent}
+use Rattle.view.proofs.Lengths.{lengths-of}
 use Rattle.frames.specs.declared.Event.{Event}
 use Rattle.frames.specs.declared.Event.the-variants.{Send}
 use Rattle.frames.specs.Decoded.{eventIn}
@@ -18,8 +22,7 @@ use Rattle.reports.specs.Effects.{acceptedIn}
 use Rattle.event_answers.specs.declared.Answer.{Answer}
 use Rattle.event_answers.specs.declared.Told.{Told}
 use Rattle.event_answers.specs.Answers.{toldOf, toldIn, answerIn, octetsIn}
-use Rattle.event_answers.specs.Met.{Met}
-use Rattle.event_answers.proofs.Readies.{stays-ready}
+use Rattle.event_answers.specs.Met.{MetWith}
 use Rattle.event_radio.specs.declared.Handed.{Handed}
 use Rattle.event_radio.specs.Handed.{handedIn, Lies}
 use Rattle.frame_lines.specs.Lines.{Wrote, longestRest, shortRest}
@@ -42,27 +45,49 @@ pub send-is : (l : List ℕ) (at n : ℕ) (e : Event) (s : Station) (set : ℕ) 
     → eventIn (drop at l) e ≡ send (s .0) set (take (at + 16 + n - (at + 16)) (drop (at + 16) l))
 send-is l at n e s set q = ap (eventIn (drop at l)) q ∙ ap (λ (x : List ℕ). send (s .0) set x) (sym (text-part l at n (at + 16) (at + 16 + n) refl refl))
 
--- WHAT WAS DISPATCHED: event e of the frame was met from L to L′, and was told so, with the texts T afterwards
-abbrev pub Answered : Lent → Lent → events.Event → List ℕ → Dispatched → Type 0
-Answered L L′ e T r = Within r × Met L L′ e (dispatchedIn T r)
+-- A FLOOR OF THESE NUMBERS: they fit, and where there is a room at least there is a part of the texts
+pub numbers-fit : (P : Product) (b : Bounds) → NumbersOf P b → Fits b
+numbers-fit P b n =
+    let s = n .stations-are in
+    let k = n .carts-are in
+    let h = n .held-is in
+    let l = n .last-is in
+    let s′ = P .stations-fit in
+    let k′ = P .carts-fit in
+    let h′ = P .held-fit in
+    let l′ = P .last-fit in
+    record { few-stations = omega arith; few-carts = omega arith; few-held = omega arith; low-last = omega arith }
+
+pub some-part : (b : Bounds) (S C M W T : List ℕ) → CanRun b (λ P. lent P S C M W T) → 32 ≤ length T
+some-part b S C M W T R =
+    let some = R .0 in
+    let held = R .1 .1 .held-is in
+    let long = lengths-of (lent (R .1 .0) S C M W T) (R .1 .2 .lengths) .texts in
+    omega arith
+
+-- WHAT WAS DISPATCHED: event e of the frame was met from what was lent to what is left, for each product of these numbers, and was told so, with the
+-- texts T afterwards
+abbrev pub Answered : Bounds → (Product → Lent) → (Product → Lent) → events.Event → List ℕ → Dispatched → Type 0
+Answered bounds before after e T r = Within T r × MetWith bounds before after e (dispatchedIn T r)
 
 -- what the frame says is that event
-module _ (L L′ : Lent) (ev e : events.Event) (same : ev ≡ e) (T : List ℕ) where
-  on-frame : (a : events.Answer) → Met L L′ e a → Met L L′ ev a
-  on-frame a met = subst (λ (x : events.Event). Met L L′ x a) (sym same) met
+module _ (bounds : Bounds) (before after : Product → Lent) (ev e : events.Event) (same : ev ≡ e) (T : List ℕ) where
+  on-frame : (a : events.Answer) → MetWith bounds before after e a → MetWith bounds before after ev a
+  on-frame a met = subst (λ (x : events.Event). MetWith bounds before after x a) (sym same) met
 
   -- an answer without a text
-  pub answered-plainly : (a : Answer) (next : ℕ) (r : Dispatched) → r ≡ record { next = next; told = toldOf a; room = 0; size = 0 } → Met L L′ e (answerIn a []) → Answered L L′ ev T r
-  answered-plainly a next r is met =
+  pub answered-plainly : 32 ≤ length T → (a : Answer) (next : ℕ) (r : Dispatched) → r ≡ record { next = next; told = toldOf a; room = 0; size = 0 }
+      → MetWith bounds before after e (answerIn a []) → Answered bounds before after ev T r
+  answered-plainly long a next r is met =
       rw is (
-        record { room = omega arith; size = omega arith },
-        on-frame (toldIn (toldOf a) []) (subst (λ (l : List ℕ). Met L L′ e (toldIn (toldOf a) l)) (take-nil (octetsIn a)) met),
+        record { room = omega arith; part = λ z. omega arith; size = omega arith },
+        on-frame (toldIn (toldOf a) []) (subst (λ (l : List ℕ). MetWith bounds before after e (toldIn (toldOf a) l)) (take-nil (octetsIn a)) met),
       )
 
   -- a radio step's, with its text where it lies
-  pub answered-text : (h : Handed) (next : ℕ) (t : Told) → t ≡ toldOf (h .answer) → Lies T 32 h → Met L L′ e (handedIn T h)
-      → Answered L L′ ev T (record { next = next; told = t; room = h .room; size = t .size })
-  answered-text h next t is lies met = rw is (record { room = lies .room; size = lies .short }, on-frame (handedIn T h) met)
+  pub answered-text : (h : Handed) (next : ℕ) (t : Told) → t ≡ toldOf (h .answer) → Lies T 32 h → MetWith bounds before after e (handedIn T h)
+      → Answered bounds before after ev T (record { next = next; told = t; room = h .room; size = t .size })
+  answered-text h next t is lies met = rw is (record { room = lies .room; part = lies .part; size = lies .short }, on-frame (handedIn T h) met)
 
 -- THE REST OF THE LINE of what was dispatched
 module _ (T : List ℕ) (r : Dispatched) (out out′ : List ℕ) (at next : ℕ) where
@@ -82,6 +107,3 @@ module _ (T : List ℕ) (r : Dispatched) (out out′ : List ℕ) (at next : ℕ)
       let text = take-take (r .size) (r .room * 32 + 32 - r .room * 32) (drop (r .room * 32) T) (omega arith) in
       rw q (subst (λ (l : List ℕ). Rest (acceptedIn (r .told .report) l)) text w)
 
--- the run can go on
-pub goes-on : (L L′ : Lent) (e : events.Event) (a : events.Answer) → CanRun L → Met L L′ e a → CanRun L′
-goes-on L L′ e a R met = record { whole = met .product ∙ R .whole; ready = stays-ready L L′ e a (R .ready) met }

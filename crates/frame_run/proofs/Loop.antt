@@ -1,5 +1,5 @@
 -- THE LOOP OF A RUN: what holds before each frame, and what it comes to.
-use mathlib.Core.Path.{_≡_, refl, sym, ap, _∙_}
+use mathlib.Core.Path.{_≡_, refl, sym, ap, _∙_, subst}
 use mathlib.Core.Bool.{Bool, true, false, cond, _&&_}
 use mathlib.Core.List.{List}
 use Prim.Native.Nat.{ℕ, _*_, _+_, _-_, _≤_, _<_}
@@ -12,11 +12,11 @@ use Rattle.protocol.specs.Frames.{readAt}
 use Rattle.protocol.proofs.Tests.{and-left, and-right, by-eq, by-lt}
 use Rattle.view.specs.View.{Lent, floorIn}
 use Rattle.view.proofs.Lengths.{Lengths, lengths-of}
+use Rattle.event_answers.specs.Met.{Ready}
 use Rattle.frame_lines.specs.Lines.{lineRoom}
 use Rattle.frame_lines.proofs.Octets.{written-none}
 use Rattle.frame_run.specs.declared.Progress.{Progress}
 use Rattle.frame_run.specs.Piece.{runFrom}
-use Rattle.frame_run.specs.CanRun.{CanRun}
 use Rattle.frame_run.specs.Went.{InRun, NoneWhole, EndsRun, Went, Turned}
 
 -- the first progress
@@ -25,8 +25,9 @@ none-yet = record { read = 0; written = 0; frames = 0; state = 0 }
 
 -- before each frame
 pub record Going (input : List ℕ) (index : ℕ) (last : Bool) (L₀ L : Lent) (out₀ out : List ℕ) (p : Progress) : Type 0 where
-  pub ready : CanRun L
-  pub run : InRun (runFrom (p .frames) (floorIn L₀) index input) L out₀ out p
+  pub product : L .product ≡ L₀ .product
+  pub ready : Ready L
+  pub run : InRun (runFrom (L₀ .product) (p .frames) (floorIn L₀) index input) L out₀ out p
   pub inside : p .read ≤ length input
   pub within : p .written ≤ length out
   pub kept : length out ≡ length out₀
@@ -41,10 +42,11 @@ abbrev pub left : List ℕ → Progress → ℕ
 left input p = length input - p .read + cond (eqb (p .state) 0) 1 0
 
 module _ (input : List ℕ) (index : ℕ) (last : Bool) (L₀ : Lent) (out₀ : List ℕ) where
-  pub going-first : CanRun L₀ → Going input index last L₀ L₀ out₀ out₀ none-yet
+  pub going-first : Ready L₀ → Going input index last L₀ L₀ out₀ out₀ none-yet
   unfolding runFrom
   going-first R =
       record {
+        product = refl;
         ready = R;
         run = record { floor = refl; counted = refl; read = refl; wrote = refl; fits = omega arith; octets = sym (written-none out₀ 0); ended = refl };
         inside = omega arith;
@@ -61,8 +63,10 @@ module _ (input : List ℕ) (index : ℕ) (last : Bool) (L₀ : Lent) (out₀ : 
     pub going-next : (L′ : Lent) (out′ : List ℕ) (r : Progress) → Turned input (index + p .frames) last L L′ out out′ p r → Going input index last L₀ L′ out₀ out′ r
     going-next L′ out′ r t =
         record {
+          product = t .product ∙ g .product;
           ready = t .ready;
-          run = t .runs (floorIn L₀) index out₀ refl (g .run);
+          run = subst (λ (P : Product). InRun (runFrom P (r .frames) (floorIn L₀) index input) L′ out₀ out′ r) (g .product)
+              (t .runs (floorIn L₀) index out₀ refl (subst (λ (P : Product). InRun (runFrom P (p .frames) (floorIn L₀) index input) L out₀ out p) (sym (g .product)) (g .run)));
           inside = t .inside;
           within = let a = t .within in let b = t .kept in omega arith;
           kept = t .kept ∙ g .kept;
@@ -92,6 +96,7 @@ module _ (input : List ℕ) (index : ℕ) (last : Bool) (L₀ : Lent) (out₀ : 
       pub stops : b ≡ false → Went input index last L₀ L out₀ out p
       stops t =
           record {
+            product = g .product;
             ready = g .ready;
             run = g .run;
             inside = g .inside;
@@ -117,27 +122,24 @@ by-room p n e h =
     (λ l. le-leb lineRoom (n - p .written) l ∙ sym (le-leb (p .written + lineRoom) n (omega arith))))
 
 -- tables of ready floors are equally long
-module _ (L L′ : Lent) (R : CanRun L) (R′ : CanRun L′) where
+module _ (L L′ : Lent) (R : Ready L) (R′ : Ready L′) (same : L′ .product ≡ L .product) where
   abbrev a : Lengths L
-  a = lengths-of L (R .ready .lengths)
+  a = lengths-of L (R .lengths)
 
   abbrev a′ : Lengths L′
-  a′ = lengths-of L′ (R′ .ready .lengths)
-
-  same : L .product ≡ L′ .product
-  same = R .whole ∙ sym (R′ .whole)
+  a′ = lengths-of L′ (R′ .lengths)
 
   pub same-stations : length (L′ .stations) ≡ length (L .stations)
-  same-stations = a′ .stations ∙ ap (λ (P : Product). 116 + P .stations * 116) (sym same) ∙ sym (a .stations)
+  same-stations = a′ .stations ∙ ap (λ (P : Product). 116 + P .stations * 116) same ∙ sym (a .stations)
 
   pub same-carts : length (L′ .carts) ≡ length (L .carts)
-  same-carts = a′ .carts ∙ ap (λ (P : Product). P .carts * 19) (sym same) ∙ sym (a .carts)
+  same-carts = a′ .carts ∙ ap (λ (P : Product). P .carts * 19) same ∙ sym (a .carts)
 
   pub same-messages : length (L′ .messages) ≡ length (L .messages)
-  same-messages = a′ .messages ∙ ap (λ (P : Product). P .held * 6) (sym same) ∙ sym (a .messages)
+  same-messages = a′ .messages ∙ ap (λ (P : Product). P .held * 6) same ∙ sym (a .messages)
 
   pub same-lines : length (L′ .lines) ≡ length (L .lines)
-  same-lines = a′ .lines ∙ ap (λ (P : Product). 1842 + mostRecords (limitsOf P) * 3) (sym same) ∙ sym (a .lines)
+  same-lines = a′ .lines ∙ ap (λ (P : Product). 1842 + mostRecords (limitsOf P) * 3) same ∙ sym (a .lines)
 
   pub same-texts : length (L′ .texts) ≡ length (L .texts)
-  same-texts = a′ .texts ∙ ap (λ (P : Product). P .held * 32) (sym same) ∙ sym (a .texts)
+  same-texts = a′ .texts ∙ ap (λ (P : Product). P .held * 32) same ∙ sym (a .texts)

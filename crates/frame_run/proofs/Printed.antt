@@ -10,7 +10,7 @@ use lib.Dec.{eqb, ltb}
 use lib.ListN.{length, take, drop}
 use lib.Seq.{take-append-seam}
 use borrow.Author.Tests.{eq-eqb, ne-eqb}
-use Rattle.protocol.specs.Floor.{Limits, Floor, limits, unstarted}
+use Rattle.protocol.specs.Floor.{Limits, Product, Floor, limits, limitsOf, unstarted}
 use Rattle.protocol.specs.Events.{Event, start, enter, send, wire, radio, move, flag, Answer, refused, accepted}
 use Rattle.protocol.specs.Form.{passesForm}
 use Rattle.protocol.specs.Refusals.{check, wrongSize, refusal, refusalIf}
@@ -118,41 +118,41 @@ prints-alike M (suc n) F G U U′ index l = by (frameOf M l) refl (λ e size. pr
         rw (q, linesFrom) (ap₂ (λ (a : Answer) (x : List ℕ). lineOf index a ++ x) (answers-alike M F G U U′ e) rest)
 
 -- at the end of the octets nothing is run
-nothing-run : (n : ℕ) (F : Floor) (index : ℕ) (l : List ℕ) → frameOf limits l ≡ end → runFrom n F index l ≡ still F
+nothing-run : (P : Product) (n : ℕ) (F : Floor) (index : ℕ) (l : List ℕ) → frameOf limits l ≡ end → runFrom P n F index l ≡ still F
 unfolding runFrom
-nothing-run zero F index l e = refl
-nothing-run (suc n) F index l e = rw (e, runFrom) refl
+nothing-run P zero F index l e = refl
+nothing-run P (suc n) F index l e = rw (e, runFrom) refl
 
 -- A RUN OF n FRAMES from an unstarted floor prints the beginning of the printed run
-module _ (F : Floor) (U : Unstarted F) (n : ℕ) (l : List ℕ) (all : runFrom n F 0 l .count ≡ n) where
+module _ (P : Product) (F : Floor) (U : Unstarted F) (n : ℕ) (l : List ℕ) (all : runFrom P n F 0 l .count ≡ n) where
   abbrev R : Ran
-  R = runFrom n F 0 l
+  R = runFrom P n F 0 l
 
   -- the printed run, with as many turns more
-  whole-run : printedRun limits l ≡ runFrom (n + suc (length l)) F 0 l .printed
+  whole-run : printedRun (limitsOf P) l ≡ runFrom P (n + suc (length l)) F 0 l .printed
   unfolding printedRun
   whole-run =
       let m = suc (length l) in
       let turned : m + n ≡ n + m = omega arith in
-      prints-alike limits m unstarted F (record { fresh = refl; lengths = refl }) U 0 l
-      ∙ sym (prints m F 0 l)
-      ∙ ap (λ (X : Ran). X .printed) (sym (turns-enough m n F 0 l (omega arith)) ∙ ap (λ (k : ℕ). runFrom k F 0 l) turned)
+      prints-alike (limitsOf P) m unstarted F (record { fresh = refl; lengths = refl }) U 0 l
+      ∙ sym (prints P m F 0 l)
+      ∙ ap (λ (X : Ran). X .printed) (sym (turns-enough P m n F 0 l (omega arith)) ∙ ap (λ (k : ℕ). runFrom P k F 0 l) turned)
 
-  pub printed-begins : (rest : List ℕ) × (printedRun limits l ≡ R .printed ++ rest)
+  pub printed-begins : (rest : List ℕ) × (printedRun (limitsOf P) l ≡ R .printed ++ rest)
   printed-begins =
       by-test (R .ended)
-      (λ e. ([], whole-run ∙ ap (λ (X : Ran). X .printed) (runs-end n (suc (length l)) F 0 l e) ∙ sym (append-nil (R .printed))))
-      (λ e. (runFrom (suc (length l)) (R .floor) (0 + n) (drop (R .octets) l) .printed, whole-run ∙ ap (λ (X : Ran). X .printed) (runs-go-on n (suc (length l)) F 0 l all e)))
+      (λ e. ([], whole-run ∙ ap (λ (X : Ran). X .printed) (runs-end P n (suc (length l)) F 0 l e) ∙ sym (append-nil (R .printed))))
+      (λ e. (runFrom P (suc (length l)) (R .floor) (0 + n) (drop (R .octets) l) .printed, whole-run ∙ ap (λ (X : Ran). X .printed) (runs-go-on P n (suc (length l)) F 0 l all e)))
 
   -- and all of it where a frame ended the run, or no octet is left
-  pub printed-whole : (R .ended ≡ true) ⊎ (readAt limits l (R .octets) ≡ end) → printedRun limits l ≡ R .printed
+  pub printed-whole : (R .ended ≡ true) ⊎ (readAt limits l (R .octets) ≡ end) → printedRun (limitsOf P) l ≡ R .printed
   unfolding readAt
   printed-whole over =
       by-test (R .ended)
-      (λ e. whole-run ∙ ap (λ (X : Ran). X .printed) (runs-end n (suc (length l)) F 0 l e))
+      (λ e. whole-run ∙ ap (λ (X : Ran). X .printed) (runs-end P n (suc (length l)) F 0 l e))
       (λ e. ⊎-elim (λ t. clash (R .ended) t e)
-      (λ last. whole-run ∙ ap (λ (X : Ran). X .printed) (runs-go-on n (suc (length l)) F 0 l all e)
-      ∙ ap (λ (X : Ran). R .printed ++ X .printed) (nothing-run (suc (length l)) (R .floor) (0 + n) (drop (R .octets) l) last)
+      (λ last. whole-run ∙ ap (λ (X : Ran). X .printed) (runs-go-on P n (suc (length l)) F 0 l all e)
+      ∙ ap (λ (X : Ran). R .printed ++ X .printed) (nothing-run P (suc (length l)) (R .floor) (0 + n) (drop (R .octets) l) last)
       ∙ append-nil (R .printed)) over)
 
 -- what was written to the front
@@ -162,11 +162,11 @@ front-of out out′ printed n e q = ap₂ take e q ∙ take-append-seam printed 
 
 -- WHAT `take_frames` PRINTS from an unstarted lent floor with the whole input, where the output has room for it
 pub take-frames-prints : (input : List ℕ) (L L′ : Lent) (out out′ : List ℕ) (p : Progress) → Unstarted (floorIn L) → Went input 0 true L L′ out out′ p
-    → (p .state ≡ 0 → ⊥) → take (p .written) out′ ≡ printedRun limits input
+    → (p .state ≡ 0 → ⊥) → take (p .written) out′ ≡ printedRun (limitsOf (L .product)) input
 take-frames-prints input L L′ out out′ p U w room =
-    let R = runFrom (p .frames) (floorIn L) 0 input in
+    let R = runFrom (L .product) (p .frames) (floorIn L) 0 input in
     front-of out out′ (R .printed) (p .written) (w .run .wrote) (w .run .octets)
-    ∙ sym (printed-whole (floorIn L) U (p .frames) input (sym (w .run .counted))
+    ∙ sym (printed-whole (L .product) (floorIn L) U (p .frames) input (sym (w .run .counted))
     (by-eq (p .state) 2 (λ two. inl (w .run .ended ∙ eq-eqb (p .state) 2 two))
     (λ other.
     let one : p .state ≡ 1 = let z = w .why in omega arith in

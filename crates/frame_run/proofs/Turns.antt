@@ -22,7 +22,8 @@ use Rattle.view.specs.View.{Lent, floorIn}
 use Rattle.view.proofs.Lengths.{lengths-of}
 use Rattle.frame_lines.specs.Lines.{written, Wrote, longestLine, longestRefusal, lineRoom}
 use Rattle.frame_lines.proofs.Octets.{written-length, written-then}
-use Rattle.event_answers.specs.Met.{Met}
+use Rattle.event_answers.specs.Met.{Ready, Met}
+use Rattle.event_answers.proofs.Readies.{stays-ready}
 use Rattle.frames.specs.declared.Event.{Event}
 use Rattle.frames.specs.declared.Event.the-variants.{Start, Enter, Send, Wire, Radio, Move, Flag}
 use Rattle.frames.specs.declared.Reading as decoder
@@ -33,24 +34,19 @@ use Rattle.frames.proofs.Values.{same-number}
 use Rattle.frames.proofs.Reading.{the-type as reading-type}
 use Rattle.frame_run.specs.declared.Progress.{Progress}
 use Rattle.frame_run.specs.Piece.{Ran, runFrom}
-use Rattle.frame_run.specs.CanRun.{CanRun}
 use Rattle.frame_run.specs.Went.{InRun, NoneWhole, EndsRun, Took, Turned}
 use Rattle.frame_run.proofs.Pieces.{more, onward, one-more}
-use Rattle.frame_run.proofs.Events.{goes-on}
-
--- there is a part of the texts for each room
-pub text-there : (L : Lent) → CanRun L → (m : ℕ) → m < 32 → HasText (L .texts) m
-text-there L R m h = let e = lengths-of L (R .ready .lengths) .texts ∙ ap (λ (P : Product). P .held * 32) (R .whole) in omega arith
 
 -- the event that happened and the line that was printed
 pub took : (index : ℕ) (L L′ : Lent) (out out′ : List ℕ) (p r : Progress) (e : events.Event) (size : ℕ) (a : events.Answer)
-    → CanRun L → Met L L′ e a → Wrote longestLine (lineOf index a) out out′ (p .written) (r .written)
+    → Ready L → Met L L′ e a → Wrote longestLine (lineOf index a) out out′ (p .written) (r .written)
     → r .read ≡ p .read + size → r .frames ≡ p .frames + 1 → r .state ≡ 0 → Took index L L′ out out′ p r e size
 took index L L′ out out′ p r e size a R met line read frames state =
     record {
-      ready = goes-on L L′ e a R met;
-      floor = met .floor ∙ ap (λ (P : Product). step (limitsOf P) (floorIn L) e) (R .whole);
-      line = subst (λ (x : events.Answer). Wrote longestLine (lineOf index x) out out′ (p .written) (r .written)) (met .answers ∙ ap (λ (P : Product). answer (limitsOf P) (floorIn L) e) (R .whole)) line;
+      product = met .product;
+      ready = stays-ready L L′ e a R met;
+      floor = met .floor;
+      line = subst (λ (x : events.Answer). Wrote longestLine (lineOf index x) out out′ (p .written) (r .written)) (met .answers) line;
       read = read;
       frames = frames;
       state = state;
@@ -134,23 +130,23 @@ module _ (R : Ran) (L L′ : Lent) (out₀ out out′ : List ℕ) (p r : Progres
         ended = e;
       }
 
-module _ (input : List ℕ) (first index : ℕ) (F : Floor) (L : Lent) (out₀ out : List ℕ) (p : Progress) (going : p .state ≡ 0) (at : index ≡ first + p .frames) where
+module _ (P : Product) (input : List ℕ) (first index : ℕ) (F : Floor) (L : Lent) (out₀ out : List ℕ) (p : Progress) (going : p .state ≡ 0) (at : index ≡ first + p .frames) where
   abbrev R : Ran
-  R = runFrom (p .frames) F first input
+  R = runFrom P (p .frames) F first input
 
   -- the run with one frame more
-  pub next-frame : (k : ℕ) (reading : Reading) → InRun R L out₀ out p → k ≡ p .frames + 1 → readAt limits input (p .read) ≡ reading → runFrom k F first input ≡ more R index reading
+  pub next-frame : (k : ℕ) (reading : Reading) → InRun R L out₀ out p → k ≡ p .frames + 1 → readAt limits input (p .read) ≡ reading → runFrom P k F first input ≡ more P R index reading
   next-frame k reading h e q =
       let one : k ≡ suc (p .frames) = omega arith in
       let goes : R .ended ≡ false = h .ended ∙ ne-eqb (p .state) 2 (λ z. omega arith) in
-      ap (λ (n : ℕ). runFrom n F first input) one ∙ one-more (p .frames) F first input
-      ∙ ap (λ (n : ℕ). onward R n (readAt limits input (R .octets))) (sym at)
-      ∙ ap (λ (b : Bool). cond b R (more R index (readAt limits input (R .octets)))) goes
-      ∙ ap (λ (n : ℕ). more R index (readAt limits input n)) (sym (h .read))
-      ∙ ap (λ (x : Reading). more R index x) q
+      ap (λ (n : ℕ). runFrom P n F first input) one ∙ one-more P (p .frames) F first input
+      ∙ ap (λ (n : ℕ). onward P R n (readAt limits input (R .octets))) (sym at)
+      ∙ ap (λ (b : Bool). cond b R (more P R index (readAt limits input (R .octets)))) goes
+      ∙ ap (λ (n : ℕ). more P R index (readAt limits input n)) (sym (h .read))
+      ∙ ap (λ (x : Reading). more P R index x) q
 
 -- THE THREE WAYS of a frame
-module _ (input : List ℕ) (index : ℕ) (last : Bool) (L : Lent) (out : List ℕ) (p : Progress) (ready : CanRun L) (going : p .state ≡ 0) (inside : p .read ≤ length input)
+module _ (input : List ℕ) (index : ℕ) (last : Bool) (L : Lent) (out : List ℕ) (p : Progress) (ready : Ready L) (going : p .state ≡ 0) (inside : p .read ≤ length input)
     (room : p .written + lineRoom ≤ length out) (few : p .frames ≤ p .read) where
   -- none is whole
   pub turned-waits : (r : Progress) → r ≡ record { read = p .read; written = p .written; frames = p .frames; state = 1 } → NoneWhole last (readAt limits input (p .read))
@@ -160,6 +156,7 @@ module _ (input : List ℕ) (index : ℕ) (last : Bool) (L : Lent) (out : List �
       stands : Turned input index last L L out out p (record { read = p .read; written = p .written; frames = p .frames; state = 1 })
       stands =
           record {
+            product = refl;
             ready = ready;
             runs = λ F first out₀ at h. record { floor = h .floor; counted = h .counted; read = h .read; wrote = h .wrote; fits = h .fits; octets = h .octets; ended = h .ended ∙ ne-eqb (p .state) 2 (λ z. omega arith) };
             inside = inside;
@@ -180,10 +177,11 @@ module _ (input : List ℕ) (index : ℕ) (last : Bool) (L : Lent) (out : List �
       → (number ≡ 1 → last ≡ true) → Turned input index last L L out out′ p r
   turned-refused out′ r number q wrote is cut-last =
       record {
+        product = refl;
         ready = ready;
         runs = λ F first out₀ at h.
-            subst (λ (X : Ran). InRun X L out₀ out′ r) (sym (next-frame input first index F L out₀ out p going at (r .frames) (refusedFrame number) h (is .1) q))
-            (further (runFrom (p .frames) F first input) L L out₀ out out′ p r longestRefusal _ h wrote (omega arith) (runFrom (p .frames) F first input .floor) (runFrom (p .frames) F first input .octets) true
+            subst (λ (X : Ran). InRun X L out₀ out′ r) (sym (next-frame (L .product) input first index F L out₀ out p going at (r .frames) (refusedFrame number) h (is .1) q))
+            (further (runFrom (L .product) (p .frames) F first input) L L out₀ out out′ p r longestRefusal _ h wrote (omega arith) (runFrom (L .product) (p .frames) F first input .floor) (runFrom (L .product) (p .frames) F first input .octets) true
             (is .1) (h .floor) (is .0 ∙ h .read) (sym (eq-eqb (r .state) 2 (is .2))));
         inside = let a = is .0 in omega arith;
         within = let a = wrote .few in omega arith;
@@ -202,14 +200,15 @@ module _ (input : List ℕ) (index : ℕ) (last : Bool) (L : Lent) (out : List �
       → 16 ≤ size → p .read + size ≤ length input → Took index L L′ out out′ p r e size → Turned input index last L L′ out out′ p r
   turned-taken L′ out′ r e size q least there t =
       record {
+        product = t .product;
         ready = t .ready;
         runs = λ F first out₀ at h.
-            let X = runFrom (p .frames) F first input in
-            let same : answer limits (floorIn L) e ≡ answer limits (X .floor) e = ap (λ (G : Floor). answer limits G e) (h .floor) in
+            let X = runFrom (L .product) (p .frames) F first input in
+            let same : answer (limitsOf (L .product)) (floorIn L) e ≡ answer (limitsOf (L .product)) (X .floor) e = ap (λ (G : Floor). answer (limitsOf (L .product)) G e) (h .floor) in
             let line = subst (λ (a : events.Answer). Wrote longestLine (lineOf index a) out out′ (p .written) (r .written)) same (t .line) in
-            subst (λ (Y : Ran). InRun Y L′ out₀ out′ r) (sym (next-frame input first index F L out₀ out p going at (r .frames) (taken e size) h (t .frames) q))
-            (further X L L′ out₀ out out′ p r longestLine _ h line (omega arith) (step limits (X .floor) e) (X .octets + size) false
-            (t .frames) (t .floor ∙ ap (λ (G : Floor). step limits G e) (h .floor)) (let a = h .read in let b = t .read in omega arith) (sym (ne-eqb (r .state) 2 (λ z. let a = t .state in omega arith))));
+            subst (λ (Y : Ran). InRun Y L′ out₀ out′ r) (sym (next-frame (L .product) input first index F L out₀ out p going at (r .frames) (taken e size) h (t .frames) q))
+            (further X L L′ out₀ out out′ p r longestLine _ h line (omega arith) (step (limitsOf (L .product)) (X .floor) e) (X .octets + size) false
+            (t .frames) (t .floor ∙ ap (λ (G : Floor). step (limitsOf (L .product)) G e) (h .floor)) (let a = h .read in let b = t .read in omega arith) (sym (ne-eqb (r .state) 2 (λ z. let a = t .state in omega arith))));
         inside = let a = t .read in omega arith;
         within = let a = t .line .few in omega arith;
         kept = t .line .kept;

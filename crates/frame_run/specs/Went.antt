@@ -5,16 +5,16 @@ use mathlib.Core.List.{List}
 use Prim.Native.Nat.{ℕ, _+_, _<_, _≤_}
 use lib.Dec.{eqb}
 use lib.ListN.{length}
-use Rattle.protocol.specs.Floor.{Floor, limits}
+use Rattle.protocol.specs.Floor.{Floor, limits, limitsOf}
 use Rattle.protocol.specs.Events.{Event}
 use Rattle.protocol.specs.Step.{step, answer}
 use Rattle.protocol.specs.Frames.{Reading, end, refusedFrame, taken, readAt}
 use Rattle.protocol.specs.Printed.{lineOf}
 use Rattle.view.specs.View.{Lent, floorIn}
+use Rattle.event_answers.specs.Met.{Ready}
 use Rattle.frame_lines.specs.Lines.{written, Wrote, longestLine, lineRoom}
 use Rattle.frame_run.specs.declared.Progress.{Progress}
 use Rattle.frame_run.specs.Piece.{Ran, runFrom}
-use Rattle.frame_run.specs.CanRun.{CanRun}
 
 -- the state of a run: the floor that L says, and the lines at the front of the output, which was out₀ before
 pub record InRun (R : Ran) (L : Lent) (out₀ out : List ℕ) (p : Progress) : Type 0 where
@@ -43,8 +43,9 @@ EndsRun last (taken e size) = ⊥
 -- open: where no whole frame is left and the output has no room either, 0 and 1 are both right. The rules say what is printed, not when; after 0 the
 -- run goes on with the same octets and an empty output, prints nothing, and says 1
 pub record Went (input : List ℕ) (index : ℕ) (last : Bool) (L L′ : Lent) (out out′ : List ℕ) (p : Progress) : Type 0 where
-  pub ready : CanRun L′
-  pub run : InRun (runFrom (p .frames) (floorIn L) index input) L′ out out′ p
+  pub product : L′ .product ≡ L .product
+  pub ready : Ready L′
+  pub run : InRun (runFrom (L .product) (p .frames) (floorIn L) index input) L′ out out′ p
   pub inside : p .read ≤ length input
   pub few : p .frames ≤ p .read + 1
   pub within : p .written ≤ length out
@@ -56,18 +57,20 @@ pub record Went (input : List ℕ) (index : ℕ) (last : Bool) (L L′ : Lent) (
 
 -- ONE EVENT of a frame was taken, with its index: the floor and the line are the written ones
 pub record Took (index : ℕ) (L L′ : Lent) (out out′ : List ℕ) (p r : Progress) (e : Event) (size : ℕ) : Type 0 where
-  pub ready : CanRun L′
-  pub floor : floorIn L′ ≡ step limits (floorIn L) e
-  pub line : Wrote longestLine (lineOf index (answer limits (floorIn L) e)) out out′ (p .written) (r .written)
+  pub product : L′ .product ≡ L .product
+  pub ready : Ready L′
+  pub floor : floorIn L′ ≡ step (limitsOf (L .product)) (floorIn L) e
+  pub line : Wrote longestLine (lineOf index (answer (limitsOf (L .product)) (floorIn L) e)) out out′ (p .written) (r .written)
   pub read : r .read ≡ p .read + size
   pub frames : r .frames ≡ p .frames + 1
   pub state : r .state ≡ 0
 
 -- ONE FRAME, with its index, or none where none is whole; in every run that p is the state of, whatever its first index
 pub record Turned (input : List ℕ) (index : ℕ) (last : Bool) (L L′ : Lent) (out out′ : List ℕ) (p r : Progress) : Type 0 where
-  pub ready : CanRun L′
+  pub product : L′ .product ≡ L .product
+  pub ready : Ready L′
   pub runs : (F : Floor) (first : ℕ) (out₀ : List ℕ) → index ≡ first + p .frames
-      → InRun (runFrom (p .frames) F first input) L out₀ out p → InRun (runFrom (r .frames) F first input) L′ out₀ out′ r
+      → InRun (runFrom (L .product) (p .frames) F first input) L out₀ out p → InRun (runFrom (L .product) (r .frames) F first input) L′ out₀ out′ r
   pub inside : r .read ≤ length input
   pub within : r .written ≤ length out
   pub kept : length out′ ≡ length out

@@ -4,21 +4,20 @@ use event_answers::Answer;
 use event_answers::Told;
 use frames::Event;
 use frames::Reading;
+use products::Bounds;
 ghost use mathlib.Core.Path.{_≡_};
 ghost use mathlib.Core.Bool.{true, false, not, _&&_, _||_};
 ghost use Prim.Native.Nat.{_+_, _<_, _≤_};
 ghost use lib.Dec.{eqb, leb};
 ghost use lib.ListN.{length, drop};
-ghost use Rattle.protocol.specs.Floor.{wholeFloor};
 ghost use Rattle.protocol.specs.Events.{refused};
 ghost use Rattle.protocol.specs.Printed.{decimal, restOf, lineOf};
-ghost use Rattle.messages.specs.Texts.{HasText};
 ghost use Rattle.view.specs.View.{lent};
 ghost use Rattle.event_answers.specs.Answers.{toldOf};
-ghost use Rattle.event_answers.specs.Met.{Met};
+ghost use Rattle.event_answers.specs.Met.{MetWith};
 ghost use Rattle.frames.specs.Decoded.{eventIn, sizeOf};
 ghost use Rattle.frame_lines.specs.Lines.{Tabled, Wrote, Began, longestNumber, longestRest, restRoom, longestRefusal, lineRoom};
-ghost use Rattle.frame_run.specs.CanRun.{CanRun};
+ghost use Rattle.frame_run.specs.CanRun.{CanRun, ByEach};
 ghost use Rattle.frame_run.specs.Dispatched.{dispatchedIn, Within};
 ghost use Rattle.frame_run.specs.Went.{Took, Turned, Went};
 
@@ -56,6 +55,7 @@ fn dispatch(
     messages: &mut [u64],
     lines: &mut [u64],
     texts: &mut [u8],
+    bounds: Bounds,
     input: &[u8],
     at: usize,
     e: Event,
@@ -64,16 +64,16 @@ fn dispatch(
     numbers: &[u64],
     index: u64,
 ) -> Dispatched
-    requires { ⌜ CanRun (lent wholeFloor (now stations) (now carts) (now messages) (now lines) (now texts)) ⌝ }
+    requires { ⌜ CanRun bounds (λ P. lent P (now stations) (now carts) (now messages) (now lines) (now texts)) ⌝ }
     requires { ⌜ (at + sizeOf e ≤ length (now input)) × (sizeOf e ≤ 48) ⌝ }
     requires { ⌜ (line + longestNumber ≤ length (now output)) × Tabled (now numbers) ⌝ }
-    ensures { λ r. ⌜ Within r × Met (lent wholeFloor (now (stations .entry)) (now (carts .entry)) (now (messages .entry)) (now (lines .entry)) (now (texts .entry))) (lent wholeFloor (now (stations .exit)) (now (carts .exit)) (now (messages .exit)) (now (lines .exit)) (now (texts .exit))) (eventIn (drop at (now (input .entry))) e) (dispatchedIn (now (texts .exit)) r) ⌝ }
+    ensures { λ r. ⌜ Within (now (texts .exit)) r × MetWith bounds (λ P. lent P (now (stations .entry)) (now (carts .entry)) (now (messages .entry)) (now (lines .entry)) (now (texts .entry))) (λ P. lent P (now (stations .exit)) (now (carts .exit)) (now (messages .exit)) (now (lines .exit)) (now (texts .exit))) (eventIn (drop at (now (input .entry))) e) (dispatchedIn (now (texts .exit)) r) ⌝ }
     ensures { λ r. ⌜ Began 3 longestNumber (decimal index) (now (output .entry)) (now (output .exit)) line (r .next) ⌝ }
 {
     match e {
         Event::Start(n, k) => {
             let next = frame_lines::put_index(output, line, numbers, index);
-            let answer = controller::start(stations, carts, messages, lines, texts, n, k);
+            let answer = event_start::start(stations, carts, messages, lines, texts, n, k, bounds);
             without_text(next, answer)
         }
         Event::Enter(station, cart) => {
@@ -94,7 +94,7 @@ fn dispatch(
                 station,
                 set,
                 text,
-                products::floor_bounds(),
+                bounds,
             );
             without_text(next, answer)
         }
@@ -147,7 +147,7 @@ fn dispatch(
 
 // The rest of the line of a dispatched event, behind its index. All the room of its text is lent, so that no loop runs as often as the text is long.
 fn print(out: &mut [u8], texts: &[u8], numbers: &[u64], dispatched: Dispatched) -> usize
-    requires { ⌜ (dispatched .next + restRoom ≤ length (now out)) × HasText (now texts) (dispatched .room) × Tabled (now numbers) × Within dispatched ⌝ }
+    requires { ⌜ (dispatched .next + restRoom ≤ length (now out)) × Within (now texts) dispatched × Tabled (now numbers) ⌝ }
     ensures { λ n. ⌜ Wrote longestRest (restOf (dispatchedIn (now (texts .entry)) dispatched)) (now (out .entry)) (now (out .exit)) (dispatched .next) n ⌝ }
 {
     let at = dispatched.next;
@@ -222,15 +222,16 @@ fn take_event(
     messages: &mut [u64],
     lines: &mut [u64],
     texts: &mut [u8],
+    bounds: Bounds,
     numbers: &[u64],
     index: u64,
     p: Progress,
     e: Event,
 ) -> Progress
-    requires { ⌜ CanRun (lent wholeFloor (now stations) (now carts) (now messages) (now lines) (now texts)) ⌝ }
+    requires { ⌜ CanRun bounds (λ P. lent P (now stations) (now carts) (now messages) (now lines) (now texts)) ⌝ }
     requires { ⌜ (p .read + sizeOf e ≤ length (now input)) × (sizeOf e ≤ 48) × (p .written + lineRoom ≤ length (now output)) ⌝ }
     requires { ⌜ (p .frames ≤ p .read) × (length (now input) + 1 < 18446744073709551616) × Tabled (now numbers) ⌝ }
-    ensures { λ r. ⌜ Took index (lent wholeFloor (now (stations .entry)) (now (carts .entry)) (now (messages .entry)) (now (lines .entry)) (now (texts .entry))) (lent wholeFloor (now (stations .exit)) (now (carts .exit)) (now (messages .exit)) (now (lines .exit)) (now (texts .exit))) (now (output .entry)) (now (output .exit)) p r (eventIn (drop (p .read) (now (input .entry))) e) (sizeOf e) ⌝ }
+    ensures { λ r. ⌜ ByEach bounds (λ P. lent P (now (stations .entry)) (now (carts .entry)) (now (messages .entry)) (now (lines .entry)) (now (texts .entry))) (λ P. lent P (now (stations .exit)) (now (carts .exit)) (now (messages .exit)) (now (lines .exit)) (now (texts .exit))) (λ L L′. Took index L L′ (now (output .entry)) (now (output .exit)) p r (eventIn (drop (p .read) (now (input .entry))) e) (sizeOf e)) ⌝ }
 {
     let dispatched = dispatch(
         stations,
@@ -238,6 +239,7 @@ fn take_event(
         messages,
         lines,
         texts,
+        bounds,
         input,
         p.read,
         e,
@@ -280,15 +282,16 @@ fn take_frame(
     messages: &mut [u64],
     lines: &mut [u64],
     texts: &mut [u8],
+    bounds: Bounds,
     numbers: &[u64],
     index: u64,
     p: Progress,
     last: bool,
 ) -> Progress
-    requires { ⌜ CanRun (lent wholeFloor (now stations) (now carts) (now messages) (now lines) (now texts)) ⌝ }
+    requires { ⌜ CanRun bounds (λ P. lent P (now stations) (now carts) (now messages) (now lines) (now texts)) ⌝ }
     requires { ⌜ (p .state ≡ 0) × (p .read ≤ length (now input)) × (p .written + lineRoom ≤ length (now output)) ⌝ }
     requires { ⌜ (p .frames ≤ p .read) × (length (now input) + 1 < 18446744073709551616) × Tabled (now numbers) ⌝ }
-    ensures { λ r. ⌜ Turned (now (input .entry)) index last (lent wholeFloor (now (stations .entry)) (now (carts .entry)) (now (messages .entry)) (now (lines .entry)) (now (texts .entry))) (lent wholeFloor (now (stations .exit)) (now (carts .exit)) (now (messages .exit)) (now (lines .exit)) (now (texts .exit))) (now (output .entry)) (now (output .exit)) p r ⌝ }
+    ensures { λ r. ⌜ ByEach bounds (λ P. lent P (now (stations .entry)) (now (carts .entry)) (now (messages .entry)) (now (lines .entry)) (now (texts .entry))) (λ P. lent P (now (stations .exit)) (now (carts .exit)) (now (messages .exit)) (now (lines .exit)) (now (texts .exit))) (λ L L′. Turned (now (input .entry)) index last L L′ (now (output .entry)) (now (output .exit)) p r) ⌝ }
 {
     let reading = frames::frame_at(input, p.read);
     let Reading::Taken(e) = reading else {
@@ -306,6 +309,7 @@ fn take_frame(
         messages,
         lines,
         texts,
+        bounds,
         numbers,
         index,
         p,
@@ -335,13 +339,14 @@ pub fn take_frames(
     messages: &mut [u64],
     lines: &mut [u64],
     texts: &mut [u8],
+    bounds: Bounds,
     numbers: &[u64],
     index: u64,
     last: bool,
 ) -> Progress
-    requires { ⌜ CanRun (lent wholeFloor (now stations) (now carts) (now messages) (now lines) (now texts)) × Tabled (now numbers) ⌝ }
+    requires { ⌜ CanRun bounds (λ P. lent P (now stations) (now carts) (now messages) (now lines) (now texts)) × Tabled (now numbers) ⌝ }
     requires { ⌜ index + length (now input) + 1 < 18446744073709551616 ⌝ }
-    ensures { λ p. ⌜ Went (now (input .entry)) index last (lent wholeFloor (now (stations .entry)) (now (carts .entry)) (now (messages .entry)) (now (lines .entry)) (now (texts .entry))) (lent wholeFloor (now (stations .exit)) (now (carts .exit)) (now (messages .exit)) (now (lines .exit)) (now (texts .exit))) (now (output .entry)) (now (output .exit)) p ⌝ }
+    ensures { λ p. ⌜ ByEach bounds (λ P. lent P (now (stations .entry)) (now (carts .entry)) (now (messages .entry)) (now (lines .entry)) (now (texts .entry))) (λ P. lent P (now (stations .exit)) (now (carts .exit)) (now (messages .exit)) (now (lines .exit)) (now (texts .exit))) (λ L L′. Went (now (input .entry)) index last L L′ (now (output .entry)) (now (output .exit)) p) ⌝ }
 {
     let mut p = Progress {
         read: 0,
@@ -358,6 +363,7 @@ pub fn take_frames(
             messages,
             lines,
             texts,
+            bounds,
             numbers,
             index + p.frames,
             p,

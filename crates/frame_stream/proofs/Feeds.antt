@@ -114,7 +114,7 @@ module _ (input input₁ input₂ : List ℕ) (f r : Feed) (got : Got) (kept : �
         turn = failed;
         may = wants;
         leads = ap (streamOf input₂ L) q
-            ∙ (λ i. record { left = (ap (λ (k : ℕ). take k input₂) whole ∙ kept-there) i; floor = floorIn L; index = f .index; state = 3; last = f .last });
+            ∙ (λ i. record { product = L .product; left = (ap (λ (k : ℕ). take k input₂) whole ∙ kept-there) i; floor = floorIn L; index = f .index; state = 3; last = f .last });
         hands = refl;
       }
 
@@ -131,7 +131,7 @@ module _ (input input₁ input₂ : List ℕ) (f r : Feed) (got : Got) (kept : �
         turn = brought l;
         may = wants;
         leads = ap (streamOf input₂ L) q
-            ∙ (λ i. record { left = behind i; floor = floorIn L; index = f .index; state = 0; last = is-empty l n some i });
+            ∙ (λ i. record { product = L .product; left = behind i; floor = floorIn L; index = f .index; state = 0; last = is-empty l n some i });
         hands = refl;
       }
 
@@ -209,7 +209,7 @@ module _ (input : List ℕ) (L L′ : Lent) (out out′ : List ℕ) (f r : Feed)
         turn = ran n (p .state) (h .accepted);
         may = (runs, run-stops);
         leads = ap (streamOf input L′) is
-            ∙ (λ i. record { left = rest i; floor = went .run .floor i; index = f .index + n; state = stateAfter (p .state) (f .last) (h .accepted); last = f .last });
+            ∙ (λ i. record { product = went .product i; left = rest i; floor = went .run .floor i; index = f .index + n; state = stateAfter (p .state) (f .last) (h .accepted); last = f .last });
         hands = ap (λ (x : Feed). take (x .handed) out′) is ∙ front-of out out′ (piece S n .printed) (h .size) (size ∙ went .run .wrote) (went .run .octets);
       }
 

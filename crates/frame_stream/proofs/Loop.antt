@@ -8,10 +8,10 @@ use native.Mathlib.Omega.{arith}
 use lib.Dec.{eqb, ltb}
 use lib.ListN.{length, length-append}
 use borrow.Author.Tests.{eqb-true, eqb-false, ltb-true, ltb-false, not-true, eq-eqb, ne-eqb, lt-ltb, le-ltb}
-use Rattle.protocol.specs.Floor.{Floor}
+use Rattle.protocol.specs.Floor.{Product, Floor}
 use Rattle.protocol.proofs.Tests.{by-test, and-left, and-right, clash}
 use Rattle.view.specs.View.{Lent, floorIn}
-use Rattle.frame_run.specs.CanRun.{CanRun}
+use Rattle.event_answers.specs.Met.{Ready}
 use Rattle.frame_stream.specs.declared.Feed.{Feed}
 use Rattle.frame_stream.specs.declared.Ending.{Ending}
 use Rattle.frame_stream.specs.Stream.{Stream, begin, Turn, after, May, Turns, streamAfter}
@@ -30,24 +30,24 @@ turns-more S [] m made may = (may, made)
 turns-more S (x ∷ ts) m made may = (made .0, turns-more (after S x) ts m (made .1) may)
 
 -- BEFORE EACH TURN: some turns led from the beginning to this stream, and with those that are left they are 2^64 − 1
-pub record Came (F : Floor) (S : Stream) (left : ℕ) : Type 0 where
+pub record Came (P : Product) (F : Floor) (S : Stream) (left : ℕ) : Type 0 where
   pub turns : List Turn
-  pub made : Turns (begin F) turns
-  pub there : S ≡ streamAfter (begin F) turns
+  pub made : Turns (begin P F) turns
+  pub there : S ≡ streamAfter (begin P F) turns
   pub counted : length turns + left ≡ 18446744073709551615
 
-pub came-first : (F : Floor) → Came F (begin F) 18446744073709551615
+pub came-first : (P : Product) (F : Floor) → Came P F (begin P F) 18446744073709551615
 unfolding Turns streamAfter
-came-first F = record { turns = []; made = tt; there = refl; counted = refl }
+came-first P F = record { turns = []; made = tt; there = refl; counted = refl }
 
-pub came-next : (F : Floor) (S S′ : Stream) (octets : List ℕ) (turns left : ℕ) → Came F S turns → Made S S′ octets → left + 1 ≡ turns → Came F S′ left
-came-next F S S′ octets turns left k m e =
+pub came-next : (P : Product) (F : Floor) (S S′ : Stream) (octets : List ℕ) (turns left : ℕ) → Came P F S turns → Made S S′ octets → left + 1 ≡ turns → Came P F S′ left
+came-next P F S S′ octets turns left k m e =
     let ts = k .turns in
-    let may : May (streamAfter (begin F) ts) (m .turn) = subst (λ (X : Stream). May X (m .turn)) (k .there) (m .may) in
+    let may : May (streamAfter (begin P F) ts) (m .turn) = subst (λ (X : Stream). May X (m .turn)) (k .there) (m .may) in
     record {
       turns = ts ++ (m .turn ∷ []);
-      made = turns-more (begin F) ts (m .turn) (k .made) may;
-      there = m .leads ∙ ap (λ (X : Stream). after X (m .turn)) (k .there) ∙ sym (after-more (begin F) ts (m .turn));
+      made = turns-more (begin P F) ts (m .turn) (k .made) may;
+      there = m .leads ∙ ap (λ (X : Stream). after X (m .turn)) (k .there) ∙ sym (after-more (begin P F) ts (m .turn));
       counted = let c = k .counted in let z = length-append ts (m .turn ∷ []) in omega arith;
     }
 
@@ -79,9 +79,9 @@ goes turns f b e t =
     by-zero k n = omega arith
 
 -- and where it stops
-finished : (F : Floor) (S : Stream) (turns : ℕ) (f : Feed) (r : Ending) (b : Bool) → Came F S turns → S .index ≡ f .index → S .state ≡ f .state
-    → length (S .left) ≡ f .have - f .at → r ≡ record { frames = f .index; state = f .state; left = f .have - f .at } → b ≡ going turns f → b ≡ false → Finished F r
-finished F S turns f r b k index state left q e none =
+finished : (P : Product) (F : Floor) (S : Stream) (turns : ℕ) (f : Feed) (r : Ending) (b : Bool) → Came P F S turns → S .index ≡ f .index → S .state ≡ f .state
+    → length (S .left) ≡ f .have - f .at → r ≡ record { frames = f .index; state = f .state; left = f .have - f .at } → b ≡ going turns f → b ≡ false → Finished P F r
+finished P F S turns f r b k index state left q e none =
     record {
       turns = k .turns;
       made = k .made;
@@ -98,13 +98,13 @@ finished F S turns f r b k index state left q e none =
     }
 
 -- with the floor that the lent parts then say
-pub ran-all : (L L′ : Lent) (input : List ℕ) (turns : ℕ) (f : Feed) (r : Ending) (b : Bool) → CanRun L′ → Inside (length input) f
-    → Came (floorIn L) (streamOf input L′ f) turns → r ≡ record { frames = f .index; state = f .state; left = f .have - f .at } → b ≡ going turns f → b ≡ false
+pub ran-all : (L L′ : Lent) (input : List ℕ) (turns : ℕ) (f : Feed) (r : Ending) (b : Bool) → Ready L′ → Inside (length input) f
+    → Came (L .product) (floorIn L) (streamOf input L′ f) turns → r ≡ record { frames = f .index; state = f .state; left = f .have - f .at } → b ≡ going turns f → b ≡ false
     → RanAll L L′ r
 unfolding finished
 ran-all L L′ input turns f r b ready inside k q e none =
     record {
-      finished = finished (floorIn L) (streamOf input L′ f) turns f r b k refl refl (part-length input f inside) q e none;
+      finished = finished (L .product) (floorIn L) (streamOf input L′ f) turns f r b k refl refl (part-length input f inside) q e none;
       ready = ready;
       floor = ap (λ (X : Stream). X .floor) (k .there);
     }

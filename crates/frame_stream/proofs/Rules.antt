@@ -3,7 +3,7 @@
 use mathlib.Core.Path.{_≡_, sym, ap, _∙_, subst}
 use mathlib.Core.List.{List, _∷_, _++_}
 use Prim.Native.Nat.{ℕ, _<_}
-use Rattle.protocol.specs.Floor.{Floor, limits, justStarted}
+use Rattle.protocol.specs.Floor.{Product, Floor, limitsOf, justStarted}
 use Rattle.protocol.specs.Events.{Event, Report, start, accepted}
 use Rattle.protocol.specs.Step.{answer, floorAfter}
 use Rattle.protocol.specs.SumRule.{total, gains}
@@ -14,21 +14,21 @@ use Rattle.frame_run.proofs.Frames.{floor-of-frames, two-lists-of-frames, sums-
 use Rattle.frame_stream.specs.Stream.{begin, Turn, Turns, streamAfter, broughtBy, Behind}
 use Rattle.frame_stream.proofs.Stream.{stream-is}
 
-module _ (F : Floor) (U : Unstarted F) (ts : List Turn) (made : Turns (begin F) ts) (later : List ℕ) (still : Behind (streamAfter (begin F) ts) later)
+module _ (P : Product) (F : Floor) (U : Unstarted F) (ts : List Turn) (made : Turns (begin P F) ts) (later : List ℕ) (still : Behind (streamAfter (begin P F) ts) later)
     (before : List Event) (n k : ℕ) (behind : List Event) (report : Report)
-    (events : eventsFrom (streamAfter (begin F) ts .index) (broughtBy ts ++ later) ≡ before ++ (start n k ∷ behind))
-    (begun : answer limits (floorAfter limits F before) (start n k) ≡ accepted report) where
-  same-floor : runFrom (streamAfter (begin F) ts .index) F 0 (broughtBy ts ++ later) .floor ≡ streamAfter (begin F) ts .floor
-  same-floor = floor-of-frames (streamAfter (begin F) ts .index) F 0 (broughtBy ts ++ later) ∙ sym (stream-is F U ts made .floor later still)
+    (events : eventsFrom (streamAfter (begin P F) ts .index) (broughtBy ts ++ later) ≡ before ++ (start n k ∷ behind))
+    (begun : answer (limitsOf P) (floorAfter (limitsOf P) F before) (start n k) ≡ accepted report) where
+  same-floor : runFrom P (streamAfter (begin P F) ts .index) F 0 (broughtBy ts ++ later) .floor ≡ streamAfter (begin P F) ts .floor
+  same-floor = floor-of-frames P (streamAfter (begin P F) ts .index) F 0 (broughtBy ts ++ later) ∙ sym (stream-is P F U ts made .floor later still)
 
   -- DEMAND 3
   pub two-lists-of-stream : (s c : ℕ) → c < k
-      → TwoListRule (owes limits (streamAfter (begin F) ts .floor) s c)
-      (listsAfter limits (justStarted n k) bothEmpty behind .sent s c) (listsAfter limits (justStarted n k) bothEmpty behind .received s c)
+      → TwoListRule (owes (limitsOf P) (streamAfter (begin P F) ts .floor) s c)
+      (listsAfter (limitsOf P) (justStarted n k) bothEmpty behind .sent s c) (listsAfter (limitsOf P) (justStarted n k) bothEmpty behind .received s c)
   two-lists-of-stream s c lc =
-      subst (λ (X : Floor). TwoListRule (owes limits X s c) (listsAfter limits (justStarted n k) bothEmpty behind .sent s c) (listsAfter limits (justStarted n k) bothEmpty behind .received s c)) same-floor
-      (two-lists-of-frames (streamAfter (begin F) ts .index) F 0 (broughtBy ts ++ later) before n k behind report events begun s c lc)
+      subst (λ (X : Floor). TwoListRule (owes (limitsOf P) X s c) (listsAfter (limitsOf P) (justStarted n k) bothEmpty behind .sent s c) (listsAfter (limitsOf P) (justStarted n k) bothEmpty behind .received s c)) same-floor
+      (two-lists-of-frames P (streamAfter (begin P F) ts .index) F 0 (broughtBy ts ++ later) before n k behind report events begun s c lc)
 
   -- THE SUM RULE
-  pub sums-of-stream : total (streamAfter (begin F) ts .floor) ≡ gains limits (justStarted n k) behind
-  sums-of-stream = sym (ap total same-floor) ∙ sums-of-frames (streamAfter (begin F) ts .index) F 0 (broughtBy ts ++ later) before n k behind report events begun
+  pub sums-of-stream : total (streamAfter (begin P F) ts .floor) ≡ gains (limitsOf P) (justStarted n k) behind
+  sums-of-stream = sym (ap total same-floor) ∙ sums-of-frames P (streamAfter (begin P F) ts .index) F 0 (broughtBy ts ++ later) before n k behind report events begun

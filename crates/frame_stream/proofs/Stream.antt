@@ -10,7 +10,7 @@ use lib.ListN.{drop}
 use lib.Seq.{drop-append-le, drop-drop}
 use borrow.Author.Tests.{eqb-true, eq-eqb, ne-eqb}
 use Rattle.protocol.specs.Folds.{isEmpty}
-use Rattle.protocol.specs.Floor.{Floor, limits}
+use Rattle.protocol.specs.Floor.{Product, Floor, limits}
 use Rattle.protocol.specs.Frames.{Reading, end, refusedFrame, taken, frameOf, readAt}
 use Rattle.protocol.proofs.Tests.{by-test, by-eq, clash}
 use Rattle.frame_run.specs.Piece.{Ran, runFrom}
@@ -59,25 +59,27 @@ over-at-refusal last (refusedFrame r) h = tt
 over-at-refusal last (taken e size) h = absurd h
 
 -- THE RUN SO FAR, over an input of which W is all and `later` has not been read yet: H is what it printed
-pub record SoFar (F : Floor) (W H : List ℕ) (S : Stream) (later : List ℕ) : Type 0 where
-  pub count : runFrom (S .index) F 0 W .count ≡ S .index
-  pub printed : runFrom (S .index) F 0 W .printed ≡ H
-  pub floor : runFrom (S .index) F 0 W .floor ≡ S .floor
-  pub rest : drop (runFrom (S .index) F 0 W .octets) W ≡ S .left ++ later
-  pub goes : S .state < 2 → runFrom (S .index) F 0 W .ended ≡ false
-  pub over : S .state ≡ 2 → (runFrom (S .index) F 0 W .ended ≡ true) ⊎ (readAt limits W (runFrom (S .index) F 0 W .octets) ≡ end)
+pub record SoFar (P : Product) (F : Floor) (W H : List ℕ) (S : Stream) (later : List ℕ) : Type 0 where
+  pub count : runFrom P (S .index) F 0 W .count ≡ S .index
+  pub printed : runFrom P (S .index) F 0 W .printed ≡ H
+  pub floor : runFrom P (S .index) F 0 W .floor ≡ S .floor
+  pub rest : drop (runFrom P (S .index) F 0 W .octets) W ≡ S .left ++ later
+  pub goes : S .state < 2 → runFrom P (S .index) F 0 W .ended ≡ false
+  pub over : S .state ≡ 2 → (runFrom P (S .index) F 0 W .ended ≡ true) ⊎ (readAt limits W (runFrom P (S .index) F 0 W .octets) ≡ end)
 
 -- the same, over every input that begins with B, what the turns brought
-record Holds (F : Floor) (B H : List ℕ) (S : Stream) : Type 0 where
+record Holds (P : Product) (F : Floor) (B H : List ℕ) (S : Stream) : Type 0 where
+  own : S .product ≡ P
   more : S .state ≡ 1 → S .last ≡ false
-  run : (later : List ℕ) → Behind S later → SoFar F (B ++ later) H S later
+  run : (later : List ℕ) → Behind S later → SoFar P F (B ++ later) H S later
   stops : S .state ≡ 2 → OverAt (S .last) (frameOf limits (S .left))
 
 -- before the first read
-holds-first : (F : Floor) → Holds F [] [] (begin F)
+holds-first : (P : Product) (F : Floor) → Holds P F [] [] (begin P F)
 unfolding runFrom
-holds-first F =
+holds-first P F =
     record {
+      own = refl;
       more = λ e. refl;
       run = λ later h. record { count = refl; printed = refl; floor = refl; rest = refl; goes = λ z. refl; over = λ z. absurd (omega arith) };
       stops = λ z. absurd (omega arith);
@@ -88,48 +90,50 @@ last-empty : (l later : List ℕ) → isEmpty l ≡ true → l ≡ []
 last-empty [] later e = refl
 last-empty (x ∷ l) later e = clash false e refl
 
-module _ (F : Floor) (B H : List ℕ) (S : Stream) (h : Holds F B H S) (wants : S .state ≡ 1) where
-  holds-brought : (l : List ℕ) → Holds F (B ++ l) H (record { left = S .left ++ l; floor = S .floor; index = S .index; state = 0; last = isEmpty l })
+module _ (P : Product) (F : Floor) (B H : List ℕ) (S : Stream) (h : Holds P F B H S) (wants : S .state ≡ 1) where
+  holds-brought : (l : List ℕ) → Holds P F (B ++ l) H (record { product = S .product; left = S .left ++ l; floor = S .floor; index = S .index; state = 0; last = isEmpty l })
   holds-brought l =
       record {
+        own = h .own;
         more = λ z. absurd (omega arith);
         run = λ later b.
             let W = B ++ (l ++ later) in
             let s = h .run (l ++ later) (λ t. clash (S .last) t (h .more wants)) in
-            let rest : drop (runFrom (S .index) F 0 W .octets) W ≡ (S .left ++ l) ++ later = s .rest ∙ sym (append-assoc (S .left) l later) in
-            subst (λ (X : List ℕ). SoFar F X H (record { left = S .left ++ l; floor = S .floor; index = S .index; state = 0; last = isEmpty l }) later) (sym (append-assoc B l later))
+            let rest : drop (runFrom P (S .index) F 0 W .octets) W ≡ (S .left ++ l) ++ later = s .rest ∙ sym (append-assoc (S .left) l later) in
+            subst (λ (X : List ℕ). SoFar P F X H (record { product = S .product; left = S .left ++ l; floor = S .floor; index = S .index; state = 0; last = isEmpty l }) later) (sym (append-assoc B l later))
             (record { count = s .count; printed = s .printed; floor = s .floor; rest = rest; goes = λ z. s .goes (omega arith); over = λ z. absurd (omega arith) });
         stops = λ z. absurd (omega arith);
       }
 
-  holds-failed : Holds F B H (record { left = S .left; floor = S .floor; index = S .index; state = 3; last = S .last })
+  holds-failed : Holds P F B H (record { product = S .product; left = S .left; floor = S .floor; index = S .index; state = 3; last = S .last })
   holds-failed =
       record {
+        own = h .own;
         more = λ z. absurd (omega arith);
         run = λ later b. let s = h .run later b in record { count = s .count; printed = s .printed; floor = s .floor; rest = s .rest; goes = λ z. absurd (omega arith); over = λ z. absurd (omega arith) };
         stops = λ z. absurd (omega arith);
       }
 
 -- A RUN of the first n frames of what is left
-module _ (F : Floor) (B H : List ℕ) (S : Stream) (h : Holds F B H S) (n why : ℕ) (accepted : Bool) (runs : S .state ≡ 0) (t : Stops S n why) where
+module _ (P : Product) (F : Floor) (B H : List ℕ) (S : Stream) (h : Holds P F B H S) (n why : ℕ) (accepted : Bool) (runs : S .state ≡ 0) (t : Stops S n why) where
   abbrev X : Ran
   X = piece S n
 
   -- whatever follows, the frames stand
-  stood : (later : List ℕ) → Behind S later → runFrom n (S .floor) (S .index) (S .left ++ later) ≡ X
+  stood : (later : List ℕ) → Behind S later → runFrom (S .product) n (S .floor) (S .index) (S .left ++ later) ≡ X
   stood later b =
       by-test (S .last)
-      (λ y. ap (λ (q : List ℕ). runFrom n (S .floor) (S .index) (S .left ++ q)) (b y) ∙ ap (runFrom n (S .floor) (S .index)) (append-nil (S .left)))
-      (λ y. stands n (S .floor) (S .index) (S .left) later (t .counted)
+      (λ y. ap (λ (q : List ℕ). runFrom (S .product) n (S .floor) (S .index) (S .left ++ q)) (b y) ∙ ap (runFrom (S .product) n (S .floor) (S .index)) (append-nil (S .left)))
+      (λ y. stands (S .product) n (S .floor) (S .index) (S .left) later (t .counted)
       (λ ended cut.
       let ends = t .ends (eqb-true why 2 (sym (t .ended) ∙ ended)) in
       let never : S .last ≡ true = subst (λ (x : Reading). EndsRun (S .last) x) cut ends refl in
       clash (S .last) never y))
 
   abbrev S′ : Stream
-  S′ = record { left = drop (X .octets) (S .left); floor = X .floor; index = S .index + n; state = stateAfter why (S .last) accepted; last = S .last }
+  S′ = record { product = S .product; left = drop (X .octets) (S .left); floor = X .floor; index = S .index + n; state = stateAfter why (S .last) accepted; last = S .last }
 
-  further : (later : List ℕ) → Behind S later → SoFar F (B ++ later) (H ++ X .printed) S′ later
+  further : (later : List ℕ) → Behind S later → SoFar P F (B ++ later) (H ++ X .printed) S′ later
   unfolding readAt
   further later b =
       record {
@@ -149,35 +153,36 @@ module _ (F : Floor) (B H : List ℕ) (S : Stream) (h : Holds F B H S) (n why : 
       W : List ℕ
       W = B ++ later
 
-      s : SoFar F W H S later
+      s : SoFar P F W H S later
       s = h .run later b
 
       R : Ran
-      R = runFrom (S .index) F 0 W
+      R = runFrom P (S .index) F 0 W
 
       none-more : 0 + S .index ≡ S .index
       none-more = omega arith
 
-      same : runFrom (S .index + n) F 0 W ≡ joined R X
+      same : runFrom P (S .index + n) F 0 W ≡ joined R X
       same =
-          runs-go-on (S .index) n F 0 W (s .count) (s .goes (omega arith))
-          ∙ (λ i. joined R (runFrom n (s .floor i) (none-more i) (s .rest i)))
+          runs-go-on P (S .index) n F 0 W (s .count) (s .goes (omega arith))
+          ∙ (λ i. joined R (runFrom (sym (h .own) i) n (s .floor i) (none-more i) (s .rest i)))
           ∙ ap (joined R) (stood later b)
 
       sums : R .count + X .count ≡ S .index + n
       sums = let a = s .count in let c = t .counted in omega arith
 
-      rest : drop (runFrom (S .index + n) F 0 W .octets) W ≡ drop (X .octets) (S .left) ++ later
+      rest : drop (runFrom P (S .index + n) F 0 W .octets) W ≡ drop (X .octets) (S .left) ++ later
       rest =
           ap (λ (Y : Ran). drop (Y .octets) W) same
           ∙ sym (drop-drop (X .octets) (R .octets) W)
           ∙ ap (drop (X .octets)) (s .rest)
-          ∙ drop-append-le (X .octets) (S .left) later (octets-inside n (S .floor) (S .index) (S .left))
+          ∙ drop-append-le (X .octets) (S .left) later (octets-inside (S .product) n (S .floor) (S .index) (S .left))
 
-  holds-ran : Holds F B (H ++ X .printed) S′
+  holds-ran : Holds P F B (H ++ X .printed) S′
   unfolding readAt
   holds-ran =
       record {
+        own = h .own;
         more = λ z. wants-why why (S .last) accepted (t .known) z .1;
         run = further;
         stops = λ z. ⊎-elim
@@ -187,48 +192,48 @@ module _ (F : Floor) (B H : List ℕ) (S : Stream) (h : Holds F B H S) (n why : 
       }
 
 -- ONE TURN MORE
-holds-next : (F : Floor) (B H : List ℕ) (S : Stream) (m : Turn) → Holds F B H S → May S m → Holds F (B ++ broughtIn m) (H ++ handed S m) (after S m)
+holds-next : (P : Product) (F : Floor) (B H : List ℕ) (S : Stream) (m : Turn) → Holds P F B H S → May S m → Holds P F (B ++ broughtIn m) (H ++ handed S m) (after S m)
 unfolding after handed May
-holds-next F B H S (brought l) h may = subst (λ (x : List ℕ). Holds F (B ++ l) x (after S (brought l))) (sym (append-nil H)) (holds-brought F B H S h may l)
-holds-next F B H S failed h may =
-    subst (λ (y : List ℕ). Holds F y (H ++ []) (after S failed)) (sym (append-nil B)) (subst (λ (x : List ℕ). Holds F B x (after S failed)) (sym (append-nil H)) (holds-failed F B H S h may))
-holds-next F B H S (ran n why accepted) h may =
-    subst (λ (y : List ℕ). Holds F y (H ++ piece S n .printed) (after S (ran n why accepted))) (sym (append-nil B)) (holds-ran F B H S h n why accepted (may .0) (may .1))
+holds-next P F B H S (brought l) h may = subst (λ (x : List ℕ). Holds P F (B ++ l) x (after S (brought l))) (sym (append-nil H)) (holds-brought P F B H S h may l)
+holds-next P F B H S failed h may =
+    subst (λ (y : List ℕ). Holds P F y (H ++ []) (after S failed)) (sym (append-nil B)) (subst (λ (x : List ℕ). Holds P F B x (after S failed)) (sym (append-nil H)) (holds-failed P F B H S h may))
+holds-next P F B H S (ran n why accepted) h may =
+    subst (λ (y : List ℕ). Holds P F y (H ++ piece S n .printed) (after S (ran n why accepted))) (sym (append-nil B)) (holds-ran P F B H S h n why accepted (may .0) (may .1))
 
 -- ALL OF THEM
-holds-after : (F : Floor) (B H : List ℕ) (S : Stream) (ts : List Turn) → Holds F B H S → Turns S ts → Holds F (B ++ broughtBy ts) (H ++ handedBy S ts) (streamAfter S ts)
+holds-after : (P : Product) (F : Floor) (B H : List ℕ) (S : Stream) (ts : List Turn) → Holds P F B H S → Turns S ts → Holds P F (B ++ broughtBy ts) (H ++ handedBy S ts) (streamAfter S ts)
 unfolding Turns streamAfter broughtBy handedBy
-holds-after F B H S [] h made = subst (λ (x : List ℕ). Holds F (B ++ []) x S) (sym (append-nil H)) (subst (λ (y : List ℕ). Holds F y H S) (sym (append-nil B)) h)
-holds-after F B H S (m ∷ ts) h made =
+holds-after P F B H S [] h made = subst (λ (x : List ℕ). Holds P F (B ++ []) x S) (sym (append-nil H)) (subst (λ (y : List ℕ). Holds P F y H S) (sym (append-nil B)) h)
+holds-after P F B H S (m ∷ ts) h made =
     let S′ = after S m in
-    let rest = holds-after F (B ++ broughtIn m) (H ++ handed S m) S′ ts (holds-next F B H S m h (made .0)) (made .1) in
-    subst (λ (x : List ℕ). Holds F (B ++ (broughtIn m ++ broughtBy ts)) x (streamAfter S′ ts)) (append-assoc H (handed S m) (handedBy S′ ts))
-    (subst (λ (y : List ℕ). Holds F y ((H ++ handed S m) ++ handedBy S′ ts) (streamAfter S′ ts)) (append-assoc B (broughtIn m) (broughtBy ts)) rest)
+    let rest = holds-after P F (B ++ broughtIn m) (H ++ handed S m) S′ ts (holds-next P F B H S m h (made .0)) (made .1) in
+    subst (λ (x : List ℕ). Holds P F (B ++ (broughtIn m ++ broughtBy ts)) x (streamAfter S′ ts)) (append-assoc H (handed S m) (handedBy S′ ts))
+    (subst (λ (y : List ℕ). Holds P F y ((H ++ handed S m) ++ handedBy S′ ts) (streamAfter S′ ts)) (append-assoc B (broughtIn m) (broughtBy ts)) rest)
 
-all-hold : (F : Floor) (ts : List Turn) → Turns (begin F) ts → Holds F (broughtBy ts) (handedBy (begin F) ts) (streamAfter (begin F) ts)
-all-hold F ts made = holds-after F [] [] (begin F) ts (holds-first F) made
+all-hold : (P : Product) (F : Floor) (ts : List Turn) → Turns (begin P F) ts → Holds P F (broughtBy ts) (handedBy (begin P F) ts) (streamAfter (begin P F) ts)
+all-hold P F ts made = holds-after P F [] [] (begin P F) ts (holds-first P F) made
 
-pub so-far : (F : Floor) (ts : List Turn) → Turns (begin F) ts → (later : List ℕ) → Behind (streamAfter (begin F) ts) later
-    → SoFar F (broughtBy ts ++ later) (handedBy (begin F) ts) (streamAfter (begin F) ts) later
-so-far F ts made = all-hold F ts made .run
+pub so-far : (P : Product) (F : Floor) (ts : List Turn) → Turns (begin P F) ts → (later : List ℕ) → Behind (streamAfter (begin P F) ts) later
+    → SoFar P F (broughtBy ts ++ later) (handedBy (begin P F) ts) (streamAfter (begin P F) ts) later
+so-far P F ts made = all-hold P F ts made .run
 
 -- THE CLAIM
-pub stream-is : (F : Floor) → Unstarted F → (ts : List Turn) → Turns (begin F) ts → StreamIs F ts
-stream-is F U ts made =
+pub stream-is : (P : Product) (F : Floor) → Unstarted F → (ts : List Turn) → Turns (begin P F) ts → StreamIs P F ts
+stream-is P F U ts made =
     record {
       whole = λ over later b.
           let s = h .run later b in
-          printed-whole F U (S .index) (broughtBy ts ++ later) (s .count) (s .over over) ∙ s .printed;
+          printed-whole P F U (S .index) (broughtBy ts ++ later) (s .count) (s .over over) ∙ s .printed;
       beginning = λ later b.
           let s = h .run later b in
-          let p = printed-begins F U (S .index) (broughtBy ts ++ later) (s .count) in
+          let p = printed-begins P F U (S .index) (broughtBy ts ++ later) (s .count) in
           (p .0, p .1 ∙ ap (λ (x : List ℕ). x ++ p .0) (s .printed));
       over = h .stops;
-      floor = λ later b. let s = h .run later b in sym (s .floor) ∙ floor-of-frames (S .index) F 0 (broughtBy ts ++ later);
+      floor = λ later b. let s = h .run later b in sym (s .floor) ∙ floor-of-frames P (S .index) F 0 (broughtBy ts ++ later);
     }
   where
     S : Stream
-    S = streamAfter (begin F) ts
+    S = streamAfter (begin P F) ts
 
-    h : Holds F (broughtBy ts) (handedBy (begin F) ts) S
-    h = all-hold F ts made
+    h : Holds P F (broughtBy ts) (handedBy (begin P F) ts) S
+    h = all-hold P F ts made

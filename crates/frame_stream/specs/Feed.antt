@@ -8,10 +8,11 @@ use lib.Dec.{eqb}
 use lib.IntN.{ℤ, pos, negsuc}
 use lib.ListN.{length, take, drop}
 use Rattle.io.specs.Counts.{clamped}
-use Rattle.protocol.specs.Floor.{Floor}
+use Rattle.protocol.specs.Floor.{Product, Floor}
 use Rattle.view.specs.View.{Lent, floorIn}
 use Rattle.frame_run.specs.declared.Progress.{Progress}
-use Rattle.frame_run.specs.CanRun.{CanRun, Unstarted}
+use Rattle.event_answers.specs.Met.{Ready}
+use Rattle.frame_run.specs.CanRun.{Unstarted}
 use Rattle.frame_stream.specs.declared.Feed.{Feed}
 use Rattle.frame_stream.specs.declared.Got.{Got}
 use Rattle.frame_stream.specs.declared.Handed.{Handed}
@@ -26,7 +27,7 @@ pub record Inside (n : ℕ) (f : Feed) : Type 0 where
 
 -- THE STREAM that a piece of input, the lent floor and the feed say: what is left are the octets from `at` up to `have`
 abbrev pub streamOf : List ℕ → Lent → Feed → Stream
-streamOf input L f = record { left = take (f .have - f .at) (drop (f .at) input); floor = floorIn L; index = f .index; state = f .state; last = f .last }
+streamOf input L f = record { product = L .product; left = take (f .have - f .at) (drop (f .at) input); floor = floorIn L; index = f .index; state = f .state; last = f .last }
 
 -- ONE TURN WAS MADE, from S to S′, and these octets were handed on
 pub record Made (S S′ : Stream) (octets : List ℕ) : Type 0 where
@@ -55,25 +56,25 @@ abbrev pub afterRun : Feed → Progress → Handed → Feed
 afterRun f p h =
     record { at = f .at + p .read; have = f .have; index = f .index + p .frames; state = stateAfter (p .state) (f .last) (h .accepted); last = f .last; handed = h .size }
 
--- THE WHOLE RUN from a floor: the turns that were made, and how it came out. It stopped since nothing was to be done, or since 2^63 frames were run or
+-- THE WHOLE RUN from a floor, by the limits of a product: the turns that were made, and how it came out. It stopped since nothing was to be done, or since 2^63 frames were run or
 -- 2^64 − 1 turns made, which no input uses up
-pub record Finished (F : Floor) (r : Ending) : Type 0 where
+pub record Finished (P : Product) (F : Floor) (r : Ending) : Type 0 where
   pub turns : List Turn
-  pub made : Turns (begin F) turns
-  pub frames : r .frames ≡ streamAfter (begin F) turns .index
-  pub state : r .state ≡ streamAfter (begin F) turns .state
-  pub left : r .left ≡ length (streamAfter (begin F) turns .left)
+  pub made : Turns (begin P F) turns
+  pub frames : r .frames ≡ streamAfter (begin P F) turns .index
+  pub state : r .state ≡ streamAfter (begin P F) turns .state
+  pub left : r .left ≡ length (streamAfter (begin P F) turns .left)
   pub stopped : (2 ≤ r .state) ⊎ ((9223372036854775808 ≤ r .frames) ⊎ (length turns ≡ 18446744073709551615))
 
 -- the same over lent parts: they were L, and L′ says the floor after the last turn, with which a run could go on
 pub record RanAll (L L′ : Lent) (r : Ending) : Type 0 where
-  pub finished : Finished (floorIn L) r
-  pub ready : CanRun L′
-  pub floor : floorIn L′ ≡ streamAfter (begin (floorIn L)) (finished .turns) .floor
+  pub finished : Finished (L .product) (floorIn L) r
+  pub ready : Ready L′
+  pub floor : floorIn L′ ≡ streamAfter (begin (L .product) (floorIn L)) (finished .turns) .floor
 
--- and it prints the printed run
-pub record Streamed (r : Ending) : Type 0 where
+-- and it prints the printed run of that product
+pub record Streamed (P : Product) (r : Ending) : Type 0 where
   pub floor : Floor
   pub fresh : Unstarted floor
-  pub finished : Finished floor r
-  pub is : StreamIs floor (finished .turns)
+  pub finished : Finished P floor r
+  pub is : StreamIs P floor (finished .turns)

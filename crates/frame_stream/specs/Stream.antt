@@ -7,7 +7,7 @@ use Prim.Native.Nat.{ℕ, _+_, _<_, _≤_}
 use lib.Dec.{eqb}
 use lib.ListN.{length, drop}
 use Rattle.protocol.specs.Folds.{isEmpty}
-use Rattle.protocol.specs.Floor.{Floor, limits}
+use Rattle.protocol.specs.Floor.{Product, Floor, limits, limitsOf}
 use Rattle.protocol.specs.Step.{floorAfter}
 use Rattle.protocol.specs.Frames.{Reading, end, refusedFrame, taken, frameOf, readAt}
 use Rattle.protocol.specs.Printed.{printedRun}
@@ -15,9 +15,10 @@ use Rattle.frame_lines.specs.Lines.{lineRoom}
 use Rattle.frame_run.specs.Piece.{Ran, runFrom, eventsFrom}
 use Rattle.frame_run.specs.Went.{NoneWhole, EndsRun}
 
--- between two turns: the octets that were read and not run yet, the floor, the next frame's index, what is to be done, and whether the input has
--- ended. To be done is a run (0), a read (1), or nothing, since the run is over (2) or a read or a write failed (3)
+-- between two turns: whose limits the steps go by, the octets that were read and not run yet, the floor, the next frame's index, what is to be done, and
+-- whether the input has ended. To be done is a run (0), a read (1), or nothing, since the run is over (2) or a read or a write failed (3)
 pub record Stream : Type 0 where
+  pub product : Product
   pub left : List ℕ
   pub floor : Floor
   pub index : ℕ
@@ -25,8 +26,8 @@ pub record Stream : Type 0 where
   pub last : Bool
 
 -- before the first read
-abbrev pub begin : Floor → Stream
-begin F = record { left = []; floor = F; index = 0; state = 1; last = false }
+abbrev pub begin : Product → Floor → Stream
+begin P F = record { product = P; left = []; floor = F; index = 0; state = 1; last = false }
 
 -- ONE TURN: a read brought these octets, none at the input's end; a read failed; or this many frames were run, the run stopped for this reason (`Stops`),
 -- and their lines were handed on, and accepted or not
@@ -37,7 +38,7 @@ pub data Turn : Type 0 where
 
 -- the run of the first n frames of what is left
 abbrev pub piece : Stream → ℕ → Ran
-piece S n = runFrom n (S .floor) (S .index) (S .left)
+piece S n = runFrom (S .product) n (S .floor) (S .index) (S .left)
 
 -- what is to be done after a run: nothing more where its lines were not accepted or a frame was refused; another run, where the lines filled the
 -- output; else a read, if the input has not ended
@@ -46,10 +47,11 @@ stateAfter why last accepted = cond accepted (cond (eqb why 2) 2 (cond (eqb why 
 
 -- the stream after a turn
 unfoldable pub after : Stream → Turn → Stream
-after S (brought l) = record { left = S .left ++ l; floor = S .floor; index = S .index; state = 0; last = isEmpty l }
-after S failed = record { left = S .left; floor = S .floor; index = S .index; state = 3; last = S .last }
+after S (brought l) = record { product = S .product; left = S .left ++ l; floor = S .floor; index = S .index; state = 0; last = isEmpty l }
+after S failed = record { product = S .product; left = S .left; floor = S .floor; index = S .index; state = 3; last = S .last }
 after S (ran n why accepted) =
     record {
+      product = S .product;
       left = drop (piece S n .octets) (S .left);
       floor = piece S n .floor;
       index = S .index + n;
@@ -114,11 +116,11 @@ OverAt last end = last ≡ true
 OverAt last (refusedFrame r) = Unit {0}
 OverAt last (taken e size) = ⊥
 
--- THE CLAIM over any list of turns from a floor: however an input is cut into reads, what is handed on is the printed run of the whole input if the
+-- THE CLAIM over any list of turns from a floor, by the limits of a product: however an input is cut into reads, what is handed on is the printed run of the whole input if the
 -- run is over, and else a beginning of it. It is over only at the input's end or at a frame refused with 1 to 4; the floor is that of the frames' events
-pub record StreamIs (F : Floor) (ts : List Turn) : Type 0 where
-  pub whole : streamAfter (begin F) ts .state ≡ 2 → (later : List ℕ) → Behind (streamAfter (begin F) ts) later → printedRun limits (broughtBy ts ++ later) ≡ handedBy (begin F) ts
-  pub beginning : (later : List ℕ) → Behind (streamAfter (begin F) ts) later → (rest : List ℕ) × (printedRun limits (broughtBy ts ++ later) ≡ handedBy (begin F) ts ++ rest)
-  pub over : streamAfter (begin F) ts .state ≡ 2 → OverAt (streamAfter (begin F) ts .last) (frameOf limits (streamAfter (begin F) ts .left))
-  pub floor : (later : List ℕ) → Behind (streamAfter (begin F) ts) later
-      → streamAfter (begin F) ts .floor ≡ floorAfter limits F (eventsFrom (streamAfter (begin F) ts .index) (broughtBy ts ++ later))
+pub record StreamIs (P : Product) (F : Floor) (ts : List Turn) : Type 0 where
+  pub whole : streamAfter (begin P F) ts .state ≡ 2 → (later : List ℕ) → Behind (streamAfter (begin P F) ts) later → printedRun (limitsOf P) (broughtBy ts ++ later) ≡ handedBy (begin P F) ts
+  pub beginning : (later : List ℕ) → Behind (streamAfter (begin P F) ts) later → (rest : List ℕ) × (printedRun (limitsOf P) (broughtBy ts ++ later) ≡ handedBy (begin P F) ts ++ rest)
+  pub over : streamAfter (begin P F) ts .state ≡ 2 → OverAt (streamAfter (begin P F) ts .last) (frameOf limits (streamAfter (begin P F) ts .left))
+  pub floor : (later : List ℕ) → Behind (streamAfter (begin P F) ts) later
+      → streamAfter (begin P F) ts .floor ≡ floorAfter (limitsOf P) F (eventsFrom (streamAfter (begin P F) ts .index) (broughtBy ts ++ later))

@@ -2,6 +2,7 @@
 // octets go between it and the descriptors, in large pieces, and the memory is the same whatever the input's length. Two functions touch a
 // descriptor, `read` and `hand_on`. All the others are about slices and numbers, and what they come to is the written stream (specs/Stream).
 use frame_run::Progress;
+use products::Bounds;
 ghost use mathlib.Core.Path.{_≡_};
 ghost use mathlib.Core.Bool.{false, not, _&&_};
 ghost use mathlib.Core.List.{[]};
@@ -10,8 +11,9 @@ ghost use lib.Dec.{eqb, ltb};
 ghost use lib.ListN.{length, take};
 ghost use Rattle.stations.specs.View.{headIn};
 ghost use Rattle.frame_lines.specs.Lines.{Tabled};
-ghost use Rattle.protocol.specs.Floor.{wholeFloor};
-ghost use Rattle.frame_run.specs.CanRun.{CanRun};
+ghost use Rattle.protocol.specs.Floor.{wholeFloor, kit};
+ghost use Rattle.event_answers.specs.Met.{Ready};
+ghost use Rattle.frame_run.specs.CanRun.{CanRun, ByEach};
 ghost use Rattle.view.specs.View.{Lent, lent};
 ghost use Rattle.frame_stream.specs.Stream.{stateAfter};
 ghost use Rattle.frame_stream.specs.Feed.{Inside, streamOf, Made, gotOf, afterRead, afterRun, RanAll, Streamed};
@@ -210,13 +212,14 @@ fn run_piece(
     messages: &mut [u64],
     lines: &mut [u64],
     texts: &mut [u8],
+    bounds: Bounds,
     numbers: &[u64],
     f: Feed,
 ) -> Feed
-    requires { ⌜ CanRun (lent wholeFloor (now stations) (now carts) (now messages) (now lines) (now texts)) × Tabled (now numbers) ⌝ }
+    requires { ⌜ CanRun bounds (λ P. lent P (now stations) (now carts) (now messages) (now lines) (now texts)) × Tabled (now numbers) ⌝ }
     requires { ⌜ Inside (length (now input)) f × (f .state ≡ 0) × (f .index < 9223372036854775808) × (length (now input) ≡ 65536) × (length (now output) ≡ 65536) ⌝ }
-    ensures { λ r. ⌜ CanRun (lent wholeFloor (now (stations .exit)) (now (carts .exit)) (now (messages .exit)) (now (lines .exit)) (now (texts .exit))) × Inside (length (now (input .entry))) r ⌝ }
-    ensures { λ r. ⌜ Made (streamOf (now (input .entry)) (lent wholeFloor (now (stations .entry)) (now (carts .entry)) (now (messages .entry)) (now (lines .entry)) (now (texts .entry))) f) (streamOf (now (input .entry)) (lent wholeFloor (now (stations .exit)) (now (carts .exit)) (now (messages .exit)) (now (lines .exit)) (now (texts .exit))) r) (take (r .handed) (now (output .exit))) ⌝ }
+    ensures { λ r. ⌜ ByEach bounds (λ P. lent P (now (stations .entry)) (now (carts .entry)) (now (messages .entry)) (now (lines .entry)) (now (texts .entry))) (λ P. lent P (now (stations .exit)) (now (carts .exit)) (now (messages .exit)) (now (lines .exit)) (now (texts .exit))) (λ L L′. Ready L′ × Made (streamOf (now (input .entry)) L f) (streamOf (now (input .entry)) L′ r) (take (r .handed) (now (output .exit)))) ⌝ }
+    ensures { λ r. ⌜ Inside (length (now (input .entry))) r ⌝ }
     ensures { λ r. ⌜ length (now (output .exit)) ≡ length (now (output .entry)) ⌝ }
 {
     let at = f.at;
@@ -229,6 +232,7 @@ fn run_piece(
         messages,
         lines,
         texts,
+        bounds,
         numbers,
         f.index,
         f.last,
@@ -249,13 +253,14 @@ fn turn(
     messages: &mut [u64],
     lines: &mut [u64],
     texts: &mut [u8],
+    bounds: Bounds,
     numbers: &[u64],
     f: Feed,
 ) -> Feed
-    requires { ⌜ CanRun (lent wholeFloor (now stations) (now carts) (now messages) (now lines) (now texts)) × Tabled (now numbers) ⌝ }
+    requires { ⌜ CanRun bounds (λ P. lent P (now stations) (now carts) (now messages) (now lines) (now texts)) × Tabled (now numbers) ⌝ }
     requires { ⌜ Inside (length (now input)) f × (f .state < 2) × (f .index < 9223372036854775808) × (length (now input) ≡ 65536) × (length (now output) ≡ 65536) ⌝ }
-    ensures { λ r. ⌜ CanRun (lent wholeFloor (now (stations .exit)) (now (carts .exit)) (now (messages .exit)) (now (lines .exit)) (now (texts .exit))) × Inside (length (now (input .exit))) r ⌝ }
-    ensures { λ r. ⌜ Made (streamOf (now (input .entry)) (lent wholeFloor (now (stations .entry)) (now (carts .entry)) (now (messages .entry)) (now (lines .entry)) (now (texts .entry))) f) (streamOf (now (input .exit)) (lent wholeFloor (now (stations .exit)) (now (carts .exit)) (now (messages .exit)) (now (lines .exit)) (now (texts .exit))) r) (take (r .handed) (now (output .exit))) ⌝ }
+    ensures { λ r. ⌜ ByEach bounds (λ P. lent P (now (stations .entry)) (now (carts .entry)) (now (messages .entry)) (now (lines .entry)) (now (texts .entry))) (λ P. lent P (now (stations .exit)) (now (carts .exit)) (now (messages .exit)) (now (lines .exit)) (now (texts .exit))) (λ L L′. Ready L′ × Made (streamOf (now (input .entry)) L f) (streamOf (now (input .exit)) L′ r) (take (r .handed) (now (output .exit)))) ⌝ }
+    ensures { λ r. ⌜ Inside (length (now (input .exit))) r ⌝ }
     ensures { λ r. ⌜ (length (now (input .exit)) ≡ length (now (input .entry))) × (length (now (output .exit)) ≡ length (now (output .entry))) ⌝ }
 {
     if f.state == WANTS {
@@ -270,6 +275,7 @@ fn turn(
         messages,
         lines,
         texts,
+        bounds,
         numbers,
         f,
     )
@@ -308,10 +314,11 @@ pub fn run_all(
     messages: &mut [u64],
     lines: &mut [u64],
     texts: &mut [u8],
+    bounds: Bounds,
     numbers: &[u64],
 ) -> Ending
-    requires { ⌜ CanRun (lent wholeFloor (now stations) (now carts) (now messages) (now lines) (now texts)) × Tabled (now numbers) × (length (now input) ≡ 65536) × (length (now output) ≡ 65536) ⌝ }
-    ensures { λ r. ⌜ RanAll (lent wholeFloor (now (stations .entry)) (now (carts .entry)) (now (messages .entry)) (now (lines .entry)) (now (texts .entry))) (lent wholeFloor (now (stations .exit)) (now (carts .exit)) (now (messages .exit)) (now (lines .exit)) (now (texts .exit))) r ⌝ }
+    requires { ⌜ CanRun bounds (λ P. lent P (now stations) (now carts) (now messages) (now lines) (now texts)) × Tabled (now numbers) × (length (now input) ≡ 65536) × (length (now output) ≡ 65536) ⌝ }
+    ensures { λ r. ⌜ ByEach bounds (λ P. lent P (now (stations .entry)) (now (carts .entry)) (now (messages .entry)) (now (lines .entry)) (now (texts .entry))) (λ P. lent P (now (stations .exit)) (now (carts .exit)) (now (messages .exit)) (now (lines .exit)) (now (texts .exit))) (λ L L′. RanAll L L′ r) ⌝ }
 {
     let mut f = Feed {
         at: 0,
@@ -334,6 +341,7 @@ pub fn run_all(
             messages,
             lines,
             texts,
+            bounds,
             numbers,
             f,
         );
@@ -346,29 +354,77 @@ pub fn run_all(
     }
 }
 
-// THE RUN OF ONE INPUT: frames from one descriptor, lines to the other, over a floor of its own. The reads and runs that it makes are turns of the
-// written stream, and what they hand on is the printed run.
-pub fn run(from: i32, to: i32) -> Ending
-    ensures { λ r. ⌜ Streamed r ⌝ }
+// The run of one input over a floor that the caller lends, by its product's numbers: frames from one descriptor, lines to the other.
+pub fn run_over(
+    from: i32,
+    to: i32,
+    stations: &mut [u64],
+    carts: &mut [u64],
+    messages: &mut [u64],
+    lines: &mut [u64],
+    texts: &mut [u8],
+    bounds: Bounds,
+) -> Ending
+    requires { ⌜ CanRun bounds (λ P. lent P (now stations) (now carts) (now messages) (now lines) (now texts)) ⌝ }
+    ensures { λ r. ⌜ ByEach bounds (λ P. lent P (now (stations .entry)) (now (carts .entry)) (now (messages .entry)) (now (lines .entry)) (now (texts .entry))) (λ P. lent P (now (stations .exit)) (now (carts .exit)) (now (messages .exit)) (now (lines .exit)) (now (texts .exit))) (λ L L′. RanAll L L′ r) ⌝ }
 {
     let mut input = io::large_buffer();
     let mut output = io::large_buffer();
-    let mut stations = no_stations();
-    let mut carts = no_carts();
-    let mut messages = no_messages();
-    let mut lines = no_lines();
-    let mut texts = no_texts();
     let numbers = all_numbers();
     run_all(
         from,
         to,
         &mut input,
         &mut output,
+        stations,
+        carts,
+        messages,
+        lines,
+        texts,
+        bounds,
+        &numbers,
+    )
+}
+
+// THE RUN OF ONE INPUT: frames from one descriptor, lines to the other, over a floor of its own. The reads and runs that it makes are turns of the
+// written stream, and what they hand on is the printed run.
+pub fn run(from: i32, to: i32) -> Ending
+    ensures { λ r. ⌜ Streamed wholeFloor r ⌝ }
+{
+    let mut stations = no_stations();
+    let mut carts = no_carts();
+    let mut messages = no_messages();
+    let mut lines = no_lines();
+    let mut texts = no_texts();
+    run_over(
+        from,
+        to,
         &mut stations,
         &mut carts,
         &mut messages,
         &mut lines,
         &mut texts,
-        &numbers,
+        products::floor_bounds(),
+    )
+}
+
+// THE SAME FOR THE DEMONSTRATION KIT, "a second caller of the same steps with its own limits": the same run, over memory of the kit's lengths.
+pub fn run_kit(from: i32, to: i32) -> Ending
+    ensures { λ r. ⌜ Streamed kit r ⌝ }
+{
+    let mut stations = no_kit_stations();
+    let mut carts = [0u64; 152];
+    let mut messages = [0u64; 48];
+    let mut lines = [0u64; 2250];
+    let mut texts = [0u8; 256];
+    run_over(
+        from,
+        to,
+        &mut stations,
+        &mut carts,
+        &mut messages,
+        &mut lines,
+        &mut texts,
+        products::kit_bounds(),
     )
 }

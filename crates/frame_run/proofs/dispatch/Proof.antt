@@ -4,10 +4,10 @@ use Prim.Native.Nat.{ℕ}
 use native.Mathlib.Omega.{arith}
 use lib.ListN.{drop}
 use denote.Ref.{now}
-use Rattle.protocol.specs.Floor.{wholeFloor}
+use Rattle.protocol.specs.Floor.{Product}
 use Rattle.view.specs.View.{lent}
 use Rattle.frames.specs.Decoded.{eventIn, sizeOf}
-use Rattle.frame_run.proofs.Events.{send-is, short-part, answered-plainly, answered-text}
+use Rattle.frame_run.proofs.Events.{send-is, short-part, numbers-fit, some-part, answered-plainly, answered-text}
 use Rattle.protocol.specs.Printed.{decimal}
 use Rattle.frame_lines.specs.Lines.{Began, longestNumber}
 use Rattle.frame_run.specs.declared.Dispatched.{Dispatched}
@@ -22,7 +22,9 @@ put-index-requires : tie.Need-put-index-requires
 put-index-requires c κs = search needs
 
 start-requires : tie.Need-start-requires
-start-requires c κs = search needs
+start-requires c κs =
+    let start = c .before .before .before .before .before .before .before .before .before .before .before .before .before .before .before .before .before .before .before .before in
+    numbers-fit (start .pre .0 .1 .0) _ (start .pre .0 .1 .1)
 
 without-text-requires : tie.Need-without-text-requires
 without-text-requires c κs = search needs
@@ -36,7 +38,7 @@ put-index-requires-2 c κs = search needs
 enter-requires : tie.Need-enter-requires
 enter-requires c κs =
     let start = c .before .before .before .before .before .before .before .before .before .before .before .before .before .before .before .before .before .before .before .before in
-    (wholeFloor, start .pre .0 .ready)
+    (start .pre .0 .1 .0, start .pre .0 .1 .2)
 
 without-text-requires-2 : tie.Need-without-text-requires-2
 without-text-requires-2 c κs = search needs
@@ -72,16 +74,13 @@ part-text-end c =
     let h = start .pre .1 .0 .0 in
     omega (arith, q, h)
 
-floor-bounds-requires : tie.Need-floor-bounds-requires
-floor-bounds-requires c κs = search needs
-
 send-requires : tie.Need-send-requires
 send-requires c κs =
-    let kind = c .before .before .before .before .before .before .before .before .before .before .before .before in
+    let kind = c .before .before .before .before .before .before .before .before .before .before .before in
     let start = kind .before .before .before .before .before .before .before .before .before .before in
     let a = start .args in
     let q = ap sizeOf (kind .e3 .given .1) in
-    ((wholeFloor, c .floor-bounds .ensures .1, start .pre .0 .ready), short-part (now (a .input)) (a .at) (kind .e3 .given .0 .1 .1 .0) (omega (arith, q, start .pre .1 .0)))
+    (start .pre .0 .1, short-part (now (a .input)) (a .at) (kind .e3 .given .0 .1 .1 .0) (omega (arith, q, start .pre .1 .0)))
 
 without-text-requires-3 : tie.Need-without-text-requires-3
 without-text-requires-3 c κs = search needs
@@ -95,7 +94,7 @@ put-index-requires-4 c κs = search needs
 wire-requires : tie.Need-wire-requires
 wire-requires c κs =
     let start = c .before .before .before .before .before .before .before .before .before .before .before .before .before .before .before .before .before .before .before .before in
-    (wholeFloor, start .pre .0 .ready)
+    (start .pre .0 .1 .0, start .pre .0 .1 .2)
 
 without-text-requires-4 : tie.Need-without-text-requires-4
 without-text-requires-4 c κs = search needs
@@ -109,7 +108,7 @@ put-index-requires-5 c κs = search needs
 radio-requires : tie.Need-radio-requires
 radio-requires c κs =
     let start = c .before .before .before .before .before .before .before .before .before .before .before .before .before .before .before .before .before .before .before .before in
-    (wholeFloor, start .pre .0 .ready)
+    (start .pre .0 .1 .0, start .pre .0 .1 .2)
 
 told-of-requires : tie.Need-told-of-requires
 told-of-requires c κs = search needs
@@ -123,7 +122,7 @@ put-index-requires-6 c κs = search needs
 move-cart-requires : tie.Need-move-cart-requires
 move-cart-requires c κs =
     let start = c .before .before .before .before .before .before .before .before .before .before .before .before .before .before .before .before .before .before .before .before in
-    (wholeFloor, start .pre .0 .ready)
+    (start .pre .0 .1 .0, start .pre .0 .1 .2)
 
 without-text-requires-5 : tie.Need-without-text-requires-5
 without-text-requires-5 c κs = search needs
@@ -137,7 +136,7 @@ put-index-requires-7 c κs = search needs
 flag-cart-requires : tie.Need-flag-cart-requires
 flag-cart-requires c κs =
     let start = c .before .before .before .before .before .before .before .before .before .before .before .before .before .before .before .before .before .before .before .before in
-    (wholeFloor, start .pre .0 .ready)
+    (start .pre .0 .1 .0, start .pre .0 .1 .2)
 
 without-text-requires-6 : tie.Need-without-text-requires-6
 without-text-requires-6 c κs = search needs
@@ -168,7 +167,7 @@ returns c =
     let start = kind .before .before .before .before .before .before .before .before .before .before in
     let a = start .args in
     let began = subst (λ (n : ℕ). Began 3 longestNumber (decimal (a .index)) (now (a .output)) (index .put-index .last .0) (a .line) n) (sym (ap (λ (r : Dispatched). r .next) (c .without-text .ensures))) (index .put-index .ensures) in
-    (answered-plainly (lent wholeFloor (now (a .stations)) (now (a .carts)) (now (a .messages)) (now (a .lines)) (now (a .texts))) _ _ _ (ap (eventIn (drop (a .at) (now (a .input)))) (kind .e .given .1)) _ (met .start .result) _ (c .without-text .result) (c .without-text .ensures) (met .start .ensures), began)
+    (answered-plainly (a .bounds) (λ (P : Product). lent P (now (a .stations)) (now (a .carts)) (now (a .messages)) (now (a .lines)) (now (a .texts))) _ _ _ (ap (eventIn (drop (a .at) (now (a .input)))) (kind .e .given .1)) (now (a .texts)) (some-part (a .bounds) _ _ _ _ _ (start .pre .0)) (met .start .result) _ (c .without-text .result) (c .without-text .ensures) (λ P n R. met .start .ensures P n), began)
 
 same-length-7 : tie.Need-same-length-7
 same-length-7 c = search needs
@@ -196,7 +195,7 @@ returns-2 c =
     let start = kind .before .before .before .before .before .before .before .before .before .before in
     let a = start .args in
     let began = subst (λ (n : ℕ). Began 3 longestNumber (decimal (a .index)) (now (a .output)) (index .put-index2 .last .0) (a .line) n) (sym (ap (λ (r : Dispatched). r .next) (c .without-text2 .ensures))) (index .put-index2 .ensures) in
-    (answered-plainly (lent wholeFloor (now (a .stations)) (now (a .carts)) (now (a .messages)) (now (a .lines)) (now (a .texts))) _ _ _ (ap (eventIn (drop (a .at) (now (a .input)))) (kind .e2 .given .1)) _ (met .enter .result) _ (c .without-text2 .result) (c .without-text2 .ensures) (met .enter .ensures wholeFloor (start .pre .0 .ready)), began)
+    (answered-plainly (a .bounds) (λ (P : Product). lent P (now (a .stations)) (now (a .carts)) (now (a .messages)) (now (a .lines)) (now (a .texts))) _ _ _ (ap (eventIn (drop (a .at) (now (a .input)))) (kind .e2 .given .1)) (now (a .texts)) (some-part (a .bounds) _ _ _ _ _ (start .pre .0)) (met .enter .result) _ (c .without-text2 .result) (c .without-text2 .ensures) (λ P n R. met .enter .ensures P R), began)
 
 same-length-13 : tie.Need-same-length-13
 same-length-13 c = search needs
@@ -215,18 +214,18 @@ same-length-17 c = search needs
 
 same-length-18 : tie.Need-same-length-18
 same-length-18 c =
-    let index = c .before .before .before .before .before .before .before .before .before .before .before .before .before .before .before .before .before .before .before in
+    let index = c .before .before .before .before .before .before .before .before .before .before .before .before .before .before .before .before .before .before in
     index .put-index3 .ensures .kept
 
 returns-3 : tie.Need-returns-3
 returns-3 c =
     let met = c .before .before .before .before .before .before .before .before .before in
-    let index = met .before .before .before .before .before .before .before .before .before .before in
+    let index = met .before .before .before .before .before .before .before .before .before in
     let kind = index .before .before .before in
     let start = kind .before .before .before .before .before .before .before .before .before .before in
     let a = start .args in
     let began = subst (λ (n : ℕ). Began 3 longestNumber (decimal (a .index)) (now (a .output)) (index .put-index3 .last .0) (a .line) n) (sym (ap (λ (r : Dispatched). r .next) (c .without-text3 .ensures))) (index .put-index3 .ensures) in
-    (answered-plainly (lent wholeFloor (now (a .stations)) (now (a .carts)) (now (a .messages)) (now (a .lines)) (now (a .texts))) _ _ _ (send-is (now (a .input)) (a .at) _ (a .e) _ _ (kind .e3 .given .1)) _ (met .send .result) _ (c .without-text3 .result) (c .without-text3 .ensures) (met .send .ensures wholeFloor (met .before .floor-bounds .ensures .1) (start .pre .0 .ready)), began)
+    (answered-plainly (a .bounds) (λ (P : Product). lent P (now (a .stations)) (now (a .carts)) (now (a .messages)) (now (a .lines)) (now (a .texts))) _ _ _ (send-is (now (a .input)) (a .at) _ (a .e) _ _ (kind .e3 .given .1)) _ (omega (arith, met .send .kept, some-part (a .bounds) _ _ _ _ _ (start .pre .0))) (met .send .result) _ (c .without-text3 .result) (c .without-text3 .ensures) (met .send .ensures), began)
 
 same-length-19 : tie.Need-same-length-19
 same-length-19 c = search needs
@@ -254,7 +253,7 @@ returns-4 c =
     let start = kind .before .before .before .before .before .before .before .before .before .before in
     let a = start .args in
     let began = subst (λ (n : ℕ). Began 3 longestNumber (decimal (a .index)) (now (a .output)) (index .put-index4 .last .0) (a .line) n) (sym (ap (λ (r : Dispatched). r .next) (c .without-text4 .ensures))) (index .put-index4 .ensures) in
-    (answered-plainly (lent wholeFloor (now (a .stations)) (now (a .carts)) (now (a .messages)) (now (a .lines)) (now (a .texts))) _ _ _ (ap (eventIn (drop (a .at) (now (a .input)))) (kind .e4 .given .1)) _ (met .wire .result) _ (c .without-text4 .result) (c .without-text4 .ensures) (met .wire .ensures wholeFloor (start .pre .0 .ready)), began)
+    (answered-plainly (a .bounds) (λ (P : Product). lent P (now (a .stations)) (now (a .carts)) (now (a .messages)) (now (a .lines)) (now (a .texts))) _ _ _ (ap (eventIn (drop (a .at) (now (a .input)))) (kind .e4 .given .1)) (now (a .texts)) (some-part (a .bounds) _ _ _ _ _ (start .pre .0)) (met .wire .result) _ (c .without-text4 .result) (c .without-text4 .ensures) (λ P n R. met .wire .ensures P R), began)
 
 same-length-25 : tie.Need-same-length-25
 same-length-25 c = search needs
@@ -281,7 +280,7 @@ returns-5 c =
     let kind = index .before .before .before in
     let start = kind .before .before .before .before .before .before .before .before .before .before in
     let a = start .args in
-    (answered-text (lent wholeFloor (now (a .stations)) (now (a .carts)) (now (a .messages)) (now (a .lines)) (now (a .texts))) _ _ _ (ap (eventIn (drop (a .at) (now (a .input)))) (kind .e5 .given .1)) (now (a .texts)) (met .radio .result) _ (c .told-of .result) (c .told-of .ensures) (met .radio .ensures .1) (met .radio .ensures .0 wholeFloor (start .pre .0 .ready)), index .put-index5 .ensures)
+    (answered-text (a .bounds) (λ (P : Product). lent P (now (a .stations)) (now (a .carts)) (now (a .messages)) (now (a .lines)) (now (a .texts))) _ _ _ (ap (eventIn (drop (a .at) (now (a .input)))) (kind .e5 .given .1)) (now (a .texts)) (met .radio .result) _ (c .told-of .result) (c .told-of .ensures) (met .radio .ensures .1) (λ P n R. met .radio .ensures .0 P R), index .put-index5 .ensures)
 
 same-length-31 : tie.Need-same-length-31
 same-length-31 c = search needs
@@ -309,7 +308,7 @@ returns-6 c =
     let start = kind .before .before .before .before .before .before .before .before .before .before in
     let a = start .args in
     let began = subst (λ (n : ℕ). Began 3 longestNumber (decimal (a .index)) (now (a .output)) (index .put-index6 .last .0) (a .line) n) (sym (ap (λ (r : Dispatched). r .next) (c .without-text5 .ensures))) (index .put-index6 .ensures) in
-    (answered-plainly (lent wholeFloor (now (a .stations)) (now (a .carts)) (now (a .messages)) (now (a .lines)) (now (a .texts))) _ _ _ (ap (eventIn (drop (a .at) (now (a .input)))) (kind .e6 .given .1)) _ (met .move-cart .result) _ (c .without-text5 .result) (c .without-text5 .ensures) (met .move-cart .ensures wholeFloor (start .pre .0 .ready)), began)
+    (answered-plainly (a .bounds) (λ (P : Product). lent P (now (a .stations)) (now (a .carts)) (now (a .messages)) (now (a .lines)) (now (a .texts))) _ _ _ (ap (eventIn (drop (a .at) (now (a .input)))) (kind .e6 .given .1)) (now (a .texts)) (some-part (a .bounds) _ _ _ _ _ (start .pre .0)) (met .move-cart .result) _ (c .without-text5 .result) (c .without-text5 .ensures) (λ P n R. met .move-cart .ensures P R), began)
 
 same-length-37 : tie.Need-same-length-37
 same-length-37 c = search needs
@@ -337,7 +336,7 @@ returns-7 c =
     let start = kind .before .before .before .before .before .before .before .before .before .before in
     let a = start .args in
     let began = subst (λ (n : ℕ). Began 3 longestNumber (decimal (a .index)) (now (a .output)) (index .put-index7 .last .0) (a .line) n) (sym (ap (λ (r : Dispatched). r .next) (c .without-text6 .ensures))) (index .put-index7 .ensures) in
-    (answered-plainly (lent wholeFloor (now (a .stations)) (now (a .carts)) (now (a .messages)) (now (a .lines)) (now (a .texts))) _ _ _ (ap (eventIn (drop (a .at) (now (a .input)))) (kind .e7 .given .1)) _ (met .flag-cart .result) _ (c .without-text6 .result) (c .without-text6 .ensures) (met .flag-cart .ensures wholeFloor (start .pre .0 .ready)), began)
+    (answered-plainly (a .bounds) (λ (P : Product). lent P (now (a .stations)) (now (a .carts)) (now (a .messages)) (now (a .lines)) (now (a .texts))) _ _ _ (ap (eventIn (drop (a .at) (now (a .input)))) (kind .e7 .given .1)) (now (a .texts)) (some-part (a .bounds) _ _ _ _ _ (start .pre .0)) (met .flag-cart .result) _ (c .without-text6 .result) (c .without-text6 .ensures) (λ P n R. met .flag-cart .ensures P R), began)
 
 pub dispatch-spec : {M : Type 1} → statement M
 dispatch-spec =
@@ -358,7 +357,6 @@ dispatch-spec =
     sub-text
     part-text-start
     part-text-end
-    floor-bounds-requires
     send-requires
     without-text-requires-3
     enum-known-e-4

@@ -1,4 +1,5 @@
 -- `frame_run::print` meets its contract.
+use native.Mathlib.Omega.{arith}
 use denote.Ref.{now}
 use Rattle.frame_run.proofs.Events.{ends-refused, ends-accepted}
 use borrow.Author.Needs.{needs}
@@ -32,7 +33,10 @@ part-end-accepted-start : tie.Need-part-end-accepted-start
 part-end-accepted-start c = search needs
 
 part-end-accepted-end : tie.Need-part-end-accepted-end
-part-end-accepted-end c = search needs
+part-end-accepted-end c =
+    let left = c .before .before in
+    let start = left .before .before .before .before .before in
+    omega (arith, start .pre .1 .part (left .if1 .left))
 
 end-accepted-requires : tie.Need-end-accepted-requires
 end-accepted-requires c κs = search needs
@@ -46,7 +50,7 @@ returns-2 c =
     let asked = ended .before .before .before .before in
     let start = asked .before .before .before .before .before in
     let a = start .args in
-    ends-accepted (now (a .texts)) (a .dispatched) _ _ (a .dispatched .next) _ (asked .if1 .left) (start .pre .3 .size) (ended .end-accepted .ensures)
+    ends-accepted (now (a .texts)) (a .dispatched) _ _ (a .dispatched .next) _ (asked .if1 .left) (start .pre .1 .size) (ended .end-accepted .ensures)
 
 pub print-spec : {M : Type 1} → statement M
 print-spec =

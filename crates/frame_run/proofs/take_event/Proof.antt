@@ -3,11 +3,10 @@ use mathlib.Core.Path.{refl, ap}
 use Prim.Native.Nat.{ℕ, _+_}
 use native.Mathlib.Omega.{arith}
 use denote.Ref.{now}
-use Rattle.protocol.specs.Floor.{wholeFloor}
+use Rattle.protocol.specs.Floor.{Product}
 use Rattle.view.specs.View.{lent}
 use Rattle.frame_lines.proofs.Fields.{line-written}
-use Rattle.frame_run.proofs.Events.{goes-on}
-use Rattle.frame_run.proofs.Turns.{text-there, took}
+use Rattle.frame_run.proofs.Turns.{took}
 use borrow.Author.Needs.{needs}
 use Rattle.frame_run.proofs.take_event.Statement.{statement}
 use Rattle.frame_run.proofs.take_event.Tie as tie
@@ -21,23 +20,22 @@ print-requires : tie.Need-print-requires
 print-requires c κs =
     let done = c .before .before .before .before .before .before .before .before .before .before .before .before .before .before in
     let start = done .before .before .before .before .before .before .before .before .before .before .before .before .before .before .before in
-    let a = start .args in
     let h = done .dispatch .ensures in
-    (omega (arith, start .pre .1 .0 .2, h .1 .few, h .1 .kept), text-there _ (goes-on (lent wholeFloor (now (a .stations)) (now (a .carts)) (now (a .messages)) (now (a .lines)) (now (a .texts))) _ _ _ (start .pre .0) (h .0 .1)) _ (h .0 .0 .room), start .pre .1 .1 .2, h .0 .0)
+    (omega (arith, start .pre .1 .0 .2, h .1 .few, h .1 .kept), h .0 .0, start .pre .1 .1 .2)
 
 size-of-requires : tie.Need-size-of-requires
 size-of-requires c κs =
     let start = c .before .before .before .before .before .before .before .before .before .before .before .before .before .before .before .before .before .before .before .before .before .before .before .before .before .before .before .before .before .before .before .before in
     omega (arith, start .pre .1 .0)
 
-add-t31 : tie.Need-add-t31
-add-t31 c =
+add-t32 : tie.Need-add-t32
+add-t32 c =
     let sized = c .before in
     let start = sized .before .before .before .before .before .before .before .before .before .before .before .before .before .before .before .before .before .before .before .before .before .before .before .before .before .before .before .before .before .before .before .before .before in
     omega (arith, start .pre .1 .0, start .pre .1 .1 .1, sized .size-of .ensures)
 
-add-t32 : tie.Need-add-t32
-add-t32 c =
+add-t33 : tie.Need-add-t33
+add-t33 c =
     let start = c .before .before .before .before .before .before .before .before .before .before .before .before .before .before .before .before .before .before .before .before .before .before .before .before .before .before .before .before .before .before .before .before .before .before .before in
     omega (arith, start .pre .1 .0, start .pre .1 .1 .0, start .pre .1 .1 .1)
 
@@ -67,7 +65,7 @@ returns c =
     let start = done .before .before .before .before .before .before .before .before .before .before .before .before .before .before .before in
     let a = start .args in
     let h = done .dispatch .ensures in
-    took (a .index) (lent wholeFloor (now (a .stations)) (now (a .carts)) (now (a .messages)) (now (a .lines)) (now (a .texts))) _ (now (a .output)) _ (a .p) _ _ _ _ (start .pre .0) (h .0 .1) (line-written (a .index) _ (h .1) (printed .print .ensures))
+    λ P n R. took (a .index) (lent P (now (a .stations)) (now (a .carts)) (now (a .messages)) (now (a .lines)) (now (a .texts))) _ (now (a .output)) _ (a .p) _ _ _ _ R (h .0 .1 P n R) (line-written (a .index) _ (h .1) (printed .print .ensures))
     (ap (λ (k : ℕ). a .p .read + k) (sized .size-of .ensures)) refl refl
 
 pub take-event-spec : {M : Type 1} → statement M
@@ -77,8 +75,8 @@ take-event-spec =
     dispatch-requires
     print-requires
     size-of-requires
-    add-t31
     add-t32
+    add-t33
     same-length
     same-length-2
     same-length-3

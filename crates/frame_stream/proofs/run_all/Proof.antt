@@ -5,9 +5,9 @@ use native.Mathlib.Omega.{arith}
 use lib.ListN.{length}
 use borrow.Author.Needs.{needs}
 use denote.Ref.{now}
-use Rattle.protocol.specs.Floor.{wholeFloor}
+use Rattle.event_answers.specs.Met.{Ready}
 use Rattle.view.specs.View.{lent, floorIn}
-use Rattle.frame_run.specs.CanRun.{CanRun}
+use Rattle.frame_run.specs.CanRun.{ByEach}
 use Rattle.frame_run.proofs.Loop.{same-stations, same-carts, same-messages, same-lines, same-texts}
 use Rattle.frame_stream.specs.Feed.{Inside, streamOf}
 use Rattle.frame_stream.proofs.Loop.{Came, came-first, came-next, goes, ran-all}
@@ -15,19 +15,19 @@ use Rattle.frame_stream.proofs.run_all.Statement.{statement}
 use Rattle.frame_stream.proofs.run_all.Tie as tie
 
 abbrev Inv-loop : tie.InvT-loop
-Inv-loop from to input₀ output₀ stations₀ carts₀ messages₀ lines₀ texts₀ numbers f₀ turns₀ input output stations carts messages lines texts f turns =
-    CanRun (lent wholeFloor stations carts messages lines texts) × Inside (length input) f × (length input ≡ 65536) × (length output ≡ 65536)
-    × Came (floorIn (lent wholeFloor stations₀ carts₀ messages₀ lines₀ texts₀)) (streamOf input (lent wholeFloor stations carts messages lines texts) f) turns
+Inv-loop from to input₀ output₀ stations₀ carts₀ messages₀ lines₀ texts₀ bounds numbers f₀ turns₀ input output stations carts messages lines texts f turns =
+    ByEach bounds (λ P. lent P stations₀ carts₀ messages₀ lines₀ texts₀) (λ P. lent P stations carts messages lines texts) (λ L₀ L. Ready L × Came (L₀ .product) (floorIn L₀) (streamOf input L f) turns)
+    × Inside (length input) f × (length input ≡ 65536) × (length output ≡ 65536)
 
 abbrev μ-loop : tie.MeasureT-loop
-μ-loop from to input₀ output₀ stations₀ carts₀ messages₀ lines₀ texts₀ numbers f₀ turns₀ input output stations carts messages lines texts f turns =
+μ-loop from to input₀ output₀ stations₀ carts₀ messages₀ lines₀ texts₀ bounds numbers f₀ turns₀ input output stations carts messages lines texts f turns =
     turns
 
 loop-holds : tie.Need-loop-holds Inv-loop μ-loop
 loop-holds c =
     let s = c .before .before .before .before .before .before .before .before in
     let a = s .args in
-    (s .pre .0, record { run = omega arith; read = omega arith; few = λ z. omega arith }, s .pre .2, s .pre .3, came-first (floorIn (lent wholeFloor (now (a .stations)) (now (a .carts)) (now (a .messages)) (now (a .lines)) (now (a .texts)))))
+    (λ P n R. (R, came-first P (floorIn (lent P (now (a .stations)) (now (a .carts)) (now (a .messages)) (now (a .lines)) (now (a .texts))))), record { run = omega arith; read = omega arith; few = λ z. omega arith }, s .pre .2, s .pre .3)
 
 goes-on-requires : tie.Need-goes-on-requires Inv-loop μ-loop
 goes-on-requires c κs = search needs
@@ -41,7 +41,8 @@ turn-requires c κs =
     let l = c .before .before .before .before .before .before .before .before .before .loop in
     let g = goes (l .turns) (l .f) _ (c .before .before .before .before .before .before .before .before .goes-on .ensures) (c .before .before .before .before .before .before .before .if1 .taken) in
     let i = l .inv in
-    ((i .0, s .pre .1), (i .1, g .2, g .1, i .2, i .3))
+    let w = s .pre .0 .1 in
+    (((s .pre .0 .0, (w .0, w .1, i .0 (w .0) (w .1) (w .2) .0)), s .pre .1), (i .1, g .2, g .1, i .2, i .3))
 
 loop-less : tie.Need-loop-less Inv-loop μ-loop
 loop-less c = let l = c .before .before .before .before .before .before .before .before .before .before .before .before .before .before .before .before .before .before .before .before .before .before .before .before .loop in omega (arith, goes (l .turns) (l .f) _ (c .before .before .before .before .before .before .before .before .before .before .before .before .before .before .before .before .before .before .before .before .before .before .before .goes-on .ensures) (c .before .before .before .before .before .before .before .before .before .before .before .before .before .before .before .before .before .before .before .before .before .before .if1 .taken) .0)
@@ -52,7 +53,7 @@ loop-again c =
     let g = goes (l .turns) (l .f) _ (c .before .before .before .before .before .before .before .before .before .before .before .before .before .before .before .before .before .before .before .before .before .before .before .goes-on .ensures) (c .before .before .before .before .before .before .before .before .before .before .before .before .before .before .before .before .before .before .before .before .before .before .if1 .taken) in
     let i = l .inv in
     let t = c .before .before .before .before .before .before .before .before .before .before .before .before .before .before .turn .ensures in
-    (t .0 .0, t .0 .1, t .1 .1 .0 ∙ i .2, t .1 .1 .1 ∙ i .3, came-next _ _ _ _ (l .turns) _ (i .4) (t .1 .0) (omega (arith, g .0)))
+    (λ P n R. (let x = i .0 P n R in let y = t .0 P n (x .0) in (y .0, came-next P _ _ _ _ (l .turns) _ (x .1) (y .1) (omega (arith, g .0)))), t .1 .0, t .1 .1 .0 ∙ i .2, t .1 .1 .1 ∙ i .3)
 
 sub-left : tie.Need-sub-left Inv-loop μ-loop
 sub-left c = omega (arith, c .before .before .before .loop .inv .1 .run)
@@ -67,36 +68,41 @@ same-length-3 : tie.Need-same-length-3 Inv-loop μ-loop
 same-length-3 c =
     let s = c .before .before .before .before .before .before .before .before .before .before .before .before in
     let a = s .args in
-    same-stations (lent wholeFloor (now (a .stations)) (now (a .carts)) (now (a .messages)) (now (a .lines)) (now (a .texts))) _ (s .pre .0) (c .before .before .before .loop .inv .0)
+    let w = s .pre .0 .1 in
+    same-stations (lent (w .0) (now (a .stations)) (now (a .carts)) (now (a .messages)) (now (a .lines)) (now (a .texts))) _ (w .2) (c .before .before .before .loop .inv .0 (w .0) (w .1) (w .2) .0) refl
 
 same-length-4 : tie.Need-same-length-4 Inv-loop μ-loop
 same-length-4 c =
     let s = c .before .before .before .before .before .before .before .before .before .before .before .before in
     let a = s .args in
-    same-carts (lent wholeFloor (now (a .stations)) (now (a .carts)) (now (a .messages)) (now (a .lines)) (now (a .texts))) _ (s .pre .0) (c .before .before .before .loop .inv .0)
+    let w = s .pre .0 .1 in
+    same-carts (lent (w .0) (now (a .stations)) (now (a .carts)) (now (a .messages)) (now (a .lines)) (now (a .texts))) _ (w .2) (c .before .before .before .loop .inv .0 (w .0) (w .1) (w .2) .0) refl
 
 same-length-5 : tie.Need-same-length-5 Inv-loop μ-loop
 same-length-5 c =
     let s = c .before .before .before .before .before .before .before .before .before .before .before .before in
     let a = s .args in
-    same-messages (lent wholeFloor (now (a .stations)) (now (a .carts)) (now (a .messages)) (now (a .lines)) (now (a .texts))) _ (s .pre .0) (c .before .before .before .loop .inv .0)
+    let w = s .pre .0 .1 in
+    same-messages (lent (w .0) (now (a .stations)) (now (a .carts)) (now (a .messages)) (now (a .lines)) (now (a .texts))) _ (w .2) (c .before .before .before .loop .inv .0 (w .0) (w .1) (w .2) .0) refl
 
 same-length-6 : tie.Need-same-length-6 Inv-loop μ-loop
 same-length-6 c =
     let s = c .before .before .before .before .before .before .before .before .before .before .before .before in
     let a = s .args in
-    same-lines (lent wholeFloor (now (a .stations)) (now (a .carts)) (now (a .messages)) (now (a .lines)) (now (a .texts))) _ (s .pre .0) (c .before .before .before .loop .inv .0)
+    let w = s .pre .0 .1 in
+    same-lines (lent (w .0) (now (a .stations)) (now (a .carts)) (now (a .messages)) (now (a .lines)) (now (a .texts))) _ (w .2) (c .before .before .before .loop .inv .0 (w .0) (w .1) (w .2) .0) refl
 
 same-length-7 : tie.Need-same-length-7 Inv-loop μ-loop
 same-length-7 c =
     let s = c .before .before .before .before .before .before .before .before .before .before .before .before in
     let a = s .args in
-    same-texts (lent wholeFloor (now (a .stations)) (now (a .carts)) (now (a .messages)) (now (a .lines)) (now (a .texts))) _ (s .pre .0) (c .before .before .before .loop .inv .0)
+    let w = s .pre .0 .1 in
+    same-texts (lent (w .0) (now (a .stations)) (now (a .carts)) (now (a .messages)) (now (a .lines)) (now (a .texts))) _ (w .2) (c .before .before .before .loop .inv .0 (w .0) (w .1) (w .2) .0) refl
 
 returns : tie.Need-returns Inv-loop μ-loop
 returns c =
     let l = c .before .before .before .loop in
-    ran-all _ _ (l .input) (l .turns) (l .f) _ _ (l .inv .0) (l .inv .1) (l .inv .4) refl (c .before .before .goes-on .ensures) (c .before .if1 .left)
+    λ P n R. ran-all _ _ (l .input) (l .turns) (l .f) _ _ (l .inv .0 P n R .0) (l .inv .1) (l .inv .0 P n R .1) refl (c .before .before .goes-on .ensures) (c .before .if1 .left)
 
 pub run-all-spec : {M : Type 1} → statement M
 run-all-spec =

@@ -3,7 +3,6 @@ use mathlib.Core.Path.{sym, _∙_}
 use native.Mathlib.Omega.{arith}
 use lib.Seq.{length-take-le}
 use denote.Ref.{now}
-use Rattle.protocol.specs.Floor.{wholeFloor}
 use Rattle.view.specs.View.{lent}
 use Rattle.frame_stream.proofs.Feeds.{part-length, run-made, run-inside}
 use borrow.Author.Needs.{needs}
@@ -28,7 +27,8 @@ slice-reshare-prefix-hand-on c = search needs
 slice-aggregate-hand-on : tie.Need-slice-aggregate-hand-on
 slice-aggregate-hand-on c =
     let t = c .before .before .before .before .before .before .before .before .before .before .before .before .before .take-frames in
-    let w = t .ensures in
+    let q = c .before .before .before .before .before .before .before .before .before .before .before .before .before .before .before .before .before .before .before .before .before .before .before .before .before .before .before .before .before .pre .0 .0 .1 in
+    let w = t .ensures (q .0) (q .1) (q .2) in
     sym (length-take-le _ (t .last .1 .0) (omega (arith, w .within, w .kept)))
 
 hand-on-requires : tie.Need-hand-on-requires
@@ -38,7 +38,7 @@ after-run-requires : tie.Need-after-run-requires
 after-run-requires c κs =
     let s = c .before .before .before .before .before .before .before .before .before .before .before .before .before .before .before .before .before .before .before .before .before .before .before .before .before .before .before .before .before .before in
     let a = s .args in
-    let w = c .before .before .before .before .before .before .before .before .before .before .before .before .before .before .take-frames .ensures in
+    let w = c .before .before .before .before .before .before .before .before .before .before .before .before .before .before .take-frames .ensures (s .pre .0 .0 .1 .0) (s .pre .0 .0 .1 .1) (s .pre .0 .0 .1 .2) in
     let part = part-length (now (a .input)) (a .f) (s .pre .1 .0) in
     (omega (arith, part, w .inside, s .pre .1 .0 .run, s .pre .1 .0 .read, s .pre .1 .3), omega (arith, part, w .inside, w .few, s .pre .1 .0 .run, s .pre .1 .0 .read, s .pre .1 .3, s .pre .1 .2))
 
@@ -65,13 +65,12 @@ returns c =
     let s = c .before .before .before .before .before .before .before .before .before .before .before .before .before .before .before .before .before .before .before .before .before .before .before .before .before .before .before .before .before .before .before in
     let a = s .args in
     let t = c .before .before .before .before .before .before .before .before .before .before .before .before .before .before .before .take-frames in
+    let q = s .pre .0 .0 .1 in
     let w = t .ensures in
     let h = c .before .hand-on in
     let size = h .ensures ∙ sym (slice-aggregate-hand-on (c .before .before)) in
-    let L = lent wholeFloor (now (a .stations)) (now (a .carts)) (now (a .messages)) (now (a .lines)) (now (a .texts)) in
-    let i = run-inside (now (a .input)) L _ (now (a .output)) _ (a .f) (c .after-run .result) (t .result) (h .result) (s .pre .1 .0) (s .pre .1 .1) (s .pre .1 .4) w size (c .after-run .ensures) in
-    let m = run-made (now (a .input)) L _ (now (a .output)) _ (a .f) (c .after-run .result) (t .result) (h .result) (s .pre .1 .0) (s .pre .1 .1) (s .pre .1 .4) w size (c .after-run .ensures) in
-    ((w .ready, i), (m, w .kept))
+    let i = run-inside (now (a .input)) (lent (q .0) (now (a .stations)) (now (a .carts)) (now (a .messages)) (now (a .lines)) (now (a .texts))) _ (now (a .output)) _ (a .f) (c .after-run .result) (t .result) (h .result) (s .pre .1 .0) (s .pre .1 .1) (s .pre .1 .4) (w (q .0) (q .1) (q .2)) size (c .after-run .ensures) in
+    (λ P n R. (w P n R .ready, run-made (now (a .input)) (lent P (now (a .stations)) (now (a .carts)) (now (a .messages)) (now (a .lines)) (now (a .texts))) _ (now (a .output)) _ (a .f) (c .after-run .result) (t .result) (h .result) (s .pre .1 .0) (s .pre .1 .1) (s .pre .1 .4) (w P n R) size (c .after-run .ensures)), (i, w (q .0) (q .1) (q .2) .kept))
 
 pub run-piece-spec : {M : Type 1} → statement M
 run-piece-spec =

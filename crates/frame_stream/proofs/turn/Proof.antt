@@ -2,7 +2,6 @@
 use mathlib.Core.Path.{refl}
 use native.Mathlib.Omega.{arith}
 use denote.Ref.{now}
-use Rattle.protocol.specs.Floor.{wholeFloor}
 use Rattle.view.specs.View.{lent}
 use Rattle.frame_stream.proofs.Feeds.{no-lines}
 use borrow.Author.Needs.{needs}
@@ -20,8 +19,7 @@ returns c =
     let s = c .before .before .before .before .before .before .before .before .before .before .before .before .before .before in
     let a = s .args in
     let m = c .before .before .more .ensures in
-    let made = no-lines _ _ (now (a .output)) _ (m .0 .2) (m .0 .1 (lent wholeFloor (now (a .stations)) (now (a .carts)) (now (a .messages)) (now (a .lines)) (now (a .texts)))) in
-    ((s .pre .0 .0, m .0 .0), (made, (m .1, refl)))
+    (λ P n R. (R, no-lines _ _ (now (a .output)) _ (m .0 .2) (m .0 .1 (lent P (now (a .stations)) (now (a .carts)) (now (a .messages)) (now (a .lines)) (now (a .texts))))), (m .0 .0, (m .1, refl)))
 
 run-piece-requires : tie.Need-run-piece-requires
 run-piece-requires c κs =
