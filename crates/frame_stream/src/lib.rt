@@ -412,7 +412,7 @@ pub fn run(from: i32, to: i32) -> Ending
 pub fn run_kit(from: i32, to: i32) -> Ending
     ensures { λ r. ⌜ Streamed kit r ⌝ }
 {
-    let mut stations = no_kit_stations();
+    let mut stations = [0u64; 580];
     let mut carts = [0u64; 152];
     let mut messages = [0u64; 48];
     let mut lines = [0u64; 2250];

@@ -19,10 +19,17 @@ part-take-frames-end : tie.Need-part-take-frames-end
 part-take-frames-end c = search needs
 
 take-frames-requires : tie.Need-take-frames-requires
-take-frames-requires c κs = search needs
+take-frames-requires c κs =
+    let s = c .before .before .before .before .before .before .before .before .before .before .before .before .before .before .before in
+    let a = s .args in
+    let part = part-length (now (a .input)) (a .f) (s .pre .1 .0) in
+    (s .pre .0, omega (arith, part, s .pre .1 .0 .run, s .pre .1 .0 .read, s .pre .1 .2, s .pre .1 .3))
 
 slice-reshare-prefix-hand-on : tie.Need-slice-reshare-prefix-hand-on
-slice-reshare-prefix-hand-on c = search needs
+slice-reshare-prefix-hand-on c =
+    let q = c .before .before .before .before .before .before .before .before .before .before .before .before .before .before .before .before .before .before .before .before .before .before .before .before .before .before .before .before .pre .0 .0 .1 in
+    let w = c .before .before .before .before .before .before .before .before .before .before .before .before .take-frames .ensures (q .0) (q .1) (q .2) in
+    omega (arith, w .within, w .kept)
 
 slice-aggregate-hand-on : tie.Need-slice-aggregate-hand-on
 slice-aggregate-hand-on c =
