@@ -9,14 +9,14 @@ use lib.Dec.{eqb}
 use lib.ListN.{length, take, drop, length-drop}
 use lib.Seq.{drop-drop, length-take-le}
 use borrow.Author.Tests.{eq-eqb, ne-eqb}
-use Rattle.protocol.specs.Floor.{Floor, limits, unstarted}
+use Rattle.protocol.specs.Floor.{Floor, wholeFloor, limits, unstarted}
 use Rattle.protocol.specs.Events.{Event}
 use Rattle.protocol.specs.Step.{step}
 use Rattle.protocol.specs.Frames.{Reading, end, refusedFrame, taken, frameRefusal, frameOf, readAt}
 use Rattle.protocol.specs.Printed.{printedRun}
 use Rattle.protocol.specs.Closing.{closingLine, closingFrom, printedClosing}
 use Rattle.protocol.proofs.Tests.{by-test, on-cond, clash}
-use Rattle.view.specs.View.{Lent, floorIn}
+use Rattle.view.specs.View.{Lent, lent, floorIn}
 use Rattle.frame_run.specs.Piece.{runFrom}
 use Rattle.frame_run.specs.CanRun.{Unstarted}
 use Rattle.frame_run.proofs.Whole.{taken-front}
@@ -48,26 +48,26 @@ closes-alike (suc n) F G U U′ l = by (frameOf limits l) refl (λ size. closes-
         rw (q, closingFrom) rest
 
 -- WHERE A FRAME WAS REFUSED there is no such line
-none-behind : (m n : ℕ) (F : Floor) (index : ℕ) (l : List ℕ) → length l < m → runFrom n F index l .ended ≡ true → closingFrom limits m F l ≡ []
+none-behind : (m n : ℕ) (F : Floor) (index : ℕ) (l : List ℕ) → length l < m → runFrom wholeFloor n F index l .ended ≡ true → closingFrom limits m F l ≡ []
 unfolding closingFrom runFrom
 none-behind zero n F index l few over = absurd (omega arith)
 none-behind (suc m) zero F index l few over = clash false over refl
 none-behind (suc m) (suc n) F index l few over = by (frameOf limits l) refl (λ e size. none-behind m n (step limits F e) (suc index) (drop size l)) over
   where
     by : (r : Reading) → frameOf limits l ≡ r
-        → ((e : Event) (size : ℕ) → length (drop size l) < m → runFrom n (step limits F e) (suc index) (drop size l) .ended ≡ true → closingFrom limits m (step limits F e) (drop size l) ≡ [])
-        → runFrom (suc n) F index l .ended ≡ true → closingFrom limits (suc m) F l ≡ []
+        → ((e : Event) (size : ℕ) → length (drop size l) < m → runFrom wholeFloor n (step limits F e) (suc index) (drop size l) .ended ≡ true → closingFrom limits m (step limits F e) (drop size l) ≡ [])
+        → runFrom wholeFloor (suc n) F index l .ended ≡ true → closingFrom limits (suc m) F l ≡ []
     by end q h over = let z : _≡_ {A = Bool} false true = rw (q, runFrom) at over in clash false z refl
     by (refusedFrame r) q h over = rw (q, closingFrom) refl
     by (taken e size) q h over =
         let inside = taken-front l e size q in
         let z = length-drop size l in
-        let ended : runFrom n (step limits F e) (suc index) (drop size l) .ended ≡ true = rw (q, runFrom) at over in
+        let ended : runFrom wholeFloor n (step limits F e) (suc index) (drop size l) .ended ≡ true = rw (q, runFrom) at over in
         rw (q, closingFrom) (h e size (omega arith) ended)
 
 -- AT THE END OF THE OCTETS it is that of the floor that the frames left
-line-behind : (m n : ℕ) (F : Floor) (index : ℕ) (l : List ℕ) → length l < m → runFrom n F index l .count ≡ n → runFrom n F index l .ended ≡ false
-    → readAt limits l (runFrom n F index l .octets) ≡ end → closingFrom limits m F l ≡ closingLine limits (runFrom n F index l .floor)
+line-behind : (m n : ℕ) (F : Floor) (index : ℕ) (l : List ℕ) → length l < m → runFrom wholeFloor n F index l .count ≡ n → runFrom wholeFloor n F index l .ended ≡ false
+    → readAt limits l (runFrom wholeFloor n F index l .octets) ≡ end → closingFrom limits m F l ≡ closingLine limits (runFrom wholeFloor n F index l .floor)
 unfolding closingFrom runFrom readAt
 line-behind zero n F index l few all goes last = absurd (omega arith)
 line-behind (suc m) zero F index l few all goes last = rw (last, closingFrom) refl
@@ -75,15 +75,15 @@ line-behind (suc m) (suc n) F index l few all goes last =
     by (frameOf limits l) refl (λ e size. line-behind m n (step limits F e) (suc index) (drop size l)) all goes last
   where
     by : (r : Reading) → frameOf limits l ≡ r
-        → ((e : Event) (size : ℕ) → length (drop size l) < m → runFrom n (step limits F e) (suc index) (drop size l) .count ≡ n → runFrom n (step limits F e) (suc index) (drop size l) .ended ≡ false
-        → frameOf limits (drop (runFrom n (step limits F e) (suc index) (drop size l) .octets) (drop size l)) ≡ end
-        → closingFrom limits m (step limits F e) (drop size l) ≡ closingLine limits (runFrom n (step limits F e) (suc index) (drop size l) .floor))
-        → runFrom (suc n) F index l .count ≡ suc n → runFrom (suc n) F index l .ended ≡ false → frameOf limits (drop (runFrom (suc n) F index l .octets) l) ≡ end
-        → closingFrom limits (suc m) F l ≡ closingLine limits (runFrom (suc n) F index l .floor)
+        → ((e : Event) (size : ℕ) → length (drop size l) < m → runFrom wholeFloor n (step limits F e) (suc index) (drop size l) .count ≡ n → runFrom wholeFloor n (step limits F e) (suc index) (drop size l) .ended ≡ false
+        → frameOf limits (drop (runFrom wholeFloor n (step limits F e) (suc index) (drop size l) .octets) (drop size l)) ≡ end
+        → closingFrom limits m (step limits F e) (drop size l) ≡ closingLine limits (runFrom wholeFloor n (step limits F e) (suc index) (drop size l) .floor))
+        → runFrom wholeFloor (suc n) F index l .count ≡ suc n → runFrom wholeFloor (suc n) F index l .ended ≡ false → frameOf limits (drop (runFrom wholeFloor (suc n) F index l .octets) l) ≡ end
+        → closingFrom limits (suc m) F l ≡ closingLine limits (runFrom wholeFloor (suc n) F index l .floor)
     by end q h all goes last = absurd (let z : 0 ≡ suc n = rw (q, runFrom) at all in omega arith)
     by (refusedFrame r) q h all goes last = absurd (let z : _≡_ {A = Bool} true false = rw (q, runFrom) at goes in clash true refl z)
     by (taken e size) q h all goes last =
-        let R = runFrom n (step limits F e) (suc index) (drop size l) in
+        let R = runFrom wholeFloor n (step limits F e) (suc index) (drop size l) in
         let inside = taken-front l e size q in
         let z = length-drop size l in
         let count : suc (R .count) ≡ suc n = rw (q, runFrom) at all in
@@ -92,22 +92,22 @@ line-behind (suc m) (suc n) F index l few all goes last =
         rw (q, closingFrom, runFrom) (h e size (omega arith) (omega arith) on (ap (frameOf limits) (drop-drop (R .octets) size l) ∙ at-end))
 
 -- a frame that ended the run is there, and refused
-refused-there : (n : ℕ) (F : Floor) (index : ℕ) (l : List ℕ) → runFrom n F index l .ended ≡ true → readAt limits l (runFrom n F index l .octets) ≡ end → ⊥
+refused-there : (n : ℕ) (F : Floor) (index : ℕ) (l : List ℕ) → runFrom wholeFloor n F index l .ended ≡ true → readAt limits l (runFrom wholeFloor n F index l .octets) ≡ end → ⊥
 unfolding runFrom readAt
 refused-there zero F index l over last = clash false over refl
 refused-there (suc n) F index l over last = by (frameOf limits l) refl (λ e size. refused-there n (step limits F e) (suc index) (drop size l)) over last
   where
     by : (r : Reading) → frameOf limits l ≡ r
-        → ((e : Event) (size : ℕ) → runFrom n (step limits F e) (suc index) (drop size l) .ended ≡ true
-        → frameOf limits (drop (runFrom n (step limits F e) (suc index) (drop size l) .octets) (drop size l)) ≡ end → ⊥)
-        → runFrom (suc n) F index l .ended ≡ true → frameOf limits (drop (runFrom (suc n) F index l .octets) l) ≡ end → ⊥
+        → ((e : Event) (size : ℕ) → runFrom wholeFloor n (step limits F e) (suc index) (drop size l) .ended ≡ true
+        → frameOf limits (drop (runFrom wholeFloor n (step limits F e) (suc index) (drop size l) .octets) (drop size l)) ≡ end → ⊥)
+        → runFrom wholeFloor (suc n) F index l .ended ≡ true → frameOf limits (drop (runFrom wholeFloor (suc n) F index l .octets) l) ≡ end → ⊥
     by end q h over last = let z : _≡_ {A = Bool} false true = rw (q, runFrom) at over in clash false z refl
     by (refusedFrame r) q h over last =
         let there : frameOf limits l ≡ end = rw (q, runFrom) at last in
         let z : _≡_ {A = ℕ} 0 1 = cc (sym q ∙ there) in
         omega arith
     by (taken e size) q h over last =
-        let R = runFrom n (step limits F e) (suc index) (drop size l) in
+        let R = runFrom wholeFloor n (step limits F e) (suc index) (drop size l) in
         let ended : R .ended ≡ true = rw (q, runFrom) at over in
         let at-end : frameOf limits (drop (size + R .octets) l) ≡ end = rw (q, runFrom) at last in
         h e size ended (ap (frameOf limits) (drop-drop (R .octets) size l) ∙ at-end)
@@ -130,9 +130,9 @@ unfolding frameOf
 at-end = refl
 
 -- THE CLAIM, over any list of turns from a floor that is not started
-module _ (F : Floor) (U : Unstarted F) (ts : List Turn) (made : Turns (begin F) ts) where
+module _ (F : Floor) (U : Unstarted F) (ts : List Turn) (made : Turns (begin wholeFloor F) ts) where
   abbrev S : Stream
-  S = streamAfter (begin F) ts
+  S = streamAfter (begin wholeFloor F) ts
 
   -- from F as from the written floor
   closing-whole : (l : List ℕ) → printedClosing limits l ≡ printedRun limits l ++ closingFrom limits (suc (length l)) F l
@@ -144,17 +144,17 @@ module _ (F : Floor) (U : Unstarted F) (ts : List Turn) (made : Turns (begin F) 
     abbrev W : List ℕ
     W = broughtBy ts ++ later
 
-    s : SoFar F W (handedBy (begin F) ts) S later
-    s = so-far F ts made later b
+    s : SoFar wholeFloor F W (handedBy (begin wholeFloor F) ts) S later
+    s = so-far wholeFloor F ts made later b
 
     -- nothing is left: the input has ended, and no frame was refused
     none-left : S .left ≡ [] → closingFrom limits (suc (length W)) F W ≡ closingLine limits (S .floor)
     unfolding readAt
     none-left e =
-        let last : S .last ≡ true = no-frame (S .last) (subst (λ (l : List ℕ). OverAt (S .last) (frameOf limits l)) e (stream-is F U ts made .over over)) in
-        let rest : drop (runFrom (S .index) F 0 W .octets) W ≡ [] = s .rest ∙ ap₂ (λ (x y : List ℕ). x ++ y) e (b last) in
-        let there : readAt limits W (runFrom (S .index) F 0 W .octets) ≡ end = ap (frameOf limits) rest ∙ at-end in
-        let goes : runFrom (S .index) F 0 W .ended ≡ false = by-test (runFrom (S .index) F 0 W .ended) (λ t. absurd (refused-there (S .index) F 0 W t there)) (λ t. t) in
+        let last : S .last ≡ true = no-frame (S .last) (subst (λ (l : List ℕ). OverAt (S .last) (frameOf limits l)) e (stream-is wholeFloor F U ts made .over over)) in
+        let rest : drop (runFrom wholeFloor (S .index) F 0 W .octets) W ≡ [] = s .rest ∙ ap₂ (λ (x y : List ℕ). x ++ y) e (b last) in
+        let there : readAt limits W (runFrom wholeFloor (S .index) F 0 W .octets) ≡ end = ap (frameOf limits) rest ∙ at-end in
+        let goes : runFrom wholeFloor (S .index) F 0 W .ended ≡ false = by-test (runFrom wholeFloor (S .index) F 0 W .ended) (λ t. absurd (refused-there (S .index) F 0 W t there)) (λ t. t) in
         line-behind (suc (length W)) (S .index) F 0 W (omega arith) (s .count) goes there ∙ ap (closingLine limits) (s .floor)
 
     -- something is: a frame was refused
@@ -176,20 +176,21 @@ module _ (F : Floor) (U : Unstarted F) (ts : List Turn) (made : Turns (begin F) 
       let l = broughtBy ts ++ later in
       let last : eqb (length (S .left)) 0 ≡ atEnd run = sym (ap₂ (λ (x : Bool) (n : ℕ). x && eqb n 0) (eq-eqb (run .state) 2 (state ∙ over)) left) in
       closing-whole l
-      ∙ ap₂ (λ (x y : List ℕ). x ++ y) (stream-is F U ts made .whole over later b)
+      ∙ ap₂ (λ (x y : List ℕ). x ++ y) (stream-is wholeFloor F U ts made .whole over later b)
       (line-is over later b (S .left) refl ∙ ap (λ (t : Bool). cond t (closingLine limits (S .floor)) []) last)
 
 -- and what the code comes to: a run over lent parts, and a line behind it
-pub closed : (L L′ : Lent) (run r : Ending) (h : Handed) (line : List ℕ) → Unstarted (floorIn L) → RanAll L L′ run
+pub closed : (S C M W T : List ℕ) (L′ : Lent) (run r : Ending) (h : Handed) (line : List ℕ) → Unstarted (floorIn (lent wholeFloor S C M W T))
+    → RanAll (lent wholeFloor S C M W T) L′ run
     → (take (h .size) line ≡ lastLine run (floorIn L′)) × (h .size ≤ length line) → r ≡ afterLine run h → Closed r
-closed L L′ run r h line U ran put e =
-    let F = floorIn L in
+closed S C M W T L′ run r h line U ran put e =
+    let F = floorIn (lent wholeFloor S C M W T) in
     let ts = ran .finished .turns in
-    let X = streamAfter (begin F) ts .floor in
+    let X = streamAfter (begin wholeFloor F) ts .floor in
     let octets : take (h .size) line ≡ lastLine run X = put .0 ∙ ap (lastLine run) (ran .floor) in
     record {
       run = run;
-      streamed = record { floor = F; fresh = U; finished = ran .finished; is = stream-is F U ts (ran .finished .made) };
+      streamed = record { floor = F; fresh = U; finished = ran .finished; is = stream-is wholeFloor F U ts (ran .finished .made) };
       line = lastLine run X;
       last = refl;
       handed = h;

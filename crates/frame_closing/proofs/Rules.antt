@@ -5,7 +5,7 @@ use mathlib.Core.List.{List, _∷_, _++_}
 use Prim.Native.Nat.{ℕ, zero, suc, _<_, _≤_}
 use native.Mathlib.Omega.{arith}
 use Rattle.protocol.specs.Folds.{count}
-use Rattle.protocol.specs.Floor.{Floor, limits, isHeld}
+use Rattle.protocol.specs.Floor.{Floor, wholeFloor, limits, isHeld}
 use Rattle.protocol.specs.Events.{Event, Report, start, accepted}
 use Rattle.protocol.specs.Step.{step, answer, floorAfter}
 use Rattle.protocol.specs.Quiet.{AllSteady, mostSteps, quietAfter, quietEvents, quietSteps, quietFloor}
@@ -34,13 +34,13 @@ steps-few : (G : Floor) (n k : ℕ) (l : Report) → answer limits G (start n k)
 unfolding quietEvents
 steps-few G n k l a es = reached-quiet-bound limits G n k l a es (mostSteps limits)
 
-module _ (F : Floor) (U : Unstarted F) (ts : List Turn) (made : Turns (begin F) ts) (later : List ℕ) (still : Behind (streamAfter (begin F) ts) later)
+module _ (F : Floor) (U : Unstarted F) (ts : List Turn) (made : Turns (begin wholeFloor F) ts) (later : List ℕ) (still : Behind (streamAfter (begin wholeFloor F) ts) later)
     (before : List Event) (n k : ℕ) (behind : List Event) (report : Report)
-    (events : eventsFrom (streamAfter (begin F) ts .index) (broughtBy ts ++ later) ≡ before ++ (start n k ∷ behind))
+    (events : eventsFrom (streamAfter (begin wholeFloor F) ts .index) (broughtBy ts ++ later) ≡ before ++ (start n k ∷ behind))
     (begun : answer limits (floorAfter limits F before) (start n k) ≡ accepted report) where
   -- the floor at the end of the input
   abbrev X : Floor
-  X = streamAfter (begin F) ts .floor
+  X = streamAfter (begin wholeFloor F) ts .floor
 
   abbrev Y : Floor
   Y = floorAfter limits (step limits (floorAfter limits F before) (start n k)) behind
@@ -48,7 +48,7 @@ module _ (F : Floor) (U : Unstarted F) (ts : List Turn) (made : Turns (begin F) 
   reached : X ≡ Y
   unfolding floorAfter
   reached =
-      stream-is F U ts made .floor later still
+      stream-is wholeFloor F U ts made .floor later still
       ∙ ap (floorAfter limits F) events
       ∙ floor-after-more limits F before (start n k ∷ behind)
 

@@ -6,7 +6,7 @@ use Prim.Native.Nat.{ℕ, _+_}
 use lib.Dec.{eqb}
 use lib.ListN.{length}
 use Rattle.protocol.specs.Folds.{count}
-use Rattle.protocol.specs.Floor.{Floor, limits}
+use Rattle.protocol.specs.Floor.{Floor, wholeFloor, limits}
 use Rattle.protocol.specs.Quiet.{QuietAnswer}
 use Rattle.protocol.specs.Closing.{quietWord, closingFields, closingLine, printedClosing}
 use Rattle.messages.specs.View.{roomsIn}
@@ -44,15 +44,15 @@ afterLine e h = record { frames = e .frames; state = cond (h .accepted) (e .stat
 -- are the printed closing of the whole input, if the run is over
 abbrev pub ClosingIs : Floor → List Turn → List ℕ → Type 0
 ClosingIs F ts line =
-    streamAfter (begin F) ts .state ≡ 2 → (later : List ℕ) → Behind (streamAfter (begin F) ts) later
-    → printedClosing limits (broughtBy ts ++ later) ≡ handedBy (begin F) ts ++ line
+    streamAfter (begin wholeFloor F) ts .state ≡ 2 → (later : List ℕ) → Behind (streamAfter (begin wholeFloor F) ts) later
+    → printedClosing limits (broughtBy ts ++ later) ≡ handedBy (begin wholeFloor F) ts ++ line
 
 -- THE CLOSING WAS MADE: a run, and a line behind it that was handed on
 pub record Closed (r : Ending) : Type 0 where
   pub run : Ending
-  pub streamed : Streamed run
+  pub streamed : Streamed wholeFloor run
   pub line : List ℕ
-  pub last : line ≡ lastLine run (streamAfter (begin (streamed .floor)) (streamed .finished .turns) .floor)
+  pub last : line ≡ lastLine run (streamAfter (begin wholeFloor (streamed .floor)) (streamed .finished .turns) .floor)
   pub handed : Handed
   pub size : handed .size ≡ length line
   pub ending : r ≡ afterLine run handed

@@ -13,7 +13,7 @@ ghost use Rattle.protocol.specs.Closing.{quietWord, closingLine};
 ghost use Rattle.messages.specs.View.{HasRoom};
 ghost use Rattle.view.specs.View.{lent, floorIn};
 ghost use Rattle.frame_lines.specs.Lines.{Wrote};
-ghost use Rattle.frame_run.specs.CanRun.{CanRun};
+ghost use Rattle.event_answers.specs.Met.{Ready};
 ghost use Rattle.frame_closing.specs.Closed.{longestClosing, answerLine, isTaken, atEnd, lastLine, afterLine, Closed};
 
 // The longest line: the word, two numbers of at most twenty digits, each with a blank before it, and the line end.
@@ -90,7 +90,7 @@ fn put_line(
     lines: &mut [u64],
     texts: &[u8],
 ) -> usize
-    requires { ⌜ CanRun (lent wholeFloor (now stations) (now carts) (now messages) (now lines) (now texts)) × (longestClosing ≤ length (now line)) ⌝ }
+    requires { ⌜ Ready (lent wholeFloor (now stations) (now carts) (now messages) (now lines) (now texts)) × (longestClosing ≤ length (now line)) ⌝ }
     ensures { λ r. ⌜ Wrote longestClosing (closingLine limits (floorIn (lent wholeFloor (now (stations .entry)) (now (carts .entry)) (now (messages .entry)) (now (lines .entry)) (now (texts .entry))))) (now (line .entry)) (now (line .exit)) 0 r ⌝ }
 {
     if !stations::is_started(stations) {
@@ -122,7 +122,7 @@ fn hand_line(
     lines: &mut [u64],
     texts: &[u8],
 ) -> Handed
-    requires { ⌜ CanRun (lent wholeFloor (now stations) (now carts) (now messages) (now lines) (now texts)) × (longestClosing ≤ length (now line)) ⌝ }
+    requires { ⌜ Ready (lent wholeFloor (now stations) (now carts) (now messages) (now lines) (now texts)) × (longestClosing ≤ length (now line)) ⌝ }
     ensures { λ r. ⌜ (take (r .size) (now (line .exit)) ≡ lastLine run (floorIn (lent wholeFloor (now (stations .entry)) (now (carts .entry)) (now (messages .entry)) (now (lines .entry)) (now (texts .entry))))) × (r .size ≤ length (now (line .exit))) ⌝ }
 {
     if !at_end(run) {
@@ -154,25 +154,20 @@ fn after_line(run: Ending, handed: Handed) -> Ending
 pub fn close(from: i32, to: i32) -> Ending
     ensures { λ r. ⌜ Closed r ⌝ }
 {
-    let mut input = io::large_buffer();
-    let mut output = io::large_buffer();
     let mut stations = frame_stream::no_stations();
     let mut carts = frame_stream::no_carts();
     let mut messages = frame_stream::no_messages();
     let mut lines = frame_stream::no_lines();
     let mut texts = frame_stream::no_texts();
-    let numbers = frame_stream::all_numbers();
-    let run = frame_stream::run_all(
+    let run = frame_stream::run_over(
         from,
         to,
-        &mut input,
-        &mut output,
         &mut stations,
         &mut carts,
         &mut messages,
         &mut lines,
         &mut texts,
-        &numbers,
+        products::floor_bounds(),
     );
     let mut line = [0u8; LONGEST];
     let handed = hand_line(

@@ -16,7 +16,7 @@ is-started-requires c κs =
     let s = c .before .before .before .before .before .before .before in
     let a = s .args in
     let L = lent wholeFloor (now (a .stations)) (now (a .carts)) (now (a .messages)) (now (a .lines)) (now (a .texts)) in
-    has-head L (s .pre .0 .ready)
+    has-head L (s .pre .0)
 
 put-refused-requires : tie.Need-put-refused-requires
 put-refused-requires c κs = search needs
@@ -42,14 +42,14 @@ run-until-quiet-requires c κs =
     let s = c .before .before .before .before .before .before .before .before .before .before .before .before .before .before in
     let a = s .args in
     let L = lent wholeFloor (now (a .stations)) (now (a .carts)) (now (a .messages)) (now (a .lines)) (now (a .texts)) in
-    ((wholeFloor, started-passes L _ (c .before .before .before .before .before .before .is-started .ensures) (s .pre .0 .ready) (c .before .before .before .before .before .if1 .left)), omega arith)
+    ((wholeFloor, started-passes L _ (c .before .before .before .before .before .before .is-started .ensures) (s .pre .0) (c .before .before .before .before .before .if1 .left)), omega arith)
 
 held-messages-requires : tie.Need-held-messages-requires
 held-messages-requires c κs =
     let s = c .before .before .before .before .before .before .before .before .before .before .before .before .before .before .before .before .before .before .before .before .before .before .before .before .before .before in
     let a = s .args in
     let L = lent wholeFloor (now (a .stations)) (now (a .carts)) (now (a .messages)) (now (a .lines)) (now (a .texts)) in
-    c .before .before .before .before .before .before .before .before .before .before .before .run-until-quiet .kept .1 .1 .0 ∙ lengths-of L (s .pre .0 .ready .lengths) .messages
+    c .before .before .before .before .before .before .before .before .before .before .before .run-until-quiet .kept .1 .1 .0 ∙ lengths-of L (s .pre .0 .lengths) .messages
 
 put-steps-requires : tie.Need-put-steps-requires
 put-steps-requires c κs = search needs
@@ -74,7 +74,7 @@ returns-2 c =
     let s = c .before .before .before .before .before .before .before .before .before .before .before .before .before .before .before .before .before .before .before .before .before .before .before .before .before .before .before .before .before .before in
     let a = s .args in
     let L = lent wholeFloor (now (a .stations)) (now (a .carts)) (now (a .messages)) (now (a .lines)) (now (a .texts)) in
-    let passes = started-passes L _ (c .before .before .before .before .before .before .before .before .before .before .before .before .before .before .before .before .before .before .before .before .before .before .is-started .ensures) (s .pre .0 .ready) (c .before .before .before .before .before .before .before .before .before .before .before .before .before .before .before .before .before .before .before .before .before .if1 .left) in
+    let passes = started-passes L _ (c .before .before .before .before .before .before .before .before .before .before .before .before .before .before .before .before .before .before .before .before .before .before .is-started .ensures) (s .pre .0) (c .before .before .before .before .before .before .before .before .before .before .before .before .before .before .before .before .before .before .before .before .before .if1 .left) in
     let q = c .before .before .before .before .before .before .before .before .before .before .before .before .before .before .before .run-until-quiet .ensures wholeFloor passes in
     wrote-quiet L _ _ _ passes (q .count) (q .floor) (c .before .before .before .held-messages .ensures) (c .before .before .put-steps .ensures)
 
