@@ -11,14 +11,14 @@ use Rattle.tested_events.proofs.quiet.Statement.{statement}
 use Rattle.tested_events.proofs.quiet.Tie as tie
 
 returns : tie.Need-returns
-returns c =
+returns c P e =
     let a = c .before .before .before .before .before .before .before .before .before .before .before .before .args in
-    λ P e. quiet-broken (lent P (now (a .stations)) (now (a .carts)) (now (a .messages)) (now (a .lines)) (now (a .texts))) (now (a .buffer)) (sym (c .before .passes .ensures P e) ∙ not-true _ (c .if1 .taken))
+    quiet-broken (lent P (now (a .stations)) (now (a .carts)) (now (a .messages)) (now (a .lines)) (now (a .texts))) (now (a .buffer)) (sym (c .before .passes .ensures P e) ∙ not-true _ (c .if1 .taken))
 
 returns-2 : tie.Need-returns-2
-returns-2 c =
+returns-2 c P e =
     let a = c .before .before .before .before .before .before .before .before .before .before .before .before .before .args in
-    λ P e. quiet-short (lent P (now (a .stations)) (now (a .carts)) (now (a .messages)) (now (a .lines)) (now (a .texts))) (now (a .buffer)) (sym (c .before .before .passes .ensures P e) ∙ not-false _ (c .before .if1 .left)) (omega (arith, c .if2 .taken))
+    quiet-short (lent P (now (a .stations)) (now (a .carts)) (now (a .messages)) (now (a .lines)) (now (a .texts))) (now (a .buffer)) (sym (c .before .before .passes .ensures P e) ∙ not-false _ (c .before .if1 .left)) (omega (arith, c .if2 .taken))
 
 run-until-quiet-requires : tie.Need-run-until-quiet-requires
 run-until-quiet-requires c κs =
@@ -27,11 +27,10 @@ run-until-quiet-requires c κs =
     ((productOf (start .args .bounds) (start .pre), passes), omega (arith, c .before .before .before .before .before .if2 .left))
 
 returns-3 : tie.Need-returns-3
-returns-3 c =
+returns-3 c P e =
     let a = c .before .before .before .before .before .before .before .before .before .before .before .before .before .before .before .before .before .before .before .before .before .before .before .before .before .before .before .before .before .args in
-    λ P e.
-        let passes = sym (c .before .before .before .before .before .before .before .before .before .before .before .before .before .before .before .before .before .before .passes .ensures P e) ∙ not-false _ (c .before .before .before .before .before .before .before .before .before .before .before .before .before .before .before .before .before .if1 .left) in
-        quiet-ran (lent P (now (a .stations)) (now (a .carts)) (now (a .messages)) (now (a .lines)) (now (a .texts))) (now (a .buffer)) passes _ _ _ (omega (arith, c .before .before .before .before .before .before .before .before .before .before .before .before .before .before .before .before .if2 .left)) (c .before .before .before .before .before .before .before .before .before .before .run-until-quiet .ensures P passes)
+    let passes = sym (c .before .before .before .before .before .before .before .before .before .before .before .before .before .before .before .before .before .before .passes .ensures P e) ∙ not-false _ (c .before .before .before .before .before .before .before .before .before .before .before .before .before .before .before .before .before .if1 .left) in
+    quiet-ran (lent P (now (a .stations)) (now (a .carts)) (now (a .messages)) (now (a .lines)) (now (a .texts))) (now (a .buffer)) passes _ _ _ (omega (arith, c .before .before .before .before .before .before .before .before .before .before .before .before .before .before .before .before .if2 .left)) (c .before .before .before .before .before .before .before .before .before .before .run-until-quiet .ensures P passes)
 
 pub quiet-spec : {M : Type 1} → statement M
 quiet-spec =

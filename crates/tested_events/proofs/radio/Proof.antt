@@ -12,12 +12,11 @@ use Rattle.tested_events.proofs.radio.Statement.{statement}
 use Rattle.tested_events.proofs.radio.Tie as tie
 
 returns : tie.Need-returns
-returns c =
+returns c P e =
     let a = c .before .before .before .before .before .before .before .before .before .before .before .args in
-    λ P e.
-        let L = lent P (now (a .stations)) (now (a .carts)) (now (a .messages)) (now (a .lines)) (now (a .texts)) in
-        delivers-refused L L (a .station .0) (a .cart .0) (now (a .buffer)) 5
-        (broken-radio L _ (c .before .passes .ensures P e) (not-true _ (c .if1 .taken)) (a .station .0) (a .cart .0) (length (now (a .buffer))))
+    let L = lent P (now (a .stations)) (now (a .carts)) (now (a .messages)) (now (a .lines)) (now (a .texts)) in
+    delivers-refused L L (a .station .0) (a .cart .0) (now (a .buffer)) 5
+    (broken-radio L _ (c .before .passes .ensures P e) (not-true _ (c .if1 .taken)) (a .station .0) (a .cart .0) (length (now (a .buffer))))
 
 radio-into-requires : tie.Need-radio-into-requires
 radio-into-requires c κs =
@@ -25,7 +24,7 @@ radio-into-requires c κs =
     (productOf (start .args .bounds) (start .pre), tested-ready _ _ (c .before .before .before .before .before .passes .ensures _ (its-numbers (start .args .bounds) (start .pre))) (c .before .before .before .before .if1 .left))
 
 returns-2 : tie.Need-returns-2
-returns-2 c = λ P e. c .before .before .before .before .before .before .before .before .radio-into .ensures P (tested-ready _ _ (c .before .before .before .before .before .before .before .before .before .before .before .before .before .before .passes .ensures P e) (c .before .before .before .before .before .before .before .before .before .before .before .before .before .if1 .left))
+returns-2 c P e = c .before .before .before .before .before .before .before .before .radio-into .ensures P (tested-ready _ _ (c .before .before .before .before .before .before .before .before .before .before .before .before .before .before .passes .ensures P e) (c .before .before .before .before .before .before .before .before .before .before .before .before .before .if1 .left))
 
 pub radio-spec : {M : Type 1} → statement M
 radio-spec =

@@ -11,14 +11,14 @@ use Rattle.tested_events.proofs.send.Statement.{statement}
 use Rattle.tested_events.proofs.send.Tie as tie
 
 returns : tie.Need-returns
-returns c =
+returns c P e =
     let a = c .before .before .before .before .before .before .before .args in
-    λ P e. long-send (lent P (now (a .stations)) (now (a .carts)) (now (a .messages)) (now (a .lines)) (now (a .texts))) (a .station .0) (a .set) (now (a .text)) (omega (arith, c .if1 .taken))
+    long-send (lent P (now (a .stations)) (now (a .carts)) (now (a .messages)) (now (a .lines)) (now (a .texts))) (a .station .0) (a .set) (now (a .text)) (omega (arith, c .if1 .taken))
 
 returns-2 : tie.Need-returns-2
-returns-2 c =
+returns-2 c P e =
     let a = c .before .before .before .before .before .before .before .before .before .before .before .before .before .args in
-    λ P e. broken-send (lent P (now (a .stations)) (now (a .carts)) (now (a .messages)) (now (a .lines)) (now (a .texts))) _ (c .before .passes .ensures P e) (not-true _ (c .if2 .taken)) (a .station .0) (a .set) (now (a .text)) (omega (arith, c .before .before .before .before .before .before .if1 .left))
+    broken-send (lent P (now (a .stations)) (now (a .carts)) (now (a .messages)) (now (a .lines)) (now (a .texts))) _ (c .before .passes .ensures P e) (not-true _ (c .if2 .taken)) (a .station .0) (a .set) (now (a .text)) (omega (arith, c .before .before .before .before .before .before .if1 .left))
 
 send-requires : tie.Need-send-requires
 send-requires c κs =
@@ -27,7 +27,7 @@ send-requires c κs =
     ((productOf (start .args .bounds) (start .pre), e, tested-ready _ _ (c .before .before .before .before .before .passes .ensures _ e) (c .before .before .before .before .if2 .left)), omega (arith, c .before .before .before .before .before .before .before .before .before .before .if1 .left))
 
 returns-3 : tie.Need-returns-3
-returns-3 c = λ P e. c .before .before .before .before .before .before .before .before .send .ensures P e (tested-ready _ _ (c .before .before .before .before .before .before .before .before .before .before .before .before .before .before .passes .ensures P e) (c .before .before .before .before .before .before .before .before .before .before .before .before .before .if2 .left))
+returns-3 c P e = c .before .before .before .before .before .before .before .before .send .ensures P e (tested-ready _ _ (c .before .before .before .before .before .before .before .before .before .before .before .before .before .before .passes .ensures P e) (c .before .before .before .before .before .before .before .before .before .before .before .before .before .if2 .left))
 
 pub send-spec : {M : Type 1} → statement M
 send-spec =
