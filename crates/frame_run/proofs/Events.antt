@@ -106,4 +106,3 @@ module _ (T : List ℕ) (r : Dispatched) (out out′ : List ℕ) (at next : ℕ)
   ends-accepted q h w =
       let text = take-take (r .size) (r .room * 32 + 32 - r .room * 32) (drop (r .room * 32) T) (omega arith) in
       rw q (subst (λ (l : List ℕ). Rest (acceptedIn (r .told .report) l)) text w)
-

@@ -56,8 +56,8 @@ abbrev pub afterRun : Feed → Progress → Handed → Feed
 afterRun f p h =
     record { at = f .at + p .read; have = f .have; index = f .index + p .frames; state = stateAfter (p .state) (f .last) (h .accepted); last = f .last; handed = h .size }
 
--- THE WHOLE RUN from a floor, by the limits of a product: the turns that were made, and how it came out. It stopped since nothing was to be done, or since 2^63 frames were run or
--- 2^64 − 1 turns made, which no input uses up
+-- THE WHOLE RUN from a floor, by the limits of a product: the turns that were made, and how it came out. It stopped since nothing was to be done, or
+-- since 2^63 frames were run or 2^64 − 1 turns made, which no input uses up
 pub record Finished (P : Product) (F : Floor) (r : Ending) : Type 0 where
   pub turns : List Turn
   pub made : Turns (begin P F) turns

@@ -15,8 +15,8 @@ use Rattle.frame_lines.specs.Lines.{lineRoom}
 use Rattle.frame_run.specs.Piece.{Ran, runFrom, eventsFrom}
 use Rattle.frame_run.specs.Went.{NoneWhole, EndsRun}
 
--- between two turns: whose limits the steps go by, the octets that were read and not run yet, the floor, the next frame's index, what is to be done, and
--- whether the input has ended. To be done is a run (0), a read (1), or nothing, since the run is over (2) or a read or a write failed (3)
+-- between two turns: whose limits the steps go by, the octets that were read and not run yet, the floor, the next frame's index, what is to be done,
+-- and whether the input has ended. To be done is a run (0), a read (1), or nothing, since the run is over (2) or a read or a write failed (3)
 pub record Stream : Type 0 where
   pub product : Product
   pub left : List ℕ
@@ -116,8 +116,9 @@ OverAt last end = last ≡ true
 OverAt last (refusedFrame r) = Unit {0}
 OverAt last (taken e size) = ⊥
 
--- THE CLAIM over any list of turns from a floor, by the limits of a product: however an input is cut into reads, what is handed on is the printed run of the whole input if the
--- run is over, and else a beginning of it. It is over only at the input's end or at a frame refused with 1 to 4; the floor is that of the frames' events
+-- THE CLAIM over any list of turns from a floor, by the limits of a product: however an input is cut into reads, what is handed on is the printed run
+-- of the whole input if the run is over, and else a beginning of it. It is over only at the input's end or at a frame refused with 1 to 4; the floor is
+-- that of the frames' events
 pub record StreamIs (P : Product) (F : Floor) (ts : List Turn) : Type 0 where
   pub whole : streamAfter (begin P F) ts .state ≡ 2 → (later : List ℕ) → Behind (streamAfter (begin P F) ts) later → printedRun (limitsOf P) (broughtBy ts ++ later) ≡ handedBy (begin P F) ts
   pub beginning : (later : List ℕ) → Behind (streamAfter (begin P F) ts) later → (rest : List ℕ) × (printedRun (limitsOf P) (broughtBy ts ++ later) ≡ handedBy (begin P F) ts ++ rest)
