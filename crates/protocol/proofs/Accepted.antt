@@ -1,4 +1,4 @@
-use mathlib.Core.Path.{refl, _≡_}
+use mathlib.Core.Path.{ap, refl, _∙_, _≡_}
 use mathlib.Core.Bool.{Bool, cond, false, not, true, _||_}
 use mathlib.Core.Option.{some}
 use mathlib.Core.List.{List, [], _∷_}
@@ -6,19 +6,22 @@ use Prim.Native.Nat.{_<_, _^_, ℕ, _≤_}
 use native.Mathlib.Omega.{arith}
 use lib.Dec.{eqb, ltb}
 use lib.ListN.{length}
-use borrow.Author.Tests.{eqb-true, leb-false, ltb-false, ne-eqb, not-false}
-use Rattle.protocol.specs.Folds.{isEmpty, isNone}
+use borrow.Author.Tests.{eqb-true, leb-false, lt-leb, ltb-false, ne-eqb, not-false}
+use Rattle.protocol.specs.Folds.{every, isEmpty, isNone}
 use Rattle.protocol.specs.CartSets.{has}
 use Rattle.protocol.specs.Floor.{Floor, Limits, Record, at, behead, entered, isAt, moving, onLines}
-use Rattle.protocol.specs.Events.{Answer, Event, Report, accepted, enter, flag, move, radio, refused, send, start, wire}
+use Rattle.protocol.specs.Events.{Answer, Event, Report, accepted, enter, flag, group, move, radio, refused, send, sendGroup, start, wire}
+use Rattle.protocol.specs.Groups.{groupCount, onGroup}
 use Rattle.protocol.specs.Handoff.{onEnter, onFlag, onMove}
 use Rattle.protocol.specs.Wired.{buffer, freeRoom, handle, onSend, onWire, withMessage}
 use Rattle.protocol.specs.Wireless.{handOver, onRadio, queueHead}
-use Rattle.protocol.specs.Form.{passesForm}
-use Rattle.protocol.specs.Refusals.{check, headLacks, neverEntered, noCart, noStation, refusal, refusalIf, strangers}
+use Rattle.protocol.specs.Claims.{True}
+use Rattle.protocol.specs.Form.{formRule, groupRule, passesForm}
+use Rattle.protocol.specs.Refusals.{check, headLacks, neverEntered, noCart, noGroup, noStation, refusal, refusalIf, strangers, undefined}
 use Rattle.protocol.specs.Step.{accept, answer, step}
-use Rattle.protocol.proofs.Tests.{by-eq, by-option, by-test, clash, first-some, or-false}
-use Rattle.protocol.proofs.Readings
+use Rattle.protocol.proofs.Tests.{by-eq, by-option, by-test, clash, every-all, every-at, first-some, or-false}
+use Rattle.protocol.proofs.ClaimLaws.{reflect}
+use Rattle.protocol.proofs.Readings.{refused-as-the-send}
 
 -- What is known of an event that passed its checks; and by cases on what an event does to a started floor.
 -- a check that did not apply, and the rest of the table
@@ -70,6 +73,29 @@ pub record MayRadio (M : Limits) (F : Floor) (t c m : ℕ) : Type 0 where
 pub record MayFlag (F : Floor) (c : ℕ) : Type 0 where
   pub cart : c < F .carts
   pub has-entered : entered (F .place c) ≡ true
+
+pub record MayGroup (F : Floor) (g set : ℕ) : Type 0 where
+  pub carts : set < 2 ^ F .carts
+  pub all-entered : neverEntered F set ≡ false
+  pub number : g < groupCount
+
+-- a named cart has entered
+pub named-has-entered : (F : Floor) (set c : ℕ) → c < F .carts → neverEntered F set ≡ false → has set c ≡ true → entered (F .place c) ≡ true
+unfolding neverEntered
+named-has-entered F set c lc e n =
+    let z = every-at (F .carts) (λ c. not (has set c) || entered (F .place c)) (not-false (every (F .carts) (λ c. not (has set c) || entered (F .place c))) e) c lc in
+    rw n at z
+
+-- and where each has, 12 is not met
+pub all-have-entered : (F : Floor) (set : ℕ) → ((c : ℕ) → c < F .carts → has set c ≡ true → entered (F .place c) ≡ true) → neverEntered F set ≡ false
+unfolding neverEntered
+all-have-entered F set h =
+    ap not (every-all (F .carts) (λ c. not (has set c) || entered (F .place c)) (λ c lc. by-test (has set c) (λ n. rw (n, h c lc n)) (λ n. rw n)))
+
+-- the members of a group, on a floor that passes the form rule
+pub group-clause : (M : Limits) (F : Floor) → passesForm M F ≡ true → (g : ℕ) → g < groupCount → True (groupRule M F g)
+unfolding passesForm
+group-clause M F e = reflect (formRule M F) .0 e .1 .1 .1 .1 .1 .1 .1 .1 .1 .1
 
 pub record MayMove (F : Floor) (c to : ℕ) : Type 0 where
   pub station : to < F .stations
@@ -179,11 +205,84 @@ module _ (M : Limits) (F : Floor) (broken : Bool) where
       let a18 = passed-check 18 (not (entered (F .place c))) _ (omega arith) (a9 .1) in
       record { cart = leb-false (F .carts) c (a9 .0); has-entered = not-false (entered (F .place c)) (a18 .0) }
 
+module _ (M : Limits) (F : Floor) where
+  pub may-group : (g set : ℕ) → refusalIf M F (not (passesForm M F)) (group g set) ≡ 0 → MayGroup F g set
+  unfolding refusalIf
+  may-group g set e =
+      let a5 = passed-check 5 (not (passesForm M F)) _ (omega arith) e in
+      let a9 = passed-check 9 (strangers F set) _ (omega arith) (a5 .1) in
+      let a12 = passed-check 12 (neverEntered F set) _ (omega arith) (a9 .1) in
+      let a26 = passed-check 26 (noGroup g) _ (omega arith) (a12 .1) in
+      record { carts = leb-false (2 ^ F .carts) set (a9 .0); all-entered = a12 .0; number = leb-false groupCount g (a26 .0) }
+
+  -- a group send is not asked 9, 11 and 12: what they grant, the form rule and 26 say of the members
+  pub may-send-group : (s g : ℕ) (text : List ℕ) → refusalIf M F (not (passesForm M F)) (sendGroup s g text) ≡ 0
+      → (m : ℕ) × (freeRoom M F ≡ some m) × MaySend M F s (F .groups g) text m
+  unfolding refusalIf freeRoom
+  may-send-group s g text e =
+      let a4 = passed-check 4 (ltb (M .text) (length text)) _ (omega arith) e in
+      let a5 = passed-check 5 (not (passesForm M F)) _ (omega arith) (a4 .1) in
+      let a8 = passed-check 8 (noStation F s) _ (omega arith) (a5 .1) in
+      let a26 = passed-check 26 (undefined F g) _ (omega arith) (a8 .1) in
+      let a24 = passed-check 24 (isEmpty text) _ (omega arith) (a26 .1) in
+      let a13 = passed-check 13 (ltb (M .last) (F .sent s)) _ (omega arith) (a24 .1) in
+      let a14 = passed-check 14 (isNone (freeRoom M F)) _ (omega arith) (a13 .1) in
+      let defined = or-false (noGroup g) (eqb (F .groups g) 0) (a26 .0) in
+      let clause = group-clause M F (not-false (passesForm M F) (a5 .0)) g (leb-false groupCount g (defined .0)) in
+      by-option (freeRoom M F)
+      (λ q. clash (isNone (freeRoom M F)) (rw q) (a14 .0))
+      (λ m q. let f = first-some (M .held) (λ m. eqb (F .waiting m) 0) m q in (
+        m,
+        q,
+        record {
+          station = leb-false (F .stations) s (a8 .0);
+          fits = ltb-false (M .text) (length text) (a4 .0);
+          carts = clause .0;
+          some = defined .1;
+          all-entered = all-have-entered F (F .groups g) (clause .1);
+          has-text = a24 .0;
+          number = ltb-false (M .last) (F .sent s) (a13 .0);
+          room = f .0;
+          free = f .1;
+        },
+      ))
+
+-- A GROUP SEND IS A SEND TO ITS MEMBERS, on a floor that passes the form rule and to a group that is defined
+module _ (M : Limits) (F : Floor) (s g : ℕ) (text : List ℕ) (h : passesForm M F ≡ true) (d : undefined F g ≡ false) where
+  same-refusal : refusal M F (sendGroup s g text) ≡ refusal M F (send s (F .groups g) text)
+  unfolding refusal
+  same-refusal =
+      let clause = group-clause M F h g (leb-false groupCount g (or-false (noGroup g) (eqb (F .groups g) 0) d .0)) in
+      rw h (refused-as-the-send M F s g text d (lt-leb (2 ^ F .carts) (F .groups g) (clause .0)) (all-have-entered F (F .groups g) (clause .1)))
+
+  same-floor : accept M F (sendGroup s g text) .floor ≡ accept M F (send s (F .groups g) text) .floor
+  unfolding accept onSend
+  same-floor = by-option (freeRoom M F) (λ q. rw q) (λ m q. rw q)
+
+  pub sent-as-the-send : (refusal M F (sendGroup s g text) ≡ refusal M F (send s (F .groups g) text))
+      × (step M F (sendGroup s g text) ≡ step M F (send s (F .groups g) text))
+  unfolding step
+  sent-as-the-send = (same-refusal, rw (same-refusal, same-floor))
+
+  -- the report of a send, under another kind
+  under : ℕ → Report → Report
+  under kind l = record { kind = kind; a = l .a; b = l .b; p = l .p; w = l .w; q = l .q; text = l .text }
+
+  same-report : accept M F (sendGroup s g text) .report ≡ under 8 (accept M F (send s (F .groups g) text) .report)
+  unfolding accept onSend under
+  same-report = by-option (freeRoom M F) (λ q. rw q) (λ m q. rw q)
+
+  pub printed-as-the-send : (l : Report) → answer M F (send s (F .groups g) text) ≡ accepted l
+      → answer M F (sendGroup s g text) ≡ accepted (record { kind = 8; a = l .a; b = l .b; p = l .p; w = l .w; q = l .q; text = l .text })
+  unfolding answer under
+  printed-as-the-send l a =
+      rw (same-refusal ∙ accepted-passes M F (send s (F .groups g) text) l a, same-report, accepted-report M F (send s (F .groups g) text) l a)
+
 -- the floor without the head of the line from i to j
 abbrev pub unlined : Floor → ℕ → ℕ → Floor
 unlined F i j = onLines F (behead i j (F .lines))
 
--- A property of event, floor and answer holds after every event on a started floor if it holds of a refusal and of each of six steps.
+-- A property of event, floor and answer holds after every event on a started floor if it holds of a refusal and of each of the steps.
 module _ (M : Limits) (F : Floor) (Q : Event → Floor → Answer → Type 0) (begun : F .started ≡ true)
     (refusing : (e : Event) (r : ℕ) → Q e F (refused r))
     (entering : (t c : ℕ) → MayEnter F t c → Q (enter t c) (onEnter M F t c .floor) (accepted (onEnter M F t c .report)))
@@ -193,17 +292,24 @@ module _ (M : Limits) (F : Floor) (Q : Event → Floor → Answer → Type 0) (b
     → Q (wire i j) (handle M (unlined F i j) i j r .floor) (accepted (handle M (unlined F i j) i j r .report)))
     (handing : (t c buffer m : ℕ) → MayRadio M F t c m → Q (radio t c buffer) (handOver M F m t c .floor) (accepted (handOver M F m t c .report)))
     (moves : (c to : ℕ) → MayMove F c to → Q (move c to) (onMove F c to .floor) (accepted (onMove F c to .report)))
-    (flagging : (c : ℕ) (b : Bool) → MayFlag F c → Q (flag c b) (onFlag F c b .floor) (accepted (onFlag F c b .report))) where
-  when-accepted : (b : Bool) (e : Event) → refusalIf M F b e ≡ 0 → Q e (accept M F e .floor) (accepted (accept M F e .report))
+    (flagging : (c : ℕ) (b : Bool) → MayFlag F c → Q (flag c b) (onFlag F c b .floor) (accepted (onFlag F c b .report)))
+    (grouping : (g set : ℕ) → MayGroup F g set → Q (group g set) (onGroup F g set .floor) (accepted (onGroup F g set .report)))
+    (sendingGroup : (s g : ℕ) (text : List ℕ) (m : ℕ) → MaySend M F s (F .groups g) text m
+    → Q (sendGroup s g text) (withMessage F m s (F .groups g) text)
+    (accepted (record { kind = 8; a = s; b = F .sent s; p = 0; w = F .stations; q = 0; text = [] }))) where
+  when-accepted : (e : Event) → refusalIf M F (not (passesForm M F)) e ≡ 0 → Q e (accept M F e .floor) (accepted (accept M F e .report))
   unfolding accept onSend onWire onRadio refusalIf
-  when-accepted b (start n k) z =
+  when-accepted (start n k) z =
       clash (F .started) begun (passed-check 6 (F .started) _ (omega arith) (passed-check 5 (not (F .lengthsRight)) _ (omega arith) z .1) .0)
-  when-accepted b (enter t c) z = entering t c (may-enter M F b t c z)
-  when-accepted b (send s set text) z = let a = may-send M F b s set text z in rw (a .1) (sending s set text (a .0) (a .2))
-  when-accepted b (wire i j) z = let a = may-wire M F b i j z in rw (a .2 .line) (handling i j (a .0) (a .1) (a .2))
-  when-accepted b (radio t c buffer) z = let a = may-radio M F b t c buffer z in rw (a .1 .is-head) (handing t c buffer (a .0) (a .1))
-  when-accepted b (move c to) z = moves c to (may-move M F b c to z)
-  when-accepted b (flag c on) z = flagging c on (may-flag M F b c on z)
+  when-accepted (enter t c) z = entering t c (may-enter M F (not (passesForm M F)) t c z)
+  when-accepted (send s set text) z = let a = may-send M F (not (passesForm M F)) s set text z in rw (a .1) (sending s set text (a .0) (a .2))
+  when-accepted (wire i j) z = let a = may-wire M F (not (passesForm M F)) i j z in rw (a .2 .line) (handling i j (a .0) (a .1) (a .2))
+  when-accepted (radio t c buffer) z =
+      let a = may-radio M F (not (passesForm M F)) t c buffer z in rw (a .1 .is-head) (handing t c buffer (a .0) (a .1))
+  when-accepted (move c to) z = moves c to (may-move M F (not (passesForm M F)) c to z)
+  when-accepted (flag c on) z = flagging c on (may-flag M F (not (passesForm M F)) c on z)
+  when-accepted (group g set) z = grouping g set (may-group M F g set z)
+  when-accepted (sendGroup s g text) z = let a = may-send-group M F s g text z in rw (a .1) (sendingGroup s g text (a .0) (a .2))
 
   by-refusal : (r : ℕ) (e : Event) → (r ≡ 0 → Q e (accept M F e .floor) (accepted (accept M F e .report)))
       → Q e (cond (eqb r 0) (accept M F e .floor) F) (cond (eqb r 0) (accepted (accept M F e .report)) (refused r))
@@ -211,4 +317,4 @@ module _ (M : Limits) (F : Floor) (Q : Event → Floor → Answer → Type 0) (b
 
   pub by-step : (e : Event) → Q e (step M F e) (answer M F e)
   unfolding step answer refusal
-  by-step e = by-refusal (refusal M F e) e (when-accepted (not (passesForm M F)) e)
+  by-step e = by-refusal (refusal M F e) e (when-accepted e)

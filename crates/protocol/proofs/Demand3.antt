@@ -12,7 +12,8 @@ use borrow.Author.Tests.{eq-eqb, eqb-true, le-leb, leb-true, not-false, not-true
 use Rattle.protocol.specs.Folds.{count, every, sum, update2}
 use Rattle.protocol.specs.CartSets.{has, union}
 use Rattle.protocol.specs.Floor.{Floor, Limits, Record, ackList, at, delete, deregister, isHeld, justStarted, multicast, register}
-use Rattle.protocol.specs.Events.{Answer, Done, Event, Report, accepted, enter, flag, move, radio, refused, send, start, wire}
+use Rattle.protocol.specs.Events.{Answer, Done, Event, Report, accepted, enter, flag, group, move, radio, refused, send, sendGroup, start, wire}
+use Rattle.protocol.specs.Groups.{asSent, onGroup}
 use Rattle.protocol.specs.Handoff.{arrive, entryOf, onEnter, onFlag, onMove, onRegister, roomOf, struck}
 use Rattle.protocol.specs.Deregister.{leave}
 use Rattle.protocol.specs.Wired.{buffer, handle, multicastByRow, onAckList, onDelete, onMulticast, withMessage}
@@ -69,6 +70,8 @@ same-note G L (radio t c room) (accepted l) S =
     record { count = S .count; sent = S .sent; received = ap (λ (f : ℕ → ℕ → List Item). update2 f (l .a) c (f (l .a) c ++ (item (l .b) (l .text) ∷ []))) (S .received) }
 same-note G L (move c to) a S = S
 same-note G L (flag c b) a S = S
+same-note G L (group g set) a S = S
+same-note G L (sendGroup s g text) a S = S
 
 -- the entries from a number on
 naming-append : (c k : ℕ) (h g : List Entry) → naming c k (h ++ g) ≡ naming c k h ++ naming c (k + length h) g
@@ -195,7 +198,7 @@ handled-size M F i j (deregister c) =
 handled-size M F i j (register c row) = arrived-size M F j c (entryOf row)
 
 pub step-size : (M : Limits) (F : Floor) → F .started ≡ true → (e : Event) → SameSize F (step M F e)
-unfolding onEnter onFlag withMessage onMove handOver receive sendAcks
+unfolding onEnter onFlag onGroup withMessage onMove handOver receive sendAcks
 step-size M F begun =
     by-step M F (λ e X a. SameSize F X) begun (λ e r. same-size F) (λ t c may. arrived-size M F t c (λ s. 0)) (λ s set text m may. same-size F)
     (λ i j r l may. handled-size M (unlined F i j) i j r)
@@ -203,6 +206,8 @@ step-size M F begun =
     (on-cond (λ (X : Floor). SameSize F X) (allAcked (receive F m t c) m t) (λ b. same-size F) (λ b. same-size F)))
     (λ c to may. same-size F)
     (λ c b may. same-size F)
+    (λ g set may. same-size F)
+    (λ s g text m may. same-size F)
 
 -- the rule after any list of events, from any floor and history that the invariant joins
 pub rule-after : (M : Limits) (F : Floor) (G : History) (L : Lists) (es : List Event) → Invariant M F G → Same G L → (s c : ℕ) → c < F .carts
@@ -210,5 +215,6 @@ pub rule-after : (M : Limits) (F : Floor) (G : History) (L : Lists) (es : List E
 unfolding floorAfter listsAfter
 rule-after M F G L [] I S s c lc = rw (S .sent s c, S .received) (two-lists M F G I s c lc)
 rule-after M F G L (e ∷ es) I S s c lc =
-    rule-after M (step M F e) (note e (answer M F e) G) (listsStep e (answer M F e) L) es (step-ok M F G I e) (same-note G L e (answer M F e) S) s c
+    rule-after M (step M F e) (note (asSent F e) (answer M F e) G) (listsStep (asSent F e) (answer M F e) L) es (step-ok M F G I e)
+    (same-note G L (asSent F e) (answer M F e) S) s c
     (let z = step-size M F (I .started) e .carts in omega arith)

@@ -10,6 +10,7 @@ use Rattle.protocol.specs.Folds.{count, every, first, listOf, sum}
 use Rattle.protocol.specs.CartSets.{has, minus, setOf, union, with, without}
 use Rattle.protocol.specs.Floor.{Floor, Limits, kit, limits, limitsOf, unstarted}
 use Rattle.protocol.specs.Events.{Answer, Event}
+use Rattle.protocol.specs.Groups.{membersOf, onGroup}
 use Rattle.protocol.specs.Order.{placeIn}
 use Rattle.protocol.specs.Handoff.{arrive, bufferedFor, catchUp, catchUpEach, catchUpStop, climb, deepest, largestPlace, onEnter, onFlag, onMove, onRegister, passedOver, placeGiven, roomOf, struck}
 use Rattle.protocol.specs.Wired.{buffer, freeRoom, handle, multicastByRow, onAckList, onDelete, onMulticast, onSend, onWire, placeOfNew, withMessage}
@@ -95,7 +96,7 @@ no-text-blank =
     }
 
 computed : map (λ r. quickOutcome (r .within) (r .given)) examples ≡ map (λ r. r .shown) examples
-unfolding quickOutcome quickLines quickAnswers quickFloor quickStep quickAnswer refusalIf accept frameOf frameRefusal fieldsRefusal fieldsOf bigEndian unlisted eventOf restOf lineOf decimal decimalDigits hexadecimal onEnter onFlag onSend onWire onRadio onMove handle onMulticast multicastByRow onAckList onDelete onDeregister bufferedRooms inOrder insert isComplete testEach listsSent leave onRegister arrive passedOver deepest largestPlace placeGiven placeOfNew placeIn catchUpEach catchUp catchUpStop climb bufferedFor roomOf freeRoom struck withMessage buffer receive sendAcks allAcked handOver queueHead headAmong neverEntered passesForm test every count sum first listOf has union minus with without setOf
+unfolding quickOutcome quickLines quickAnswers quickFloor quickStep quickAnswer refusalIf accept frameOf frameRefusal fieldsRefusal fieldsOf bigEndian unlisted eventOf restOf lineOf decimal decimalDigits hexadecimal onEnter onFlag onGroup membersOf onSend onWire onRadio onMove handle onMulticast multicastByRow onAckList onDelete onDeregister bufferedRooms inOrder insert isComplete testEach listsSent leave onRegister arrive passedOver deepest largestPlace placeGiven placeOfNew placeIn catchUpEach catchUp catchUpStop climb bufferedFor roomOf freeRoom struck withMessage buffer receive sendAcks allAcked handOver queueHead headAmong neverEntered passesForm test every count sum first listOf has union minus with without setOf
 computed = refl
 
 near-the-last : Ready limits nearTheLast
@@ -107,7 +108,7 @@ no-text s = (no-text-blank, no-text-passes)
 -- THE TABLE
 pub table-holds : map (λ r. outcome (r .within) (r .given)) examples ≡ map (λ r. r .shown) examples
 table-holds =
-    quick-table examples (tt, (u, (u, (u, (u, (u, (tt, (near-the-last, (u, (u, (u, (u, (tt, (no-text, (no-text, (no-text, (u, (k, (k, (k, (tt, (tt, tt))))))))))))))))))))))
+    quick-table examples (tt, (u, (u, (u, (u, (u, (tt, (near-the-last, (u, (u, (u, (u, (tt, (no-text, (no-text, (no-text, (u, (tt, (k, (k, (k, (tt, (tt, tt)))))))))))))))))))))))
     ∙ computed
   where
     u : Ready limits unstarted
@@ -118,7 +119,7 @@ table-holds =
 
 -- THE CART THAT ROLLS AWAY
 rolls-away : heldOn limits (quickFloor limits unstarted rollsAway) ≡ 0
-unfolding quickFloor quickStep refusalIf accept onEnter onFlag onSend onWire onRadio onMove handle onMulticast multicastByRow onAckList onDelete onDeregister bufferedRooms inOrder insert isComplete testEach listsSent leave onRegister arrive passedOver deepest largestPlace placeGiven placeOfNew placeIn catchUpEach catchUp catchUpStop climb bufferedFor roomOf freeRoom struck withMessage buffer receive sendAcks allAcked handOver queueHead headAmong neverEntered every count sum first listOf has union minus with without setOf
+unfolding quickFloor quickStep refusalIf accept onEnter onFlag onGroup membersOf onSend onWire onRadio onMove handle onMulticast multicastByRow onAckList onDelete onDeregister bufferedRooms inOrder insert isComplete testEach listsSent leave onRegister arrive passedOver deepest largestPlace placeGiven placeOfNew placeIn catchUpEach catchUp catchUpStop climb bufferedFor roomOf freeRoom struck withMessage buffer receive sendAcks allAcked handOver queueHead headAmong neverEntered every count sum first listOf has union minus with without setOf
 rolls-away = refl
 
 pub rolled-away : heldOn limits (floorAfter limits unstarted rollsAway) ≡ 0
@@ -133,18 +134,18 @@ unfolding closing
 closing-is = quick-floor limits unstarted (take 8 rollsAway) from-unstarted
 
 closing-events : quietEvents limits closing ≡ drop 8 rollsAway
-unfolding closing quietEvents dispatched nextEvent busyFrom busyTo firstStation firstCart step refusal passesForm test quickFloor quickStep refusalIf accept onEnter onFlag onSend onWire onRadio onMove handle onMulticast multicastByRow onAckList onDelete onDeregister bufferedRooms inOrder insert isComplete testEach listsSent leave onRegister arrive passedOver deepest largestPlace placeGiven placeOfNew placeIn catchUpEach catchUp catchUpStop climb bufferedFor roomOf freeRoom struck withMessage buffer receive sendAcks allAcked handOver queueHead headAmong neverEntered every count sum first listOf has union minus with without setOf
+unfolding closing quietEvents dispatched nextEvent busyFrom busyTo firstStation firstCart step refusal passesForm test quickFloor quickStep refusalIf accept onEnter onFlag onGroup membersOf onSend onWire onRadio onMove handle onMulticast multicastByRow onAckList onDelete onDeregister bufferedRooms inOrder insert isComplete testEach listsSent leave onRegister arrive passedOver deepest largestPlace placeGiven placeOfNew placeIn catchUpEach catchUp catchUpStop climb bufferedFor roomOf freeRoom struck withMessage buffer receive sendAcks allAcked handOver queueHead headAmong neverEntered every count sum first listOf has union minus with without setOf
 closing-events = refl
 
 closing-started : closing .started ≡ true
-unfolding closing quickFloor quickStep refusalIf accept onEnter onFlag onSend onWire onRadio onMove handle onMulticast multicastByRow onAckList onDelete onDeregister bufferedRooms inOrder insert isComplete testEach listsSent leave onRegister arrive passedOver deepest largestPlace placeGiven placeOfNew placeIn catchUpEach catchUp catchUpStop climb bufferedFor roomOf freeRoom struck withMessage buffer receive sendAcks allAcked handOver queueHead headAmong neverEntered every count sum first listOf has union minus with without setOf
+unfolding closing quickFloor quickStep refusalIf accept onEnter onFlag onGroup membersOf onSend onWire onRadio onMove handle onMulticast multicastByRow onAckList onDelete onDeregister bufferedRooms inOrder insert isComplete testEach listsSent leave onRegister arrive passedOver deepest largestPlace placeGiven placeOfNew placeIn catchUpEach catchUp catchUpStop climb bufferedFor roomOf freeRoom struck withMessage buffer receive sendAcks allAcked handOver queueHead headAmong neverEntered every count sum first listOf has union minus with without setOf
 closing-started = refl
 
 closing-ready : Ready limits closing
 closing-ready = let z = ready-run limits unstarted (take 8 rollsAway) from-unstarted in rw closing-is at z
 
 closing-writes : buffersAfter (quickAnswers limits closing (drop 8 rollsAway)) (replicate 32 0) ≡ 0xa1 ∷ replicate 31 0
-unfolding closing quickFloor quickAnswers quickAnswer quickStep refusalIf accept onEnter onFlag onSend onWire onRadio onMove handle onMulticast multicastByRow onAckList onDelete onDeregister bufferedRooms inOrder insert isComplete testEach listsSent leave onRegister arrive passedOver deepest largestPlace placeGiven placeOfNew placeIn catchUpEach catchUp catchUpStop climb bufferedFor roomOf freeRoom struck withMessage buffer receive sendAcks allAcked handOver queueHead headAmong neverEntered every count sum first listOf has union minus with without setOf
+unfolding closing quickFloor quickAnswers quickAnswer quickStep refusalIf accept onEnter onFlag onGroup membersOf onSend onWire onRadio onMove handle onMulticast multicastByRow onAckList onDelete onDeregister bufferedRooms inOrder insert isComplete testEach listsSent leave onRegister arrive passedOver deepest largestPlace placeGiven placeOfNew placeIn catchUpEach catchUp catchUpStop climb bufferedFor roomOf freeRoom struck withMessage buffer receive sendAcks allAcked handOver queueHead headAmong neverEntered every count sum first listOf has union minus with without setOf
 closing-writes = refl
 
 pub closed : (quietEvents limits (floorAfter limits unstarted (take 8 rollsAway)) ≡ drop 8 rollsAway)

@@ -9,6 +9,7 @@ use borrow.Author.Tests.{ne-eqb}
 use Rattle.protocol.specs.CartSets.{union}
 use Rattle.protocol.specs.Floor.{Floor, Limits, Record, ackList, at, delete, deregister, multicast, register}
 use Rattle.protocol.specs.Events.{Answer, Done, Event, accepted, refused}
+use Rattle.protocol.specs.Groups.{onGroup}
 use Rattle.protocol.specs.Handoff.{entryOf, onEnter, onFlag, onMove, onRegister, passedOver, roomOf}
 use Rattle.protocol.specs.Deregister.{onDeregister}
 use Rattle.protocol.specs.Wired.{buffer, handle, localRow, multicastByRow, onAckList, onDelete, onMulticast, passesOver}
@@ -47,6 +48,7 @@ in-range M F X S =
     record {
       stations = S .counts .stations;
       carts = S .counts .carts;
+      groups = λ g l. S .groups g l .0;
       sent = S .numbers;
       expected = λ t s l. let a = counts-up-le (F .expected t s) (multicastNumbers (F .lines s t)) (F .sent s) (X .run s t l) in let b = S .numbers s in omega arith;
       next = λ c s. let a = X .low c s in let b = S .numbers s in omega arith;
@@ -124,7 +126,7 @@ module _ (M : Limits) (F : Floor) (G : History) (I : Invariant M F G) (S : Sized
       climbs-most D t c s n x one e f = rw (eqb-self c, eqb-self s) (let a = catch-up-ascent M D t c s .below in omega arith)
 
   pub step-most : (e : Event) → PassesAtMost (max (F .stations * suc (M .last)) (F .carts)) (answer M F e)
-  unfolding onEnter onFlag onMove most
+  unfolding onEnter onFlag onGroup onMove most
   step-most =
       by-step M F (λ e X a. PassesAtMost most a) (I .started) (λ e r. tt)
       (λ t c may. arrival-most F t c (λ s. 0) refl (λ s. refl) (may .station))
@@ -133,3 +135,5 @@ module _ (M : Limits) (F : Floor) (G : History) (I : Invariant M F G) (S : Sized
       (λ t c buffer m may. radio-most m t c may)
       (λ c to may. omega arith)
       (λ c b may. omega arith)
+      (λ g set may. omega arith)
+      (λ s g text m may. omega arith)

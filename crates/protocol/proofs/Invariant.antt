@@ -7,7 +7,7 @@ use Prim.Native.Nat.{_<_, suc, ℕ, _≤_}
 use lib.Dec.{eqb}
 use lib.ListN.{getD, length, take}
 use Rattle.protocol.specs.CartSets.{has}
-use Rattle.protocol.specs.Floor.{Floor, Limits, Place, Record, ackList, delete, deregister, entered, localTo, multicast, outside, register, setSteady}
+use Rattle.protocol.specs.Floor.{Floor, Limits, Place, Record, ackList, delete, deregister, entered, localTo, multicast, outside, register, setGroups, setSteady}
 use Rattle.protocol.specs.Handoff.{rowOf}
 use Rattle.protocol.specs.Claims.{All, True}
 use Rattle.protocol.specs.Form.{countsUp, handoffOf, handoffs, multicastNumbers}
@@ -80,6 +80,10 @@ pub record Queued (M : Limits) (waiting initiator number named : ℕ → ℕ) (p
 abbrev pub spoken : Floor → Floor
 spoken F = setSteady F (λ c. true)
 
+-- what the invariant speaks of: not the groups either, of which the form rule alone has a clause
+abbrev pub ungrouped : Floor → Floor
+ungrouped F = setGroups (spoken F) (λ g. 0)
+
 -- THE INVARIANT
 pub record InvariantOf (M : Limits) (F : Floor) (G : History) : Type 0 where
   -- each station has sent as many messages as the history has of it
@@ -125,4 +129,4 @@ pub record InvariantOf (M : Limits) (F : Floor) (G : History) : Type 0 where
 
 -- the same, of any floor
 abbrev pub Invariant : Limits → Floor → History → Type 0
-Invariant M F G = InvariantOf M (spoken F) G
+Invariant M F G = InvariantOf M (ungrouped F) G

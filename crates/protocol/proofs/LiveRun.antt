@@ -10,6 +10,7 @@ use borrow.Author.Tests.{eq-eqb, eqb-false, eqb-true}
 use Rattle.protocol.specs.CartSets.{has, union}
 use Rattle.protocol.specs.Floor.{Floor, Limits, Place, Record, ackList, at, delete, deregister, entered, isHeld, justStarted, leaving, multicast, outside, register, travelling}
 use Rattle.protocol.specs.Events.{Answer, Done, Event, radio}
+use Rattle.protocol.specs.Groups.{asSent}
 use Rattle.protocol.specs.Handoff.{entryOf, onRegister, roomOf, rowOf, struck}
 use Rattle.protocol.specs.Wireless.{allAcked, handOver, queueHead, receive, sendAcks, sendAcksIfAll}
 use Rattle.protocol.specs.Deregister.{leave}
@@ -49,7 +50,7 @@ pub record Reached (M : Limits) (F : Floor) (G : History) : Type 0 where
   pub live : Live M F never
   pub lists-wait : ListsWait M F
 
-pub reached-step : (M : Limits) (F : Floor) (G : History) (e : Event) → Reached M F G → Reached M (step M F e) (note e (answer M F e) G)
+pub reached-step : (M : Limits) (F : Floor) (G : History) (e : Event) → Reached M F G → Reached M (step M F e) (note (asSent F e) (answer M F e) G)
 reached-step M F G e R =
     let z = step-live M F G (R .fits-history) (R .on-lines) (R .live) (R .lists-wait) e in
     record {
@@ -62,12 +63,12 @@ reached-step M F G e R =
 -- the history of a list of events
 unfoldable pub historyAfter : Limits → Floor → History → List Event → History
 historyAfter M F G [] = G
-historyAfter M F G (e ∷ es) = historyAfter M (step M F e) (note e (answer M F e) G) es
+historyAfter M F G (e ∷ es) = historyAfter M (step M F e) (note (asSent F e) (answer M F e) G) es
 
 pub reached-run : (M : Limits) (F : Floor) (G : History) (es : List Event) → Reached M F G → Reached M (floorAfter M F es) (historyAfter M F G es)
 unfolding floorAfter historyAfter
 reached-run M F G [] R = R
-reached-run M F G (e ∷ es) R = reached-run M (step M F e) (note e (answer M F e) G) es (reached-step M F G e R)
+reached-run M F G (e ∷ es) R = reached-run M (step M F e) (note (asSent F e) (answer M F e) G) es (reached-step M F G e R)
 
 pub reached-start : (M : Limits) (n k : ℕ) → n ≤ M .stations → Reached M (justStarted n k) nothing
 reached-start M n k fit =
@@ -133,6 +134,8 @@ module _ (M : Limits) (F : Floor) (G : History) (I : Invariant M F G) (A : AllSt
       (on-cond (λ (X : Floor). AllSteady X) (allAcked (receive F m t c) m t) (λ b. A) (λ b. A)))
       (λ c to may w. absurd w)
       (λ c b may w. absurd w)
+      (λ g set may w. absurd w)
+      (λ s g text m may w. absurd w)
 
 -- so the dispatcher changes no flag
 pub works-steady : (M : Limits) (F : Floor) (G : History) (es : List Event) → Reached M F G → Works M F es → AllSteady F
@@ -140,7 +143,8 @@ pub works-steady : (M : Limits) (F : Floor) (G : History) (es : List Event) → 
 unfolding floorAfter
 works-steady M F G [] R w A = A
 works-steady M F G (e ∷ es) R w A =
-    works-steady M (step M F e) (note e (answer M F e) G) es (reached-step M F G e R) (w .1 .1) (work-steady M F G (R .fits-history) A e (w .1 .0))
+    works-steady M (step M F e) (note (asSent F e) (answer M F e) G) es (reached-step M F G e R) (w .1 .1)
+    (work-steady M F G (R .fits-history) A e (w .1 .0))
 
 module _ (M : Limits) (F : Floor) (G : History) (R : Reached M F G) (S : Sized M F) (form : passesForm M F ≡ true) (Q : Quiet M F) (steady : AllSteady F) where
   I : Invariant M F G

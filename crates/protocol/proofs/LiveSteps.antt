@@ -1,28 +1,28 @@
 -- Every event keeps what a reached floor has beside the form rule.
 use mathlib.Core.Path.{ap, refl, subst, sym, _∙_, _≡_}
-use mathlib.Core.Bool.{_&&_, Bool, cond, false, not, true, _||_}
+use mathlib.Core.Bool.{_&&_, Bool, cond, false, not, true}
 use mathlib.Core.Option.{some}
 use mathlib.Core.List.{List, _∷_}
 use Prim.Native.Nat.{_<_, suc, ℕ, _≤_}
 use native.Mathlib.Omega.{arith}
 use lib.Dec.{eqb, ltb}
-use borrow.Author.Tests.{eq-eqb, eqb-false, eqb-true, le-ltb, lt-ltb, ltb-false, ltb-true, ne-eqb, not-false, not-true}
+use borrow.Author.Tests.{eq-eqb, eqb-false, eqb-true, le-ltb, lt-ltb, ltb-false, ltb-true, ne-eqb, not-true}
 use Rattle.protocol.specs.Folds.{every, update, update2}
 use Rattle.protocol.specs.CartSets.{has, minus, setOf, union, with, without}
-use Rattle.protocol.specs.Floor.{Floor, Limits, Place, Record, ackList, at, behead, between, cartsThat, delete, deregister, entered, isBuffered, isLocal, leaving, localTo, multicast, onLines, outside, push, put, register, setPlace, setSteady, setWaiting, stationOf, toEvery, travelling}
+use Rattle.protocol.specs.Floor.{Floor, Limits, Place, Record, ackList, at, behead, between, cartsThat, delete, deregister, entered, isBuffered, isLocal, leaving, localTo, multicast, onLines, outside, push, put, register, setGroups, setPlace, setSteady, setWaiting, stationOf, toEvery, travelling}
 use Rattle.protocol.specs.Events.{Done, Event}
 use Rattle.protocol.specs.Step.{step}
+use Rattle.protocol.specs.Groups.{onGroup}
 use Rattle.protocol.specs.Handoff.{arrive, entryOf, onEnter, onFlag, onMove, onRegister, roomOf, rowOf, struck}
 use Rattle.protocol.specs.Wired.{addAcks, buffer, handle, isQueued, isStruck, localRow, multicastByRow, onAckList, onDelete, onMulticast, passesOver, raiseExpected, withMessage}
 use Rattle.protocol.specs.Wireless.{allAcked, handOver, receive, sendAcks, sendAcksIfAll}
 use Rattle.protocol.specs.Deregister.{bufferedRooms, isComplete, leave, onDeregister}
 use Rattle.protocol.specs.Form.{acksOf, acksTo, bit, countLine, deregistering, handoffOf, handoffs, isDeleteOf, multicastNumbers, registering}
-use Rattle.protocol.specs.Refusals.{neverEntered}
-use Rattle.protocol.proofs.Tests.{and-false, and-intro, and-left, and-right, both-equal, by-eq, by-lt, by-test, clash, eqb-self, every-at, not-both-equal, on-cond, on-option, on-update, on-update2, or-cases, or-right, same-test, update2-at}
+use Rattle.protocol.proofs.Tests.{and-false, and-intro, and-left, and-right, both-equal, by-eq, by-lt, by-test, clash, eqb-self, not-both-equal, on-cond, on-option, on-update, on-update2, or-cases, or-right, same-test, update2-at}
 use Rattle.protocol.proofs.SetLaws.{has-minus, has-setOf, has-some, has-with, has-without, has-zero, member-below, setOf-member}
 use Rattle.protocol.proofs.FloorLaws.{at-home, at-is, local-one, outside-is}
 use Rattle.protocol.proofs.InOrder.{EachOf, acks-after, all-acked-same, among, completed, copy-after, deregister-splits, each-map, handedOff, in-order-among, send-each-head, send-each-is, sendEach, those-among}
-use Rattle.protocol.proofs.Accepted.{MayMove, MayRadio, MaySend, MayWire, by-step, unlined}
+use Rattle.protocol.proofs.Accepted.{MayMove, MayRadio, MaySend, MayWire, by-step, named-has-entered, unlined}
 use Rattle.protocol.proofs.Invariant.{Held, History, Invariant}
 use Rattle.protocol.proofs.Updates.{counts-up-le}
 use Rattle.protocol.proofs.CatchUp.{arrive-at-once, catchUpAtOnce, one-at-once, room-none, room-some}
@@ -40,13 +40,6 @@ local-entered outside t e = clash false e refl
 local-entered (at s) t e = refl
 local-entered (leaving s u) t e = refl
 local-entered (travelling s u) t e = refl
-
--- "a named cart never entered" did not apply
-named-has-entered : (F : Floor) (set c : ℕ) → c < F .carts → neverEntered F set ≡ false → has set c ≡ true → entered (F .place c) ≡ true
-unfolding neverEntered
-named-has-entered F set c lc e n =
-    let z = every-at (F .carts) (λ c. not (has set c) || entered (F .place c)) (not-false (every (F .carts) (λ c. not (has set c) || entered (F .place c))) e) c lc in
-    rw n at z
 
 -- the row of the local carts says yes for them and for no other number: a local cart is one of the floor's
 row-is-right : (M : Limits) (F : Floor) (G : History) → Invariant M F G → (t c : ℕ) → has (localRow F t) c ≡ isLocal F t c
@@ -749,10 +742,11 @@ module _ (M : Limits) (F : Floor) (G : History) (m t c : ℕ) (may : MayRadio M 
       rw (one-at-once M D t c (F .initiator m))
       (catch-up-live M D t c (λ u. eqb u (F .initiator m)) same-place same-stations ready D-live, caught-up-wait M D t c (λ u. eqb u (F .initiator m)) D-waits)
 
--- FLAGS
-flagged-live : (M : Limits) (F : Floor) (x : ℕ → Bool) → Live M F never → ListsWait M F → Live M (setSteady F x) never × ListsWait M (setSteady F x)
+-- FLAGS AND GROUPS, of which no clause speaks
+unspoken-live : (M : Limits) (F : Floor) (flags : ℕ → Bool) (groups : ℕ → ℕ) → Live M F never → ListsWait M F
+    → Live M (setGroups (setSteady F flags) groups) never × ListsWait M (setGroups (setSteady F flags) groups)
 unfolding allAcked
-flagged-live M F x L W = (
+unspoken-live M F flags groups L W = (
   record {
     queue-come = L .queue-come;
     acks-come = L .acks-come;
@@ -808,14 +802,16 @@ module _ (M : Limits) (F : Floor) (G : History) (I : Invariant M F G) (X : LineF
       (entryOf row) (λ s. ap (λ (f : List ℕ). entryOf f s) (y .1 .0) ∙ row-is-next M F G I c s)
 
   pub step-live : (e : Event) → Alive (step M F e)
-  unfolding onEnter onFlag
+  unfolding onEnter onFlag onGroup
   step-live =
       by-step M F (λ e Y a. Alive Y) (I .started) (λ e r. (L, W))
       (λ t c may. let o = outside-is (F .place c) (may .is-outside) in
       let z = arrive-live M F G t c (may .station) (may .cart) (λ u. rw o) (F .lines) I L W (λ s. 0) (λ s. sym (I .out c s o)) in
-      flagged-live M (arrive M F t c (λ s. 0)) (update (F .steady) c true) (z .0) (z .1))
+      unspoken-live M (arrive M F t c (λ s. 0)) (update (F .steady) c true) (arrive M F t c (λ s. 0) .groups) (z .0) (z .1))
       (λ s set text m may. (send-live M F G s set text m may I L W, send-waits M F G s set text m may I L W))
       handle-live
       (λ t c buffer m may. radio-live M F G m t c may I X L W)
       (λ c to may. move-live M F c to may L W)
-      (λ c b may. flagged-live M F (update (F .steady) c b) L W)
+      (λ c b may. unspoken-live M F (update (F .steady) c b) (F .groups) L W)
+      (λ g set may. unspoken-live M F (F .steady) (update (F .groups) g set) L W)
+      (λ s g text m may. (send-live M F G s (F .groups g) text m may I L W, send-waits M F G s (F .groups g) text m may I L W))

@@ -10,7 +10,7 @@ use borrow.Author.Tests.{eq-eqb, eqb-true, le-ltb, lt-leb, not-true}
 use Rattle.protocol.specs.Folds.{byOption, isEmpty, isNone}
 use Rattle.protocol.specs.CartSets.{has}
 use Rattle.protocol.specs.Floor.{Floor, Limits, Record, at}
-use Rattle.protocol.specs.Events.{Event, enter, flag, move, radio, send, start, wire}
+use Rattle.protocol.specs.Events.{Event, enter, flag, group, move, radio, send, sendGroup, start, wire}
 use Rattle.protocol.specs.Wireless.{queueHead}
 use Rattle.protocol.specs.Form.{passesForm}
 use Rattle.protocol.specs.Refusals.{refusal, refusalIf}
@@ -65,6 +65,8 @@ Next M F (some (wire i j)) = FirstLine F i j
 Next M F (some (radio t c buffer)) = LowestCart M F t c buffer
 Next M F (some (move c to)) = ⊥
 Next M F (some (flag c b)) = ⊥
+Next M F (some (group g set)) = ⊥
+Next M F (some (sendGroup s g text)) = ⊥
 
 module _ (F : Floor) where
   to-is : (i : ℕ) → IsFirst (F .stations) (λ j. not (isEmpty (F .lines i j))) (busyTo F i)
@@ -148,6 +150,8 @@ taken-accepted M F (wire i j) h x = (wire-accepted M F i j h (x .from) (x .to) (
 taken-accepted M F (radio t c buffer) h x = (rw (x .longest) (eqb-true (refusal M F (radio t c (M .text))) 0 (x .receives)), tt)
 taken-accepted M F (move c to) h x = absurd x
 taken-accepted M F (flag c b) h x = absurd x
+taken-accepted M F (group g set) h x = absurd x
+taken-accepted M F (sendGroup s g text) h x = absurd x
 
 pub next-accepted : (M : Limits) (F : Floor) (e : Event) → passesForm M F ≡ true → nextEvent M F ≡ some e → (refusal M F e ≡ 0) × IsWork e
 next-accepted M F e h n = taken-accepted M F e h (let z = next-is M F in rw n at z)
@@ -181,3 +185,5 @@ quiet-refuses M F (radio t c buffer) S h Q w z =
     clash (wouldReceive M F t c) (eq-eqb (refusal M F (radio t c (M .text))) 0 ok) (Q .no-receipt t c (b .station) (b .cart))
 quiet-refuses M F (move c to) S h Q w z = w
 quiet-refuses M F (flag c b) S h Q w z = w
+quiet-refuses M F (group g set) S h Q w z = w
+quiet-refuses M F (sendGroup s g text) S h Q w z = w

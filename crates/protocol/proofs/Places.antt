@@ -11,7 +11,8 @@ use borrow.Author.Tests.{eqb-true, le-ltb, lt-ltb, ltb-true, ne-eqb, not-true}
 use Rattle.protocol.specs.Folds.{byOption, count}
 use Rattle.protocol.specs.CartSets.{union}
 use Rattle.protocol.specs.Floor.{Floor, Limits, Record, ackList, cartsThat, delete, deregister, multicast, register}
-use Rattle.protocol.specs.Events.{Answer, Done, Event, Report, accepted, enter, flag, move, radio, refused, send, start, wire}
+use Rattle.protocol.specs.Events.{Answer, Done, Event, Report, accepted, enter, flag, group, move, radio, refused, send, sendGroup, start, wire}
+use Rattle.protocol.specs.Groups.{onGroup}
 use Rattle.protocol.specs.Order.{placeIn, standsBefore}
 use Rattle.protocol.specs.Handoff.{bufferedFor, catchUp, catchUpEach, catchUpStop, deepest, largestPlace, onEnter, onFlag, onMove, onRegister, placeGiven, roomOf}
 use Rattle.protocol.specs.Deregister.{inOrder, onDeregister}
@@ -150,7 +151,7 @@ module _ (M : Limits) (F : Floor) (begun : F .started ≡ true) where
   handled-place i j (register c row) l may = largest-most M (F .stations) _ j c
 
   step-places : (e : Event) → PlacesAtMost (M .held) (answer M F e)
-  unfolding onEnter onFlag onMove handOver deepest
+  unfolding onEnter onFlag onGroup onMove handOver deepest
   step-places =
       by-step M F (λ e X a. PlacesAtMost (M .held) a) begun (λ e r. tt)
       (λ t c may. largest-most M (F .stations) _ t c)
@@ -159,6 +160,8 @@ module _ (M : Limits) (F : Floor) (begun : F .started ≡ true) where
       (λ t c buffer m may. given-most M _ t c (F .initiator m))
       (λ c to may. omega arith)
       (λ c b may. omega arith)
+      (λ g set may. omega arith)
+      (λ s g text m may. omega arith)
 
 -- on a floor that is not started a start alone is accepted, and it queues nobody
 unstarted-place : (M : Limits) (F : Floor) (broken : Bool) → broken ≡ true → (e : Event) → refusalIf M F broken e ≡ 0 → accept M F e .report .q ≤ M .held
@@ -170,6 +173,9 @@ unstarted-place M F b t (wire i j) r = clash b t (passed-check 5 b _ (omega arit
 unstarted-place M F b t (radio u c buffer) r = clash b t (passed-check 5 b _ (omega arith) r .0)
 unstarted-place M F b t (move c to) r = clash b t (passed-check 5 b _ (omega arith) r .0)
 unstarted-place M F b t (flag c on) r = clash b t (passed-check 5 b _ (omega arith) r .0)
+unstarted-place M F b t (group g set) r = clash b t (passed-check 5 b _ (omega arith) r .0)
+unstarted-place M F b t (sendGroup s g text) r =
+    clash b t (passed-check 5 b _ (omega arith) (passed-check 4 (ltb (M .text) (length text)) _ (omega arith) r .1) .0)
 
 pub places-most : (M : Limits) (F : Floor) (e : Event) (l : Report) → answer M F e ≡ accepted l → l .q ≤ M .held
 unfolding refusal

@@ -40,6 +40,8 @@ step-falls M F G I X =
     (λ t c buffer m may w. radio-falls M F G I X m t c may)
     (λ c to may w. absurd w)
     (λ c b may w. absurd w)
+    (λ g set may w. absurd w)
+    (λ s g text m may w. absurd w)
 
 -- on every floor that passes the form rule
 pub accepted-falls : (M : Limits) (F : Floor) (e : Event) → BlankBeyond M F → passesForm M F ≡ true → refusal M F e ≡ 0 → IsWork e

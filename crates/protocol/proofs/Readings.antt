@@ -8,10 +8,11 @@ use native.Mathlib.Omega.{arith}
 use lib.Dec.{eqb, leb, ltb}
 use lib.ListN.{length}
 use borrow.Author.Tests.{eqb-true, le-ltb, lt-leb, ne-eqb, not-true}
-use Rattle.protocol.specs.Folds.{isEmpty}
+use Rattle.protocol.specs.Folds.{isEmpty, update}
 use Rattle.protocol.specs.CartSets.{has, union}
-use Rattle.protocol.specs.Floor.{Floor, Limits, Place, ackList, at, entered, isAt, isHeld, isLocal, register, setPlace, setTexts}
-use Rattle.protocol.specs.Events.{Done, flag, radio, send, start}
+use Rattle.protocol.specs.Floor.{Floor, Limits, Place, ackList, at, entered, isAt, isHeld, isLocal, register, setGroups, setPlace, setTexts}
+use Rattle.protocol.specs.Events.{Done, flag, group, radio, send, sendGroup, start}
+use Rattle.protocol.specs.Groups.{onGroup}
 use Rattle.protocol.specs.Order.{placeIn}
 use Rattle.protocol.specs.Handoff.{arrive, catchUp, catchUpEach, catchUpStop, entryOf, onMove, onRegister, roomOf, rowOf, struck, withRow}
 use Rattle.protocol.specs.Wired.{buffer, freeRoom, localRow, multicastByRow, onAckList, placeOfNew}
@@ -19,9 +20,9 @@ use Rattle.protocol.specs.Wireless.{allAcked, handOver, receive, sendAck
 use Rattle.protocol.specs.Deregister.{bufferedRooms, isComplete, leave, onDeregister, sendIfComplete, testEach}
 use Rattle.protocol.specs.Claims.{True}
 use Rattle.protocol.specs.Form.{formRule}
-use Rattle.protocol.specs.Refusals.{neverEntered, noCart, noStation, refusalIf, strangers}
+use Rattle.protocol.specs.Refusals.{neverEntered, noCart, noGroup, noStation, refusalIf, strangers, undefined}
 use Rattle.protocol.specs.Frames.{Fields, fieldsRefusal, unlisted}
-use Rattle.protocol.proofs.Tests.{and-false, and-left, and-right, by-lt, by-option, by-test, clash, eqb-self, first-nowhere, on-cond, on-option, or-right}
+use Rattle.protocol.proofs.Tests.{and-false, and-left, and-right, by-lt, by-option, by-test, clash, eqb-self, first-nowhere, on-cond, on-option, or-false, or-right}
 use Rattle.protocol.proofs.SetLaws.{has-setOf, has-with, has-without}
 
 -- "Readings that lose or double a correction": for each of them, what the written steps do instead. Behind them, for each later request, the
@@ -181,6 +182,52 @@ deregister-keeps-flags M F i t c = test-keeps-flags (leave F i t c) t (bufferedR
 pub move-keeps-flags : (F : Floor) (c to : ℕ) → onMove F c to .floor .steady ≡ F .steady
 unfolding onMove
 move-keeps-flags F c to = refl
+
+-- NAMED GROUPS OF CARTS
+
+-- "A later change of the group touches no message already sent": it touches nothing but the groups
+pub group-alone : (F : Floor) (g set : ℕ) → onGroup F g set .floor ≡ setGroups F (update (F .groups) g set)
+unfolding onGroup
+group-alone F g set = refl
+
+-- "an empty set undefines the group"
+pub emptied-is-undefined : (F : Floor) (g : ℕ) → undefined (onGroup F g 0 .floor) g ≡ true
+unfolding onGroup
+emptied-is-undefined F g =
+    let empty : eqb (onGroup F g 0 .floor .groups g) 0 ≡ true = rw (eqb-self g) in or-right (noGroup g) (eqb (onGroup F g 0 .floor .groups g) 0) empty
+
+-- "for kind 7, 12 after 9, then 26 for a library group above 15"
+pub strangers-are-9 : (M : Limits) (F : Floor) (g set : ℕ) → strangers F set ≡ true → refusalIf M F false (group g set) ≡ 9
+unfolding refusalIf
+strangers-are-9 M F g set a9 = rw a9
+
+pub not-entered-is-12 : (M : Limits) (F : Floor) (g set : ℕ) → strangers F set ≡ false → neverEntered F set ≡ true
+    → refusalIf M F false (group g set) ≡ 12
+unfolding refusalIf
+not-entered-is-12 M F g set a9 a12 = rw (a9, a12)
+
+pub above-15-is-26 : (M : Limits) (F : Floor) (g set : ℕ) → strangers F set ≡ false → neverEntered F set ≡ false → noGroup g ≡ true
+    → refusalIf M F false (group g set) ≡ 26
+unfolding refusalIf
+above-15-is-26 M F g set a9 a12 a26 = rw (a9, a12, a26)
+
+-- "for kind 8, 26 group not defined or above 15, after 8, then 24": 8 first, whatever the group
+pub no-station-is-8 : (M : Limits) (F : Floor) (s g : ℕ) (text : List ℕ) → length text ≤ M .text → noStation F s ≡ true
+    → refusalIf M F false (sendGroup s g text) ≡ 8
+unfolding refusalIf
+no-station-is-8 M F s g text a4 a8 = rw (le-ltb (M .text) (length text) a4, a8)
+
+-- then 26, also of an empty text
+pub undefined-is-26 : (M : Limits) (F : Floor) (s g : ℕ) (text : List ℕ) → length text ≤ M .text → noStation F s ≡ false → undefined F g ≡ true
+    → refusalIf M F false (sendGroup s g text) ≡ 26
+unfolding refusalIf
+undefined-is-26 M F s g text a4 a8 a26 = rw (le-ltb (M .text) (length text) a4, a8, a26)
+
+-- then 24, 13 and 14 as for a send to the members, which passes 9, 11 and 12: both meet the same refusal
+pub refused-as-the-send : (M : Limits) (F : Floor) (s g : ℕ) (text : List ℕ) → undefined F g ≡ false → strangers F (F .groups g) ≡ false
+    → neverEntered F (F .groups g) ≡ false → refusalIf M F false (sendGroup s g text) ≡ refusalIf M F false (send s (F .groups g) text)
+unfolding refusalIf
+refused-as-the-send M F s g text a26 a9 a12 = rw (a26, a9, or-false (noGroup g) (eqb (F .groups g) 0) a26 .1, a12)
 
 -- THE DEMONSTRATION CASE: "Refusals 5 .., 7 and 14 use the caller's limits"
 

@@ -7,7 +7,7 @@ use lib.Dec.{eqb, leb, ltb}
 use lib.ListN.{drop, length}
 use borrow.Author.Tests.{eqb-true, leb-true, ltb-true, not-false}
 use Rattle.protocol.specs.Floor.{Floor, Limits}
-use Rattle.protocol.specs.Events.{Answer, Event, accepted, enter, flag, move, radio, refused, send, start, wire}
+use Rattle.protocol.specs.Events.{Answer, Event, accepted, enter, flag, move, radio, refused, group, send, sendGroup, start, wire}
 use Rattle.protocol.specs.Wired.{buffer}
 use Rattle.protocol.specs.Form.{passesForm}
 use Rattle.protocol.specs.Blank.{BlankBeyond}
@@ -71,6 +71,9 @@ only-start M F b t (wire i j) r = clash b t (passed-check 5 b _ (omega arith) r 
 only-start M F b t (radio u c buffer) r = clash b t (passed-check 5 b _ (omega arith) r .0)
 only-start M F b t (move c to) r = clash b t (passed-check 5 b _ (omega arith) r .0)
 only-start M F b t (flag c on) r = clash b t (passed-check 5 b _ (omega arith) r .0)
+only-start M F b t (group g set) r = clash b t (passed-check 5 b _ (omega arith) r .0)
+only-start M F b t (sendGroup s g text) r =
+    clash b t (passed-check 5 b _ (omega arith) (passed-check 4 (ltb (M .text) (length text)) _ (omega arith) r .1) .0)
 
 by-refusal : (M : Limits) (F : Floor) (r : ℕ) (X : Floor) → Ready M F → (r ≡ 0 → Ready M X) → Ready M (cond (eqb r 0) X F)
 by-refusal M F r X R h = on-cond (λ (Y : Floor). Ready M Y) (eqb r 0) (λ b. h (eqb-true r 0 b)) (λ b. R)

@@ -8,9 +8,10 @@ use lib.ListN.{length}
 use lib.Seq.{sets}
 use borrow.Author.Tests.{eqb-true, ltb-true}
 use Rattle.protocol.specs.Folds.{update, update2}
-use Rattle.protocol.specs.CartSets.{minus, setOf, union, with, without}
+use Rattle.protocol.specs.CartSets.{has, minus, setOf, union, with, without}
 use Rattle.protocol.specs.Floor.{Floor, Limits, Place, Record, ackList, at, behead, between, cartsThat, delete, deregister, entered, isBuffered, justStarted, leaving, multicast, outside, put, register, stationOf, toEvery, travelling}
 use Rattle.protocol.specs.Events.{Done, Event}
+use Rattle.protocol.specs.Groups.{groupCount, onGroup}
 use Rattle.protocol.specs.Handoff.{arrive, catchUpStop, entryOf, onEnter, onFlag, onMove, onRegister, roomOf, rowOf, struck, withRow}
 use Rattle.protocol.specs.Wired.{buffer, handle, isQueued, isStruck, localRow, multicastByRow, onAckList, onDelete, onMulticast, withMessage}
 use Rattle.protocol.specs.Wireless.{allAcked, handOver, receive, sendAcks, sendAcksIfAll}
@@ -20,10 +21,10 @@ use Rattle.protocol.specs.Form.{handoffOf, handoffs, registering}
 use Rattle.protocol.specs.Step.{step}
 use Rattle.protocol.specs.Ranges.{PlaceInRange}
 use Rattle.protocol.proofs.Tests.{and-left, and-right, both-equal, clash, eqb-self, on-cond, on-option, on-update, on-update2}
-use Rattle.protocol.proofs.SetLaws.{minus-lt, setOf-lt, union-lt, with-lt, without-lt, zero-below}
+use Rattle.protocol.proofs.SetLaws.{has-zero, member-below, minus-lt, setOf-lt, union-lt, with-lt, without-lt, zero-below}
 use Rattle.protocol.proofs.FloorLaws.{on-put}
 use Rattle.protocol.proofs.InOrder.{EachOf, completed, deregister-splits, each-map, handedOff, send-each-is, sendEach}
-use Rattle.protocol.proofs.Accepted.{MayMove, MayRadio, MaySend, MayWire, by-step, unlined}
+use Rattle.protocol.proofs.Accepted.{MayGroup, MayMove, MayRadio, MaySend, MayWire, by-step, named-has-entered, unlined}
 use Rattle.protocol.proofs.Invariant.{History, Invariant, blank, spoken}
 use Rattle.protocol.proofs.Updates.{all-append}
 use Rattle.protocol.proofs.CatchUp.{arrive-at-once, catchUpAtOnce, docked, foundIs, one-at-once}
@@ -81,6 +82,13 @@ OnFloor stations carts i j r = (i < stations) × ((j < stations) × AcksFit cart
 abbrev pub LinesFit : ℕ → ℕ → (ℕ → ℕ → List Record) → Type 0
 LinesFit stations carts lines = (i j : ℕ) → All (OnFloor stations carts i j) (lines i j)
 
+-- the members of a group are carts of the floor that have entered
+abbrev pub MembersFit : ℕ → (ℕ → Place) → ℕ → Type 0
+MembersFit carts place x = (x < 2 ^ carts) × ((c : ℕ) → has x c ≡ true → entered (place c) ≡ true)
+
+abbrev pub GroupsFit : ℕ → (ℕ → Place) → (ℕ → ℕ) → Type 0
+GroupsFit carts place groups = (g : ℕ) → g < groupCount → MembersFit carts place (groups g)
+
 pub record SizedOf (M : Limits) (F : Floor) : Type 0 where
   pub lengths : F .lengthsRight ≡ true
   pub words : F .wordsRight ≡ true
@@ -90,6 +98,7 @@ pub record SizedOf (M : Limits) (F : Floor) : Type 0 where
   pub messages : MessagesFit M (F .stations) (F .carts) (F .named) (F .acked) (F .waiting) (F .text)
   pub copies : CopiesFit M (F .carts) (F .copy) (F .acks) (F .queue)
   pub lines : LinesFit (F .stations) (F .carts) (F .lines)
+  pub groups : GroupsFit (F .carts) (F .place) (F .groups)
 
 abbrev pub Sized : Limits → Floor → Type 0
 Sized M F = SizedOf M (spoken F)
@@ -116,6 +125,21 @@ station-fits n (at s) e h = h
 station-fits n (leaving s u) e h = h .0
 station-fits n (travelling s u) e h = h .0
 
+-- GROUPS
+
+-- a cart comes in, or goes elsewhere
+groups-stay : (carts : ℕ) (place : ℕ → Place) (groups : ℕ → ℕ) (c : ℕ) (p : Place) → entered p ≡ true → GroupsFit carts place groups
+    → GroupsFit carts (update place c p) groups
+groups-stay carts place groups c p e S g lg = (S g lg .0, λ d h. on-update (λ q. entered q ≡ true) place c p d (λ z. e) (λ z. S g lg .1 d h))
+
+-- a group has other members
+group-defined : (F : Floor) (g set : ℕ) → MayGroup F g set → GroupsFit (F .carts) (F .place) (F .groups)
+    → GroupsFit (F .carts) (F .place) (update (F .groups) g set)
+group-defined F g set may S h lh =
+    on-update (MembersFit (F .carts) (F .place)) (F .groups) g set h
+    (λ z. (may .carts, λ c n. named-has-entered F set c (member-below (F .carts) set c (may .carts) n) (may .all-entered) n))
+    (λ z. S h lh)
+
 -- SETS
 
 set-update : (M : Limits) (k : ℕ) (sets : ℕ → ℕ → ℕ) (m t x : ℕ) → (m < M .held → t < M .stations → x < 2 ^ k) → SetsFit M k sets → SetsFit M k (update2 sets m t x)
@@ -139,6 +163,7 @@ module _ (M : Limits) where
         };
         lengths = S .lengths;
         words = S .words;
+        groups = S .groups;
         counts = S .counts;
         numbers = S .numbers;
         places = S .places;
@@ -163,6 +188,7 @@ module _ (M : Limits) where
         };
         lengths = S .lengths;
         words = S .words;
+        groups = groups-stay (F .carts) (F .place) (F .groups) c (at t) refl (S .groups);
         counts = S .counts;
         numbers = S .numbers;
         messages = S .messages;
@@ -184,6 +210,7 @@ module _ (M : Limits) where
             (to-one (F .stations) (F .carts) t (F .initiator m) (ackList (F .number m) (F .acks m t)) lt li (S .copies .acks m t lm lt'));
         lengths = S .lengths;
         words = S .words;
+        groups = S .groups;
         counts = S .counts;
         numbers = S .numbers;
         places = S .places;
@@ -213,12 +240,13 @@ module _ (M : Limits) where
         lines = put-fits (F .stations) (F .carts) (F .lines) (toEvery (F .stations) s) (delete n) (S .lines) (to-every (F .stations) (F .carts) s (delete n) ls tt);
         lengths = S .lengths;
         words = S .words;
+        groups = S .groups;
         counts = S .counts;
         numbers = S .numbers;
         places = S .places;
         copies = S .copies;
       })
-      (λ b. record { messages = H; lengths = S .lengths; words = S .words; counts = S .counts; numbers = S .numbers; places = S .places; copies = S .copies; lines = S .lines }))
+      (λ b. record { messages = H; lengths = S .lengths; words = S .words; groups = S .groups; counts = S .counts; numbers = S .numbers; places = S .places; copies = S .copies; lines = S .lines }))
 
   -- a cart is handed off
   handed-off-sized : (F : Floor) (i j c : ℕ) → i < F .stations → j < F .stations → Sized M F → Sized M (handedOff M (unlined F i j) i j c)
@@ -235,6 +263,7 @@ module _ (M : Limits) where
             (to-one (F .stations) (F .carts) j i (register c (rowOf M (F .next c))) lj li tt);
         lengths = S .lengths;
         words = S .words;
+        groups = groups-stay (F .carts) (F .place) (F .groups) c (travelling j i) refl (S .groups);
         counts = S .counts;
         numbers = S .numbers;
         messages = S .messages;
@@ -246,6 +275,7 @@ module _ (M : Limits) where
       lines = behead-fits (F .stations) (F .carts) (F .lines) i j (S .lines);
       lengths = S .lengths;
       words = S .words;
+      groups = S .groups;
       counts = S .counts;
       numbers = S .numbers;
       places = S .places;
@@ -261,7 +291,7 @@ module _ (M : Limits) where
     handled-sized i j (multicast n) l may =
         let P = popped-sized i j in
         on-option Fits (roomOf M F i n)
-        (λ q. record { lengths = P .lengths; words = P .words; counts = P .counts; numbers = P .numbers; places = P .places; messages = P .messages; copies = P .copies; lines = P .lines })
+        (λ q. record { lengths = P .lengths; words = P .words; groups = P .groups; counts = P .counts; numbers = P .numbers; places = P .places; messages = P .messages; copies = P .copies; lines = P .lines })
         (λ m q. record {
           copies = record {
             copy = set-update M (F .carts) (F .copy) m j (minus (F .named m) (cartsThat F (isStruck F (localRow F j) m i n)))
@@ -271,6 +301,7 @@ module _ (M : Limits) where
           };
           lengths = P .lengths;
           words = P .words;
+          groups = P .groups;
           counts = P .counts;
           numbers = P .numbers;
           places = P .places;
@@ -292,6 +323,7 @@ module _ (M : Limits) where
           };
           lengths = P .lengths;
           words = P .words;
+          groups = P .groups;
           counts = P .counts;
           numbers = P .numbers;
           places = P .places;
@@ -322,6 +354,7 @@ module _ (M : Limits) where
       };
       lengths = S .lengths;
       words = S .words;
+      groups = S .groups;
       counts = S .counts;
       numbers = S .numbers;
       places = S .places;
@@ -358,6 +391,7 @@ module _ (M : Limits) where
         lines = put-fits (F .stations) (F .carts) (F .lines) (toEvery (F .stations) s) (multicast (F .sent s)) (S .lines) (to-every (F .stations) (F .carts) s (multicast (F .sent s)) (may .station) tt);
         lengths = S .lengths;
         words = S .words;
+        groups = S .groups;
         counts = S .counts;
         places = S .places;
       }
@@ -372,11 +406,27 @@ module _ (M : Limits) where
         lines = put-fits (F .stations) (F .carts) (F .lines) (between to (stationOf (F .place c))) (deregister c) (S .lines) (to-one (F .stations) (F .carts) to (stationOf (F .place c)) (deregister c) (may .station) old tt);
         lengths = S .lengths;
         words = S .words;
+        groups = groups-stay (F .carts) (F .place) (F .groups) c (leaving (stationOf (F .place c)) to) refl (S .groups);
         counts = S .counts;
         numbers = S .numbers;
         messages = S .messages;
         copies = S .copies;
       }
+
+grouped-sized : (M : Limits) (F : Floor) (g set : ℕ) → MayGroup F g set → Sized M F → Sized M (onGroup F g set .floor)
+unfolding onGroup
+grouped-sized M F g set may S =
+    record {
+      groups = group-defined F g set may (S .groups);
+      lengths = S .lengths;
+      words = S .words;
+      counts = S .counts;
+      numbers = S .numbers;
+      places = S .places;
+      messages = S .messages;
+      copies = S .copies;
+      lines = S .lines;
+    }
 
 -- every event keeps the sizes
 pub step-sized : (M : Limits) (F : Floor) (G : History) → Invariant M F G → Sized M F → (e : Event) → Sized M (step M F e)
@@ -389,6 +439,8 @@ step-sized M F G I S =
     (λ t c buffer m may. radio-sized M F G m t c I S may)
     (λ c to may. moved-sized M F c to may S)
     (λ c b may. S)
+    (λ g set may. grouped-sized M F g set may S)
+    (λ s g text m may. sent-sized M F s (F .groups g) text m may S)
 
 -- a floor just started
 pub started-sized : (M : Limits) (n k : ℕ) → CountsFit M n k → Sized M (justStarted n k)
@@ -397,6 +449,7 @@ started-sized M n k fit =
       lengths = refl;
       words = refl;
       counts = fit;
+      groups = λ g l. (zero-below k, λ c e. clash (has 0 c) e (has-zero c));
       numbers = λ s. omega arith;
       places = λ c. tt;
       messages = record { named = λ m l. zero-below k; acked = λ m l. zero-below k; waiting = λ m l. zero-below n; text = λ m l. omega arith };

@@ -8,6 +8,7 @@ use Rattle.protocol.specs.Folds.{sum}
 use Rattle.protocol.specs.CartSets.{union}
 use Rattle.protocol.specs.Floor.{Floor, Limits, Record, ackList, at, delete, deregister, justStarted, multicast, register}
 use Rattle.protocol.specs.Events.{Done, Event, accepted, wire}
+use Rattle.protocol.specs.Groups.{asSent, onGroup}
 use Rattle.protocol.specs.Handoff.{entryOf, onEnter, onFlag, onMove, onRegister, roomOf, rowOf}
 use Rattle.protocol.specs.Deregister.{leave, onDeregister}
 use Rattle.protocol.specs.Wired.{buffer, handle, localRow, multicastByRow, onAckList, onDelete, onMulticast, withMessage}
@@ -56,7 +57,7 @@ initiator-on-floor M F G I m h = I .senders (F .initiator m) (let z = I .held m 
 
 -- each event
 pub step-sum : (M : Limits) (F : Floor) (G : History) → Invariant M F G → (e : Event) → total (step M F e) ≡ total F + gain e (answer M F e)
-unfolding onEnter onFlag withMessage onMove total
+unfolding onEnter onFlag onGroup withMessage onMove total
 step-sum M F G I =
     by-step M F (λ e X a. total X ≡ total F + gain e a) (I .started) (λ e r. idle M F G I (total F))
     (λ t c may. by-p _ _ _ (arrive-sum M F t c (λ s. 0) (may .cart) (λ s. sym (I .out c s (outside-is (F .place c) (may .is-outside))))))
@@ -65,13 +66,15 @@ step-sum M F G I =
     (λ t c buffer m may. let k = I .queues m t c (may .queued) in radio-sum M F m t c (may .cart) (initiator-on-floor M F G I m (k .held)) (k .due))
     (λ c to may. idle M F G I (total F))
     (λ c b may. idle M F G I (total F))
+    (λ g set may. idle M F G I (total F))
+    (λ s g text m may. idle M F G I (total F))
 
 pub sums : (M : Limits) (F : Floor) (G : History) → Invariant M F G → (es : List Event) → total (floorAfter M F es) ≡ total F + gains M F es
 unfolding floorAfter gains
 sums M F G I [] = omega arith
 sums M F G I (e ∷ es) =
     let a = step-sum M F G I e in
-    let b = sums M (step M F e) (note e (answer M F e) G) (step-ok M F G I e) es in
+    let b = sums M (step M F e) (note (asSent F e) (answer M F e) G) (step-ok M F G I e) es in
     omega arith
 
 pub started-total : (n k : ℕ) → total (justStarted n k) ≡ 0

@@ -8,11 +8,12 @@ use native.Mathlib.Nat.{mul-le-mul-left, mul-le-mul-right}
 use native.Mathlib.Omega.{arith}
 use lib.Dec.{eqb, ltb}
 use lib.ListN.{drop, getD, length, replicate, take}
-use borrow.Author.Tests.{ne-eqb, not-true}
+use borrow.Author.Tests.{le-leb, ne-eqb, not-true}
 use Rattle.protocol.specs.Folds.{count, isEmpty, sum, update}
 use Rattle.protocol.specs.CartSets.{has}
-use Rattle.protocol.specs.Floor.{Floor, Limits, Place, Record, ackList, at, behead, delete, entered, isAt, isBuffered, isHeld, isLocal, justStarted, kit, limits, limitsOf, mostRecords, multicast, onLines, onTheLines, register, setPlace, setSteady, setTexts, stationOf, unstarted}
-use Rattle.protocol.specs.Events.{Event, Report, accepted, bufferAfter, enter, flag, move, radio, refused, send, start, wire}
+use Rattle.protocol.specs.Floor.{Floor, Limits, Place, Record, ackList, at, behead, delete, entered, isAt, isBuffered, isHeld, isLocal, justStarted, kit, limits, limitsOf, mostRecords, multicast, onLines, onTheLines, register, setGroups, setPlace, setSteady, setTexts, stationOf, unstarted}
+use Rattle.protocol.specs.Events.{Event, Report, accepted, bufferAfter, enter, flag, group, move, radio, refused, send, sendGroup, start, wire}
+use Rattle.protocol.specs.Groups.{membersOf, onGroup}
 use Rattle.protocol.specs.Order.{placeIn}
 use Rattle.protocol.specs.Handoff.{arrive, entryOf, onEnter, onFlag, onRegister, roomOf, rowOf}
 use Rattle.protocol.specs.Wired.{freeRoom, handle, localRow, multicastByRow, onMulticast, onWire}
@@ -20,7 +21,7 @@ use Rattle.protocol.specs.Wireless.{queueHead}
 use Rattle.protocol.specs.Deregister.{bufferedRooms, inOrder, isComplete, leave, onDeregister, testEach, timesIn}
 use Rattle.protocol.specs.Form.{formRule, passesForm}
 use Rattle.protocol.specs.Blank.{BlankBeyond}
-use Rattle.protocol.specs.Refusals.{neverEntered, noCart, noStation, refusal, refusalIf, strangers, wrongSize}
+use Rattle.protocol.specs.Refusals.{neverEntered, noCart, noGroup, noStation, refusal, refusalIf, strangers, undefined, wrongSize}
 use Rattle.protocol.specs.Step.{accept, answer, answers, floorAfter, step}
 use Rattle.protocol.specs.Quiet.{AllSteady, IsWork, Works, buffersAfter, dispatched, mostSteps, nextEvent, quietAfter, quietCall, quietEvents, quietFloor, quietSteps, turnedAway, wouldReceive}
 use Rattle.protocol.specs.Potential.{potential}
@@ -29,10 +30,10 @@ use Rattle.protocol.specs.SumRule.{gains, total}
 use Rattle.protocol.specs.Frames.{Fields, fieldsRefusal}
 use Rattle.protocol.specs.Ranges.{InRange, NumbersBelow, Wide}
 use Rattle.protocol.specs.Examples.{examples, heldOn, outcome, rollsAway}
-use Rattle.protocol.proofs.Tests.{by-eq, clash, on-cond}
+use Rattle.protocol.proofs.Tests.{by-eq, clash, on-cond, or-right}
 use Rattle.protocol.proofs.InOrder.{deregister-counts, none-stays, tested-once}
-use Rattle.protocol.proofs.Readings.{arrive-keeps-flags, deregister-keeps-flags, form-without-texts, move-keeps-flags, never-entered-is-12, never-in-is-18, no-cart-is-9, no-text-is-24, none-free-is-14, not-here-is-16, other-flag-is-3, places-not-asked, register-is-last, register-keeps-flags, row-kept, row-of-local, too-large-is-7, unsteady-is-25}
-use Rattle.protocol.proofs.Accepted.{MayWire, accepted-passes, accepted-report, may-move, may-radio, may-send, may-wire, passed-check}
+use Rattle.protocol.proofs.Readings.{above-15-is-26, arrive-keeps-flags, deregister-keeps-flags, emptied-is-undefined, form-without-texts, group-alone, move-keeps-flags, never-entered-is-12, never-in-is-18, no-cart-is-9, no-station-is-8, no-text-is-24, none-free-is-14, not-entered-is-12, not-here-is-16, other-flag-is-3, places-not-asked, register-is-last, register-keeps-flags, row-kept, row-of-local, strangers-are-9, too-large-is-7, undefined-is-26, unsteady-is-25}
+use Rattle.protocol.proofs.Accepted.{MayWire, accepted-passes, accepted-report, may-move, may-radio, may-send, may-wire, passed-check, printed-as-the-send, sent-as-the-send}
 use Rattle.protocol.proofs.Demand3.{nothing, rule-after, started-ok}
 use Rattle.protocol.proofs.Counting.{sum-ext, sum-term}
 use Rattle.protocol.proofs.HandoffSteps.{carried}
@@ -568,6 +569,67 @@ pub closing-rolls-away : (quietEvents limits (floorAfter limits unstarted (take 
     × ((quietCall limits (floorAfter limits unstarted (take 8 rollsAway)) (replicate 32 0) .answer ≡ quietAfter 7)
     × (quietCall limits (floorAfter limits unstarted (take 8 rollsAway)) (replicate 32 0) .buffer ≡ 0xa1 ∷ replicate 31 0))
 closing-rolls-away = closed
+
+-- NAMED GROUPS OF CARTS
+
+-- "Sixteen groups, none defined at a start"
+pub none-defined-at-start : (M : Limits) (F : Floor) (n k : ℕ) (l : Report) → answer M F (start n k) ≡ accepted l → (g : ℕ)
+    → undefined (step M F (start n k)) g ≡ true
+none-defined-at-start M F n k l a g = rw (start-afresh M F n k l a .0) (or-right (noGroup g) true refl)
+
+-- "Kind 7 carries a group number .. and the set", and "prints group and number of members": an accepted one gives that group these members
+pub group-defines : (M : Limits) (F : Floor) (g set : ℕ) (l : Report) → answer M F (group g set) ≡ accepted l
+    → (step M F (group g set) .groups ≡ update (F .groups) g set)
+    × (l ≡ record { kind = 7; a = g; b = membersOf F set; p = 0; w = 0; q = 0; text = [] })
+unfolding step accept onGroup
+group-defines M F g set l a = (rw (accepted-passes M F (group g set) l a), sym (accepted-report M F (group g set) l a))
+
+-- "an empty set undefines the group"
+pub empty-set-undefines : (M : Limits) (F : Floor) (g : ℕ) (l : Report) → answer M F (group g 0) ≡ accepted l
+    → undefined (step M F (group g 0)) g ≡ true
+unfolding step accept
+empty-set-undefines M F g l a = rw (accepted-passes M F (group g 0) l a) (emptied-is-undefined F g)
+
+-- "A later change of the group touches no message already sent": accepted or not, it changes nothing on the floor but groups
+pub group-touches-no-message : (M : Limits) (F : Floor) (g set : ℕ) → step M F (group g set) ≡ setGroups F (step M F (group g set) .groups)
+unfolding step accept
+group-touches-no-message M F g set =
+    on-cond (λ (X : Floor). X ≡ setGroups F (X .groups)) (eqb (refusal M F (group g set)) 0) (λ b. rw (group-alone F g set) refl) (λ b. refl)
+
+-- "Kind 8 .. sends to the members as they are at that send": on a floor that passes, to a group that is defined it is refused as a send to its
+-- members is, and leaves the floor that this leaves
+pub group-send-is-send : (M : Limits) (F : Floor) (s g : ℕ) (text : List ℕ) → passesForm M F ≡ true → undefined F g ≡ false
+    → (refusal M F (sendGroup s g text) ≡ refusal M F (send s (F .groups g) text))
+    × (step M F (sendGroup s g text) ≡ step M F (send s (F .groups g) text))
+group-send-is-send M F s g text h d = sent-as-the-send M F s g text h d
+
+-- "kind 8 prints as a send, under its own kind"
+pub group-send-prints : (M : Limits) (F : Floor) (s g : ℕ) (text : List ℕ) (l : Report) → passesForm M F ≡ true → undefined F g ≡ false
+    → answer M F (send s (F .groups g) text) ≡ accepted l
+    → answer M F (sendGroup s g text) ≡ accepted (record { kind = 8; a = l .a; b = l .b; p = l .p; w = l .w; q = l .q; text = l .text })
+group-send-prints M F s g text l h d a = printed-as-the-send M F s g text h d l a
+
+-- "for kind 7, 12 after 9, then 26 for a library group above 15": on a floor that passes
+pub group-of-strangers : (M : Limits) (F : Floor) (g set : ℕ) → passesForm M F ≡ true → strangers F set ≡ true → answer M F (group g set) ≡ refused 9
+group-of-strangers M F g set h a9 = refused-with M F (group g set) 9 (omega arith) h (strangers-are-9 M F g set a9)
+
+pub group-before-entry : (M : Limits) (F : Floor) (g set : ℕ) → passesForm M F ≡ true → strangers F set ≡ false → neverEntered F set ≡ true
+    → answer M F (group g set) ≡ refused 12
+group-before-entry M F g set h a9 a12 = refused-with M F (group g set) 12 (omega arith) h (not-entered-is-12 M F g set a9 a12)
+
+pub group-above-15 : (M : Limits) (F : Floor) (g set : ℕ) → passesForm M F ≡ true → strangers F set ≡ false → neverEntered F set ≡ false → 16 ≤ g
+    → answer M F (group g set) ≡ refused 26
+group-above-15 M F g set h a9 a12 l = refused-with M F (group g set) 26 (omega arith) h (above-15-is-26 M F g set a9 a12 (le-leb 16 g l))
+
+-- "for kind 8, 26 group not defined or above 15, after 8, then 24, 13, 14": 8, then 26, whatever the text; then as the send to its members, above
+pub group-send-from-nowhere : (M : Limits) (F : Floor) (s g : ℕ) (text : List ℕ) → passesForm M F ≡ true → length text ≤ M .text
+    → noStation F s ≡ true
+    → answer M F (sendGroup s g text) ≡ refused 8
+group-send-from-nowhere M F s g text h a4 a8 = refused-with M F (sendGroup s g text) 8 (omega arith) h (no-station-is-8 M F s g text a4 a8)
+
+pub group-not-defined : (M : Limits) (F : Floor) (s g : ℕ) (text : List ℕ) → passesForm M F ≡ true → length text ≤ M .text → noStation F s ≡ false
+    → undefined F g ≡ true → answer M F (sendGroup s g text) ≡ refused 26
+group-not-defined M F s g text h a4 a8 a26 = refused-with M F (sendGroup s g text) 26 (omega arith) h (undefined-is-26 M F s g text a4 a8 a26)
 
 -- THE DEMONSTRATION CASE: "a second caller of the same steps with its own limits". Every theorem above that takes M is the kit's at `limitsOf kit`,
 -- the three demands among them; `kit-records` and `kit-quiet-bound` are its numbers

@@ -3,7 +3,7 @@
 use mathlib.Core.Path.{ap, subst, sym, _≡_}
 use mathlib.Core.Bool.{Bool, true}
 use Prim.Native.Nat.{ℕ}
-use Rattle.protocol.specs.Floor.{Floor, Limits, setSteady}
+use Rattle.protocol.specs.Floor.{Floor, Limits, setGroups, setSteady}
 use Rattle.protocol.specs.Handoff.{roomOf}
 use Rattle.protocol.specs.Form.{passesForm}
 use Rattle.protocol.specs.Blank.{BlankBeyond}
@@ -27,7 +27,7 @@ pub unspoken : (M : Limits) (F H : Floor) → spoken H ≡ spoken F → HoldsToo
 unfolding owes total passesForm roomOf
 unspoken M F H e =
     record {
-      invariant = λ G I. subst (λ (X : Floor). InvariantOf M X G) (sym e) I;
+      invariant = λ G I. subst (λ (X : Floor). InvariantOf M (setGroups X (λ g. 0)) G) (sym e) I;
       lines = λ X. subst (λ (Y : Floor). LineFacts M Y) (sym e) X;
       sizes = λ S. subst (λ (X : Floor). SizedOf M X) (sym e) S;
       owed = λ s c. ap (λ (X : Floor). owes M X s c) e;

@@ -1,5 +1,5 @@
--- THE STARRED EXAMPLES K1 to K10, and further ones of a message with no text, of places in rising order and of the demonstration kit, as rows of
--- one table.
+-- THE STARRED EXAMPLES K1 to K10, and further ones of a message with no text, of places in rising order, of groups and of the demonstration
+-- kit, as rows of one table.
 use mathlib.Core.Bool.{Bool, true, false, cond, _&&_}
 use mathlib.Core.List.{List, [], _∷_, _++_}
 use Prim.Native.Nat.{ℕ, zero, suc}
@@ -119,6 +119,7 @@ nearTheLast =
       started = true;
       stations = 1;
       carts = 1;
+      groups = λ g. 0;
       sent = λ s. cond (eqb s 0) 65534 0;
       expected = λ t s. cond (eqb t 0 && eqb s 0) 65534 0;
       place = λ c. cond (eqb c 0) (at 0) outside;
@@ -188,6 +189,7 @@ holdsNoText =
       started = true;
       stations = 1;
       carts = 1;
+      groups = λ g. 0;
       sent = λ s. cond (eqb s 0) 1 0;
       expected = λ t s. cond (eqb t 0 && eqb s 0) 1 0;
       place = λ c. cond (eqb c 0) (at 0) outside;
@@ -227,6 +229,20 @@ noTextHeld = record { within = limits; given = after holdsNoText (radio 0 0 32 �
 abbrev pub noTextGone : Row
 noTextGone = record { within = limits; given = after holdsNoText (radio 0 0 32 ∷ wire 0 0 ∷ wire 0 0 ∷ []); shown = holds 0 }
 
+-- NAMED GROUPS: one station, two carts there. A send to group 3, which is not defined; it gets both carts; a send to it, text A1; it is undefined, and
+-- a send to it is 26 again; but both carts receive A1, since "A later change of the group touches no message already sent". Kind 9 ends the run
+abbrev pub groupChanged : Row
+groupChanged =
+    record {
+      within = limits;
+      given = frames
+          (frame 0x00 0x04 0x00 0 ++ frame 0x10 0x00 0x00 0 ++ frame 0x10 0x04 0x00 0 ++ frame 0x80 0x00 0xc1 0 ++ (0xa0 ∷ [])
+          ++ frame 0x70 0x00 0xc0 3 ++ frame 0x80 0x00 0xc1 0 ++ (0xa1 ∷ []) ++ frame 0x70 0x00 0xc0 0 ++ frame 0x80 0x00 0xc1 0 ++ (0xa2 ∷ []) ++ frame 0x30 0x00 0x00 0
+          ++ frame 0x40 0x00 0x00 0 ++ frame 0x40 0x04 0x00 0 ++ frame 0x90 0x00 0x00 0);
+      shown = printed
+          (octetsOf "0 0 1 2 0 0 0\n1 1 0 0 0 0 0\n2 1 0 1 0 0 0\n3 no 26\n4 7 3 2 0 0 0\n5 8 0 0 0 1 0\n6 7 3 0 0 0 0\n7 no 26\n8 3 1 0 0 0 1\n9 4 0 0 0 0 0 a1\n10 4 0 0 0 1 0 a1\n11 no 2\n");
+    }
+
 -- THE DEMONSTRATION KIT: "at most 4 stations, 8 carts and 8 held messages"; "Refusals 5 (form rule ..), 7 and 14 use the caller's limits"
 
 -- 4 stations and 8 carts are accepted
@@ -249,7 +265,7 @@ startedWithin M isRight = record { within = M; given = form (justStarted 5 8); s
 abbrev pub examples : List Row
 examples =
     K1 ∷ K2 ∷ K3 ∷ K4 (wire 0 0) (wire 1 0) ∷ K4 (wire 1 0) (wire 0 0) ∷ K5 ∷ K6form ∷ K6 ∷ K7 ∷ K8 ∷ K9 ∷ K10
-    ∷ noTextForm ∷ noText ∷ noTextHeld ∷ noTextGone ∷ rising
+    ∷ noTextForm ∷ noText ∷ noTextHeld ∷ noTextGone ∷ rising ∷ groupChanged
     ∷ kitLargest ∷ kitTooLarge ∷ kitFull ∷ startedWithin (limitsOf kit) false ∷ startedWithin limits true ∷ []
 
 -- A RUN OF WHICH A THEOREM SPEAKS: "Two carts are local and named. One receives; the other rolls away before it does." Its deregister sends the

@@ -78,6 +78,8 @@ pub record Floor : Type 0 where
   pub stations : ℕ
   -- "Carts 1 to 64, numbered from 0": how many
   pub carts : ℕ
+  -- "Named groups of carts": the members of group g; none, and it is not defined: "an empty set undefines the group"
+  pub groups : ℕ → ℕ
   -- "Each station numbers its own from 0, rising by one": how many station s has sent, so also its next message's number
   pub sent : ℕ → ℕ
   -- "A station has one expected number per initiator, from 0": at station t, of initiator s
@@ -141,6 +143,7 @@ onStations F sent expected =
       started = F .started;
       stations = F .stations;
       carts = F .carts;
+      groups = F .groups;
       sent = sent;
       expected = expected;
       place = F .place;
@@ -167,6 +170,7 @@ onCarts F C =
       started = F .started;
       stations = F .stations;
       carts = F .carts;
+      groups = F .groups;
       sent = F .sent;
       expected = F .expected;
       place = C .place;
@@ -193,6 +197,7 @@ onMessages F H =
       started = F .started;
       stations = F .stations;
       carts = F .carts;
+      groups = F .groups;
       sent = F .sent;
       expected = F .expected;
       place = F .place;
@@ -219,6 +224,7 @@ onCopies F K =
       started = F .started;
       stations = F .stations;
       carts = F .carts;
+      groups = F .groups;
       sent = F .sent;
       expected = F .expected;
       place = F .place;
@@ -245,6 +251,7 @@ onLines F lines =
       started = F .started;
       stations = F .stations;
       carts = F .carts;
+      groups = F .groups;
       sent = F .sent;
       expected = F .expected;
       place = F .place;
@@ -260,6 +267,33 @@ onLines F lines =
       acks = F .acks;
       queue = F .queue;
       lines = lines;
+    }
+
+-- other groups
+abbrev pub setGroups : Floor → (ℕ → ℕ) → Floor
+setGroups F groups =
+    record {
+      lengthsRight = F .lengthsRight;
+      wordsRight = F .wordsRight;
+      started = F .started;
+      stations = F .stations;
+      carts = F .carts;
+      groups = groups;
+      sent = F .sent;
+      expected = F .expected;
+      place = F .place;
+      next = F .next;
+      steady = F .steady;
+      initiator = F .initiator;
+      number = F .number;
+      named = F .named;
+      text = F .text;
+      acked = F .acked;
+      waiting = F .waiting;
+      copy = F .copy;
+      acks = F .acks;
+      queue = F .queue;
+      lines = F .lines;
     }
 
 -- other expected numbers
@@ -401,6 +435,7 @@ afresh mark n k =
       started = mark;
       stations = n;
       carts = k;
+      groups = λ g. 0;
       sent = λ s. 0;
       expected = λ t s. 0;
       place = λ c. outside;

@@ -7,6 +7,7 @@ use lib.ListN.{length}
 use Rattle.protocol.specs.Folds.{count, sum, byOption}
 use Rattle.protocol.specs.CartSets.{has}
 use Rattle.protocol.specs.Floor.{Limits, Place, outside, at, leaving, travelling, Record, multicast, ackList, delete, deregister, register, Floor, localTo, entered, isHeld}
+use Rattle.protocol.specs.Groups.{groupCount}
 use Rattle.protocol.specs.Handoff.{roomOf, rowOf}
 use Rattle.protocol.specs.Claims.{Claim, is, le, lt, eq, both, when, all, onLine, test}
 
@@ -145,6 +146,10 @@ module _ (M : Limits) (F : Floor) where
   abbrev pub cartsOnly : ℕ → Claim
   cartsOnly x = lt x (2 ^ F .carts)
 
+  -- EACH GROUP g: its members are carts of the floor that have entered, as kind 7 asked, and kind 8 does not ask again
+  abbrev pub groupRule : ℕ → Claim
+  groupRule g = both (cartsOnly (F .groups g)) (all (F .carts) (λ c. when (is (has (F .groups g) c)) (is (entered (F .place c)))))
+
   -- EACH ROOM m: its sets are of the floor, and "text 0 to 32 octets"
   abbrev pub roomRule : ℕ → Claim
   roomRule m = both (cartsOnly (F .named m)) (both (cartsOnly (F .acked m)) (both (lt (F .waiting m) (2 ^ F .stations)) (le (length (F .text m)) (M .text))))
@@ -219,8 +224,9 @@ module _ (M : Limits) (F : Floor) where
       both (all (M .held) (λ m. all (M .stations) (entryRule m))) (
       both (all (M .held) (λ m. when (is (isHeld F m)) (all (F .stations) (copyRule m)))) (
       both (all (M .columns) (λ i. all (M .columns) (lineRule i))) (
-      both (all (M .columns) (λ i. all (F .stations) (orderRule i)))
-      (all (M .carts) (λ c. all (F .stations) (λ i. all (F .stations) (handoffRule c i))))))))))))
+      both (all (M .columns) (λ i. all (F .stations) (orderRule i))) (
+      both (all (M .carts) (λ c. all (F .stations) (λ i. all (F .stations) (handoffRule c i))))
+      (all groupCount groupRule))))))))))
 
   -- its answer
   unfoldable pub passesForm : Bool

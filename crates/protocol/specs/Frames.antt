@@ -6,7 +6,7 @@ use lib.Dec.{eqb, ltb}
 use lib.ListN.{length, take, drop}
 use Rattle.protocol.specs.Folds.{isEmpty}
 use Rattle.protocol.specs.Floor.{Limits}
-use Rattle.protocol.specs.Events.{Event, start, enter, send, wire, radio, move, flag}
+use Rattle.protocol.specs.Events.{Event, start, enter, send, wire, radio, move, flag, group, sendGroup}
 use Rattle.protocol.specs.Refusals.{check}
 
 -- "kind 4 bits, station 4, cart 6, other 4, length 6, zero 40, set 64"
@@ -40,14 +40,17 @@ fieldsOf l =
 
 -- "Kinds: 0 start (station field, cart field), 1 enter (station, cart), 2 send (station, length, set), 3 wire (station = from, other = to),
 -- 4 radio (station, cart), 5 move (cart, other = to). Fields not listed for a kind must be zero": the sum of those. "New frame kind 6 carries a
--- cart and, in the other field, 1 for steady or 0 for not; 2 to 15 there is refusal 3": of that field all but the lowest bit must be zero
+-- cart and, in the other field, 1 for steady or 0 for not; 2 to 15 there is refusal 3": of that field all but the lowest bit must be zero.
+-- "Kind 7 carries a group number in the other field and the set", "Kind 8 carries station, group (other field) and length"
 unfoldable pub unlisted : Fields → ℕ
 unlisted f =
     cond (eqb (f .kind) 2) (f .cart + f .other + f .zero)
     (cond (eqb (f .kind) 3) (f .cart + f .length + f .zero + f .set)
     (cond (eqb (f .kind) 5) (f .station + f .length + f .zero + f .set)
     (cond (eqb (f .kind) 6) (f .station + f .other / 2 + f .length + f .zero + f .set)
-    (f .other + f .length + f .zero + f .set))))
+    (cond (eqb (f .kind) 7) (f .station + f .cart + f .length + f .zero)
+    (cond (eqb (f .kind) 8) (f .cart + f .zero + f .set)
+    (f .other + f .length + f .zero + f .set))))))
 
 -- the event of a kind: "station field = stations − 1, cart field = carts − 1" for a start; a radio step's text buffer holds every text
 unfoldable pub eventOf : Limits → Fields → List ℕ → Event
@@ -58,7 +61,9 @@ eventOf M f text =
     (cond (eqb (f .kind) 3) (wire (f .station) (f .other))
     (cond (eqb (f .kind) 4) (radio (f .station) (f .cart) (M .text))
     (cond (eqb (f .kind) 5) (move (f .cart) (f .other))
-    (flag (f .cart) (eqb (f .other) 1)))))))
+    (cond (eqb (f .kind) 6) (flag (f .cart) (eqb (f .other) 1))
+    (cond (eqb (f .kind) 7) (group (f .other) (f .set))
+    (sendGroup (f .station) (f .other) text))))))))
 
 -- what the reader says: "end"; a refusal; or an event, and how many octets it took
 pub data Reading : Type 0 where
@@ -68,7 +73,7 @@ pub data Reading : Type 0 where
 
 -- "refusal 2 no longer covers a kind once a request defines it": the last that is defined
 abbrev pub lastKind : ℕ
-lastKind = 6
+lastKind = 8
 
 -- the refusal of a frame with these fields and so many octets behind it, 0 if it is taken apart
 unfoldable pub fieldsRefusal : Limits → Fields → ℕ → ℕ
@@ -82,7 +87,7 @@ fieldsRefusal M f behind =
 unfoldable pub frameRefusal : Limits → List ℕ → ℕ
 frameRefusal M l = check 1 (ltb (length l) 16) (fieldsRefusal M (fieldsOf l) (length l - 16))
 
--- the frame at the front of these octets; "A send is followed by its text"
+-- the frame at the front of these octets; "A send is followed by its text", and so is kind 8: "then text"
 unfoldable pub frameOf : Limits → List ℕ → Reading
 frameOf M l =
     let f = fieldsOf l in

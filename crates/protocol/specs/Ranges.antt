@@ -4,6 +4,7 @@ use mathlib.Core.List.{List, [], _∷_}
 use Prim.Native.Nat.{ℕ, suc, _^_, _<_, _≤_}
 use lib.ListN.{length}
 use Rattle.protocol.specs.Floor.{Limits, Place, outside, at, leaving, travelling, Record, multicast, ackList, delete, deregister, register, Floor}
+use Rattle.protocol.specs.Groups.{groupCount}
 use Rattle.protocol.specs.Claims.{All}
 
 -- a place at, or between, stations below n
@@ -25,6 +26,7 @@ RecordInRange last k (register c row) = c < k
 pub record InRange (M : Limits) (F : Floor) : Type 0 where
   pub stations : F .stations ≤ M .stations
   pub carts : F .carts ≤ M .carts
+  pub groups : (g : ℕ) → g < groupCount → F .groups g < 2 ^ F .carts
   pub sent : (s : ℕ) → F .sent s ≤ suc (M .last)
   pub expected : (t s : ℕ) → t < F .stations → F .expected t s ≤ suc (M .last)
   pub next : (c s : ℕ) → F .next c s ≤ suc (M .last)

@@ -1,12 +1,14 @@
 -- WHERE EACH REFUSAL IS MET: "Checks run down the table; the first that applies is the answer."
 use mathlib.Core.Bool.{Bool, true, false, cond, _&&_, _||_, not}
+use mathlib.Core.List.{List}
 use Prim.Native.Nat.{ℕ, _^_}
 use lib.Dec.{eqb, ltb, leb}
 use lib.ListN.{length}
 use Rattle.protocol.specs.Folds.{every, byOption, isNone, isEmpty}
 use Rattle.protocol.specs.CartSets.{has}
 use Rattle.protocol.specs.Floor.{Limits, Floor, isAt, entered, moving}
-use Rattle.protocol.specs.Events.{Event, start, enter, send, wire, radio, move, flag}
+use Rattle.protocol.specs.Events.{Event, start, enter, send, wire, radio, move, flag, group, sendGroup}
+use Rattle.protocol.specs.Groups.{groupCount}
 use Rattle.protocol.specs.Wired.{freeRoom}
 use Rattle.protocol.specs.Wireless.{queueHead}
 use Rattle.protocol.specs.Form.{passesForm}
@@ -35,6 +37,14 @@ strangers F set = leb (2 ^ F .carts) set
 unfoldable pub neverEntered : Floor → ℕ → Bool
 neverEntered F set = not (every (F .carts) (λ c. not (has set c) || entered (F .place c)))
 
+-- 26: "a library group above 15"; a frame's other field has no such number
+abbrev pub noGroup : ℕ → Bool
+noGroup g = leb groupCount g
+
+-- 26: "group not defined or above 15"
+abbrev pub undefined : Floor → ℕ → Bool
+undefined F g = noGroup g || eqb (F .groups g) 0
+
 module _ (M : Limits) (F : Floor) where
   -- 17: "queue empty, or its head entry lacks the cart"
   abbrev pub headLacks : ℕ → ℕ → Bool
@@ -44,9 +54,17 @@ module _ (M : Limits) (F : Floor) where
   abbrev pub bufferShort : ℕ → ℕ → Bool
   bufferShort t buffer = byOption (queueHead M F t) false (λ m. ltb buffer (length (F .text m)))
 
+  -- the last checks of a send, of whatever kind: "24, 13, 14"
+  abbrev pub lastOfSend : ℕ → List ℕ → ℕ
+  lastOfSend s text =
+      check 24 (isEmpty text)
+      (check 13 (ltb (M .last) (F .sent s))
+      (check 14 (isNone (freeRoom M F)) 0))
+
   -- the refusal of an event, 0 if it is accepted; `broken`: "not started, or the lent floor breaks the written form rule". "Start skips 8
   -- and 9, and of 5 it keeps only this: a lent part of the floor has the wrong length, met before 6". A number above 21 came later, with its
-  -- place: "24 empty text, after 12 and before 13"; "for radio, 25 not steady, after 16 and before 17". For a flag: "18 if never entered, after 9"
+  -- place: "24 empty text, after 12 and before 13"; "for radio, 25 not steady, after 16 and before 17". For a flag: "18 if never entered, after 9";
+  -- for a group "12 after 9, then 26 for a library group above 15"; for a group send "26 group not defined or above 15, after 8, then 24, 13, 14"
   unfoldable pub refusalIf : Bool → Event → ℕ
   refusalIf broken (start n k) = check 5 (not (F .lengthsRight)) (check 6 (F .started) (check 7 (wrongSize M n k) 0))
   refusalIf broken (enter t c) =
@@ -61,9 +79,7 @@ module _ (M : Limits) (F : Floor) where
       (check 9 (strangers F set)
       (check 11 (eqb set 0)
       (check 12 (neverEntered F set)
-      (check 24 (isEmpty text)
-      (check 13 (ltb (M .last) (F .sent s))
-      (check 14 (isNone (freeRoom M F)) 0))))))))
+      (lastOfSend s text))))))
   refusalIf broken (wire i j) =
       check 5 broken
       (check 8 (noStation F i || noStation F j)
@@ -87,6 +103,17 @@ module _ (M : Limits) (F : Floor) where
       check 5 broken
       (check 9 (noCart F c)
       (check 18 (not (entered (F .place c))) 0))
+  refusalIf broken (group g members) =
+      check 5 broken
+      (check 9 (strangers F members)
+      (check 12 (neverEntered F members)
+      (check 26 (noGroup g) 0)))
+  refusalIf broken (sendGroup s g text) =
+      check 4 (ltb (M .text) (length text))
+      (check 5 broken
+      (check 8 (noStation F s)
+      (check 26 (undefined F g)
+      (lastOfSend s text))))
 
   -- the refusal of an event, 0 if it is accepted
   unfoldable pub refusal : Event → ℕ

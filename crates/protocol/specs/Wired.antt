@@ -85,9 +85,10 @@ module _ (M : Limits) where
   unfoldable pub freeRoom : Floor → Option ℕ
   freeRoom F = first (M .held) (λ m. eqb (F .waiting m) 0)
 
-  -- "Send (station, set, text)"
-  unfoldable pub onSend : Floor → ℕ → ℕ → List ℕ → Done
-  onSend F s set text = byOption (freeRoom F) (done F 2 s 0 0 0 0 []) (λ m. done (withMessage F m s set text) 2 s (F .sent s) 0 (F .stations) 0 [])
+  -- "Send (station, set, text)"; "kind 8 prints as a send, under its own kind"
+  unfoldable pub onSend : Floor → (kind : ℕ) → ℕ → ℕ → List ℕ → Done
+  onSend F kind s set text =
+      byOption (freeRoom F) (done F kind s 0 0 0 0 []) (λ m. done (withMessage F m s set text) kind s (F .sent s) 0 (F .stations) 0 [])
 
   -- "the entry's place, .. as it stands right after the putting", of the message that is buffered: one for all carts that are put there, 0 "if no
   -- cart was queued"
