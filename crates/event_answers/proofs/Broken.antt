@@ -1,4 +1,4 @@
--- A FLOOR THAT BREAKS THE FORM RULE is refused with 5: the first check of every event but a start, whose own 5 is in `event_start`, and a send, whose
+-- A FLOOR THAT BREAKS THE FORM RULE is refused with 5: the first check of every event but a start, whose own 5 is in `event_start`, and the sends, whose
 -- first is 4.
 use mathlib.Core.Path.{_≡_, refl, sym, _∙_}
 use mathlib.Core.Bool.{Bool, true, false}
@@ -8,7 +8,7 @@ use native.Mathlib.Omega.{arith}
 use lib.ListN.{length}
 use borrow.Author.Tests.{lt-ltb, le-ltb}
 use Rattle.protocol.specs.Floor.{limitsOf}
-use Rattle.protocol.specs.Events.{Event, enter, send, wire, radio, move, flag, refused}
+use Rattle.protocol.specs.Events.{Event, enter, send, wire, radio, move, flag, group, sendGroup, refused}
 use Rattle.protocol.specs.Form.{passesForm}
 use Rattle.protocol.specs.Refusals.{refusal, refusalIf}
 use Rattle.view.specs.View.{Lent, floorIn}
@@ -41,12 +41,24 @@ module _ (L : Lent) (tested : Bool) (test-is : tested ≡ passesForm (limitsOf (
   unfolding refusalIf
   broken-flag c b = meets-broken L (flag c b) tested test-is no refl
 
+  pub broken-group : (g set : ℕ) → Met L L (group g set) (refused 5)
+  unfolding refusalIf
+  broken-group g set = meets-broken L (group g set) tested test-is no refl
+
   -- a text within the limit
   pub broken-send : (s set : ℕ) (text : List ℕ) → length text ≤ 32 → Met L L (send s set text) (refused 5)
   unfolding refusalIf
   broken-send s set text l = meets-broken L (send s set text) tested test-is no (rw (le-ltb 32 (length text) l) refl)
 
+  pub broken-send-group : (s g : ℕ) (text : List ℕ) → length text ≤ 32 → Met L L (sendGroup s g text) (refused 5)
+  unfolding refusalIf
+  broken-send-group s g text l = meets-broken L (sendGroup s g text) tested test-is no (rw (le-ltb 32 (length text) l) refl)
+
 -- 4: "text longer than 32", whatever floor is lent
 pub long-send : (L : Lent) (s set : ℕ) (text : List ℕ) → 32 < length text → Met L L (send s set text) (refused 4)
 unfolding refusal refusalIf
 long-send L s set text l = meets-refused L (send s set text) 4 (rw (lt-ltb 32 (length text) l) refl) (λ z. omega arith)
+
+pub long-send-group : (L : Lent) (s g : ℕ) (text : List ℕ) → 32 < length text → Met L L (sendGroup s g text) (refused 4)
+unfolding refusal refusalIf
+long-send-group L s g text l = meets-refused L (sendGroup s g text) 4 (rw (lt-ltb 32 (length text) l) refl) (λ z. omega arith)

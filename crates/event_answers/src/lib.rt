@@ -31,6 +31,10 @@ pub enum Outcome {
     Moved(CartNumber, Station),
     // The cart, and whether it is steady.
     Flagged(CartNumber, bool),
+    // The group, and how many members it has.
+    Grouped(u64, u64),
+    // The station, the number of the message that went to a group's members.
+    SentToGroup(Station, MessageNumber),
 }
 
 // The answer to an event.
@@ -78,6 +82,8 @@ fn report_of(outcome: Outcome, effect: Effect) -> Report
         Outcome::Received(initiator, number, _) => report(4, initiator.0, number.0, effect),
         Outcome::Moved(cart, to) => report(5, cart.0, to.0, effect),
         Outcome::Flagged(cart, steady) => report(6, cart.0, flag_number(steady), effect),
+        Outcome::Grouped(group, members) => report(7, group, members, effect),
+        Outcome::SentToGroup(station, number) => report(8, station.0, number.0, effect),
     }
 }
 

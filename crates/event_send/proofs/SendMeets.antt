@@ -1,19 +1,22 @@
--- A SEND MEETS ITS EVENT: what the code asks on the way, and what it leaves.
+-- A SEND MEETS ITS EVENT, of whatever kind: what the code asks on the way, and what it leaves.
 use mathlib.Core.Path.{_≡_, refl, sym, ap, _∙_, subst}
 use mathlib.Core.Bool.{true, false}
 use mathlib.Core.Option.{none, some}
 use mathlib.Core.List.{List}
 use Prim.Native.Nat.{ℕ, _+_, _*_, _≤_, _<_}
 use native.Mathlib.Omega.{arith}
+use lib.Dec.{eqb, ltb}
 use lib.ListN.{length}
+use borrow.Author.Tests.{leb-false}
 use Rattle.protocol.specs.Floor.{Product, limitsOf}
-use Rattle.protocol.specs.Events.{Done, send}
-use Rattle.protocol.specs.Wired.{freeRoom}
+use Rattle.protocol.specs.Groups.{groupCount}
+use Rattle.protocol.specs.Events.{Event, Done, send, sendGroup}
+use Rattle.protocol.specs.Wired.{freeRoom, onSend}
 use Rattle.protocol.specs.Form.{passesForm}
-use Rattle.protocol.specs.Refusals.{refusalIf}
+use Rattle.protocol.specs.Refusals.{noStation, noGroup, undefined, refusalIf}
 use Rattle.protocol.specs.Step.{accept}
-use Rattle.protocol.proofs.Tests.{by-lt}
-use Rattle.protocol.proofs.Accepted.{MaySend, may-send}
+use Rattle.protocol.proofs.Tests.{by-lt, or-false}
+use Rattle.protocol.proofs.Accepted.{MaySend, may-send, may-send-group, passed-check}
 use Rattle.stations.specs.View.{HasHead, HasStation, headIn, stationsIn}
 use Rattle.messages.specs.View.{HasRoom}
 use Rattle.messages.specs.Texts.{HasText}
@@ -34,10 +37,33 @@ use Rattle.reports.specs.Effects.{putting}
 use Rattle.event_answers.specs.Answers.{says}
 use Rattle.event_answers.specs.Met.{Met}
 use Rattle.event_answers.proofs.Meets.{refusal-standing, meets-done, meets-counted}
+use Rattle.event_send.specs.declared.Posted.{Posted}
+use Rattle.event_send.specs.Posted.{CanPost, WasPosted}
 
 -- the search goes over as many rooms as the product has
 pub searched : (P : Product) (b : Bounds) → NumbersOf P b → (M : List ℕ) (m : ℕ) → m ≡ firstFree (b .held) M → m ≡ firstFree (P .held) M
 searched P b numbers M m found = found ∙ ap (λ (h : ℕ). firstFree h M) (sym (numbers .held-is))
+
+-- THE STEP BEHIND THE CHECKS: what the code found as how many stations there are, and as the message's number
+module _ (S M W T : List ℕ) (m s : ℕ) (text : List ℕ) (n number : ℕ) (stations-are : n ≡ headIn S .stations) (number-is : number ≡ stationsIn S .sent s) where
+  pub on-send-asked : (rows : ℕ) → CanPost rows S M W T m s text
+      → ((length S ≡ 116 + rows * 116) × (rows ≤ 16) × HasStation S s × HasRoom M m × HasText T m × (length text ≤ 32))
+      × (((m < 32) × (s < 16) × (n ≤ 16) × (number < 4294967296)) × ((form W ≡ true) × (used W + n ≤ capacity W)))
+  on-send-asked rows can = rw (stations-are, number-is) can
+
+  pub was-sent : (S′ M′ W′ T′ : List ℕ) (set : ℕ) (f : Effect) (r : Posted) → r ≡ record { number = record { 0 = number }; effect = f }
+      → Sent S S′ M M′ W W′ T T′ m s n number set text → f ≡ putting n → WasPosted S S′ M M′ W W′ T T′ m s set text r
+  was-sent S′ M′ W′ T′ set f r made sent counted =
+      record {
+        sent = rw (stations-are, number-is) at sent;
+        number = ap (λ (x : Posted). x .number .0) made ∙ number-is;
+        counted = ap (λ (x : Posted). x .effect) made ∙ counted ∙ ap putting stations-are;
+      }
+
+-- to the members of a group, which the code read
+pub posted-to : {S S′ M M′ W W′ T T′ : List ℕ} {m s members set : ℕ} {text : List ℕ} {r : Posted} → members ≡ set
+    → WasPosted S S′ M M′ W W′ T T′ m s members text r → WasPosted S S′ M M′ W W′ T T′ m s set text r
+posted-to e posted = rw (sym e) posted
 
 module _ (P : Product) (b : Bounds) (numbers : NumbersOf P b) (S C M W T : List ℕ) (p : passesForm (limitsOf P) (floorIn (lent P S C M W T)) ≡ true) where
   abbrev L : Lent
@@ -57,15 +83,10 @@ module _ (P : Product) (b : Bounds) (numbers : NumbersOf P b) (S C M W T : List 
       let e = X .sized .counts .carts in
       (omega arith, omega arith, few-carts L X, omega arith)
 
-  -- the search found room m, and no check applied
-  module _ (s set m : ℕ) (text : List ℕ) (found : m ≡ firstFree (P .held) M) (r : ℕ) (told : r ≡ refusalIf (limitsOf P) (floorIn L) false (send s set text)) (none-applied : r ≡ 0) where
-    free : refusalIf (limitsOf P) (floorIn L) false (send s set text) ≡ 0
-    free = sym told ∙ none-applied
-
-    may-some : (k : ℕ) × (freeRoom (limitsOf P) (floorIn L) ≡ some k) × MaySend (limitsOf P) (floorIn L) s set text k
-    may-some = may-send (limitsOf P) (floorIn L) false s set text free
-
-    -- so m is a room
+  -- the search found room m, no check applied, and so some room is free and the event may send
+  module _ (s set m : ℕ) (text : List ℕ) (found : m ≡ firstFree (P .held) M)
+      (may-some : (k : ℕ) × (freeRoom (limitsOf P) (floorIn L) ≡ some k) × MaySend (limitsOf P) (floorIn L) s set text k) where
+    -- so m is that room
     room : freeRoom (limitsOf P) (floorIn L) ≡ some m
     room =
         by-lt m 32 (λ l. room-found L m found l)
@@ -77,7 +98,7 @@ module _ (P : Product) (b : Bounds) (numbers : NumbersOf P b) (S C M W T : List 
     may : MaySend (limitsOf P) (floorIn L) s set text m
     may = subst (λ (k : ℕ). MaySend (limitsOf P) (floorIn L) s set text k) same-room (may-some .2)
 
-    pub has-station : HasStation S s
+    has-station : HasStation S s
     has-station = let a = X .lengths .stations in let q = may .station in let d = X .sized .counts .stations in omega arith
 
     whole-rows : length S ≡ 116 + b .stations * 116
@@ -92,32 +113,47 @@ module _ (P : Product) (b : Bounds) (numbers : NumbersOf P b) (S C M W T : List 
     has-text : HasText T m
     has-text = let a = X .lengths .texts in let q = may .room in omega arith
 
-    abbrev pub Asked : ℕ → ℕ → Type 0
-    Asked n number =
-        ((length S ≡ 116 + b .stations * 116) × (b .stations ≤ 16) × HasStation S s × HasRoom M m × HasText T m × (length text ≤ 32))
-        × (((m < 32) × (s < 16) × (n ≤ 16) × (number < 4294967296)) × ((form W ≡ true) × (used W + n ≤ capacity W)))
-
-    asked : Asked (headIn S .stations) (stationsIn S .sent s)
-    asked = (
+    pub can-post : CanPost (b .stations) S M W T m s text
+    can-post = (
       (whole-rows, few-rows, has-station, has-room, has-text, may .fits),
       (send-numbers L s set text m X room may, (X .laid .chains, send-room L s set text m X room may)),
     )
 
-    left : (S′ M′ W′ T′ : List ℕ) → Sent S S′ M M′ W W′ T T′ m s (headIn S .stations) (stationsIn S .sent s) set text
-        → Met L (lent P S′ C M′ W′ T′) (send s set text) (says 2 s (stationsIn S .sent s) (putting (headIn S .stations)))
-    unfolding accept
-    left S′ M′ W′ T′ sent =
-        let whole = send-done S S′ C M M′ W W′ T T′ m s set text X may sent room in
-        meets-done L (send s set text) (lent P S′ C M′ W′ T′) _ refl (refusal-standing L (send s set text) p ∙ free)
-        (ap (λ (D : Done). D .floor) whole) (ap (λ (D : Done). D .report) whole)
+    -- POSTED, the event is met: any that is not refused, and whose step is that of a send of this kind
+    pub meets-posted : (e : Event) (kind : ℕ) → refusalIf (limitsOf P) (floorIn L) false e ≡ 0
+        → accept (limitsOf P) (floorIn L) e ≡ onSend (limitsOf P) (floorIn L) kind s set text
+        → (S′ M′ W′ T′ : List ℕ) (r : Posted) → WasPosted S S′ M M′ W W′ T T′ m s set text r
+        → Met L (lent P S′ C M′ W′ T′) e (says kind s (r .number .0) (r .effect))
+    meets-posted e kind free posts S′ M′ W′ T′ r posted =
+        let whole = send-done S S′ C M M′ W W′ T T′ m s set text X may (posted .sent) room kind ∙ sym posts in
+        meets-counted L (lent P S′ C M′ W′ T′) e kind s (r .number .0) (r .effect) (putting (headIn S .stations)) (posted .counted)
+        (rw (posted .number) (meets-done L e (lent P S′ C M′ W′ T′) _ refl (refusal-standing L e p ∙ free)
+        (ap (λ (D : Done). D .floor) whole) (ap (λ (D : Done). D .report) whole)))
 
-    -- whatever the code found as how many stations there are, and as the message's number
-    module _ (n number : ℕ) (stations-are : n ≡ headIn S .stations) (number-is : number ≡ stationsIn S .sent s) where
-      pub send-asks : Asked n number
-      send-asks = rw (stations-are, number-is) asked
+  -- A SEND TO A SET that is not refused
+  pub send-may : (s set : ℕ) (text : List ℕ) (r : ℕ) → r ≡ refusalIf (limitsOf P) (floorIn L) false (send s set text) → r ≡ 0
+      → (k : ℕ) × (freeRoom (limitsOf P) (floorIn L) ≡ some k) × MaySend (limitsOf P) (floorIn L) s set text k
+  send-may s set text r told none-applied = may-send (limitsOf P) (floorIn L) false s set text (sym told ∙ none-applied)
 
-      pub meets-send : (S′ M′ W′ T′ : List ℕ) (f : Effect) → Sent S S′ M M′ W W′ T T′ m s n number set text → f ≡ putting n
-          → Met L (lent P S′ C M′ W′ T′) (send s set text) (says 2 s number f)
-      meets-send S′ M′ W′ T′ f sent counted =
-          meets-counted L (lent P S′ C M′ W′ T′) (send s set text) 2 s number f (putting n) counted
-          (rw (stations-are, number-is) (left S′ M′ W′ T′ (rw (stations-are, number-is) at sent)))
+  pub send-posts : (s set : ℕ) (text : List ℕ) → accept (limitsOf P) (floorIn L) (send s set text) ≡ onSend (limitsOf P) (floorIn L) 2 s set text
+  unfolding accept
+  send-posts s set text = refl
+
+  -- A SEND TO A GROUP that is not refused
+  pub group-may : (s g : ℕ) (text : List ℕ) (r : ℕ) → r ≡ refusalIf (limitsOf P) (floorIn L) false (sendGroup s g text) → r ≡ 0
+      → (k : ℕ) × (freeRoom (limitsOf P) (floorIn L) ≡ some k) × MaySend (limitsOf P) (floorIn L) s (headIn S .groups g) text k
+  group-may s g text r told none-applied = may-send-group (limitsOf P) (floorIn L) s g text (rw p (sym told ∙ none-applied))
+
+  -- so the code may read its members
+  pub group-there : (s g : ℕ) (text : List ℕ) (r : ℕ) → r ≡ refusalIf (limitsOf P) (floorIn L) false (sendGroup s g text) → r ≡ 0 → g < groupCount
+  unfolding refusalIf
+  group-there s g text r told none-applied =
+      let a4 = passed-check 4 (ltb 32 (length text)) _ (omega arith) (sym told ∙ none-applied) in
+      let a5 = passed-check 5 false _ (omega arith) (a4 .1) in
+      let a8 = passed-check 8 (noStation (floorIn L) s) _ (omega arith) (a5 .1) in
+      let a26 = passed-check 26 (undefined (floorIn L) g) _ (omega arith) (a8 .1) in
+      leb-false groupCount g (or-false (noGroup g) (eqb (headIn S .groups g) 0) (a26 .0) .0)
+
+  pub group-posts : (s g : ℕ) (text : List ℕ) → accept (limitsOf P) (floorIn L) (sendGroup s g text) ≡ onSend (limitsOf P) (floorIn L) 8 s (headIn S .groups g) text
+  unfolding accept
+  group-posts s g text = refl

@@ -1,4 +1,4 @@
--- THE CHECKS OF A SEND behind 8, in three parts of the table: "Checks run down the table; the first that applies is the answer."
+-- THE CHECKS OF A SEND behind 8, in parts of the table: "Checks run down the table; the first that applies is the answer."
 use mathlib.Core.List.{List}
 use Prim.Native.Nat.{ℕ}
 use lib.Dec.{eqb, ltb}
@@ -7,7 +7,11 @@ use Rattle.protocol.specs.Floor.{Limits, Floor}
 use Rattle.protocol.specs.Wired.{freeRoom}
 use Rattle.protocol.specs.Refusals.{check, strangers, neverEntered}
 
--- those of its set: "a cart in the set, not on the floor", "empty set", "a named cart never entered"
+-- those of the carts that an event names, a send or a group: "a cart in the set, not on the floor", "a named cart never entered"
+abbrev pub namedChecks : Floor → ℕ → ℕ
+namedChecks F set = check 9 (strangers F set) (check 12 (neverEntered F set) 0)
+
+-- those of a send's set: between the two, "empty set"
 abbrev pub setChecks : Floor → ℕ → ℕ
 setChecks F set = check 9 (strangers F set) (check 11 (eqb set 0) (check 12 (neverEntered F set) 0))
 

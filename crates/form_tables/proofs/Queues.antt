@@ -28,7 +28,7 @@ unfolding localRight
 local-mask S C t e = eqb-true (stationsIn S .local t) (setOf 64 (λ c. localTo (cartsIn C .place c) t)) e
 
 -- A SET WHOSE MEMBERS ARE BELOW n is below 2^n
-members-lt : (n x : ℕ) → ((c : ℕ) → has x c ≡ true → c < n) → x < 2 ^ n
+pub members-lt : (n x : ℕ) → ((c : ℕ) → has x c ≡ true → c < n) → x < 2 ^ n
 members-lt n x h =
     let e : x ≡ setOf n (has x) = same-sets x (setOf n (has x)) (λ c. by-lt c n
     (λ k. sym (has-setOf n (has x) c k))

@@ -1,4 +1,4 @@
--- THE FORM RULE IS THE LENGTHS, THE TABLES' PART, THE POOL'S WORDS AND THE LINES' PART: what the parts of the test decide of the whole floor.
+-- THE FORM RULE IS THE LENGTHS, THE TABLES' PART, THE GROUPS, THE POOL'S WORDS AND THE LINES' PART: what the parts of the test decide of the whole floor.
 use mathlib.Core.Path.{_≡_, refl, sym, ap, _∙_}
 use mathlib.Core.Bool.{Bool, true, false, _&&_}
 use mathlib.Core.List.{List, []}
@@ -7,9 +7,10 @@ use native.Mathlib.Omega.{arith}
 use lib.ListN.{length, drop, length-take}
 use borrow.Author.Tests.{eqb-true, eq-eqb, leb-true, le-leb}
 use Rattle.protocol.specs.CartSets.{setOf}
-use Rattle.protocol.specs.Floor.{Product, limitsOf, localTo}
-use Rattle.protocol.specs.Claims.{Claim, True, test, is, both}
-use Rattle.protocol.specs.Form.{roomRule, passesForm}
+use Rattle.protocol.specs.Floor.{Product, limits, limitsOf, localTo}
+use Rattle.protocol.specs.Groups.{groupCount}
+use Rattle.protocol.specs.Claims.{Claim, True, test, is, both, all}
+use Rattle.protocol.specs.Form.{roomRule, groupRule, passesForm}
 use Rattle.protocol.proofs.Tests.{by-test, same-test, clash}
 use Rattle.protocol.proofs.ClaimLaws.{reflect}
 use Rattle.protocol.proofs.FormTest.{Clauses, clauses-of, passes-of}
@@ -21,7 +22,7 @@ use Rattle.lines.specs.Form.{form}
 use Rattle.view.specs.View.{Lent, lent, floorIn, lengthsIn, localRight, shortText, lineRight}
 use Rattle.view.proofs.Laid.{Laid, laid-of, words-right}
 use Rattle.view.proofs.Lengths.{lengths-of}
-use Rattle.form_tables.specs.Tables.{tablesRule}
+use Rattle.form_tables.specs.Tables.{tables, tablesRule}
 use Rattle.form_tables.proofs.Answers.{no}
 use Rattle.form_lines.specs.LinesRule.{linesClaim}
 use Rattle.form_lines.specs.Pass.{linesPass}
@@ -41,9 +42,13 @@ module _ (P : Product) (S C M W T : List ℕ) where
   abbrev pub tabs : Claim
   tabs = tablesRule (limitsOf P) (P .stations) (P .carts) (P .held) S C M
 
+  -- the groups' part
+  abbrev pub groups : Claim
+  groups = all groupCount (groupRule limits (tables S C []))
+
   -- the parts, in the order of the test
   abbrev parts : Claim
-  parts = both (is (lengthsIn L)) (both (tabs) (both (is (form W)) (linesClaim L)))
+  parts = both (is (lengthsIn L)) (both (tabs) (both (groups) (both (is (form W)) (linesClaim L))))
 
   -- no text is longer than its part
   short : True (tabs) → (m : ℕ) → m < P .held → roomsIn M .length m ≤ 32
@@ -59,7 +64,7 @@ module _ (P : Product) (S C M W T : List ℕ) where
   -- the facts of the words
   laid : True parts → Laid L
   unfolding localRight lineRight
-  laid (_, (a, (f, b))) =
+  laid (_, (a, (_, (f, b)))) =
       record {
         chains = f;
         canonical = a .1 .1 .0;
@@ -74,7 +79,7 @@ module _ (P : Product) (S C M W T : List ℕ) where
   joined p =
       let X = words-right L (laid p) in
       let a = p .1 .0 in
-      let b = p .1 .1 .1 .1 in
+      let b = p .1 .1 .1 .1 .1 in
       record {
         floor = (a .0 .0, (p .0, (X, a .0 .1)));
         station = a .1 .0;
@@ -86,6 +91,7 @@ module _ (P : Product) (S C M W T : List ℕ) where
         line = b .0;
         order = b .1 .0;
         handoff = b .1 .1 .0;
+        group = p .1 .1 .0;
       }
 
   -- AND ALL CLAUSES ARE THE PARTS
@@ -128,7 +134,7 @@ module _ (P : Product) (S C M W T : List ℕ) where
       ((λ i li j lj. X .rooms i j li lj), (Q .line, (Q .order, (Q .handoff, ((λ m l h. Q .held m l h .1 .1 .1), λ m l h t lt. Q .copy m l h t lt .1 .1)))))
 
   of-parts : Clauses (limitsOf P) (floorIn L) → True parts
-  of-parts Q = (Q .floor .1 .0, (of-tables Q, (laid-of L (Q .floor .1 .1 .0) .chains, of-lines Q)))
+  of-parts Q = (Q .floor .1 .0, (of-tables Q, (Q .group, (laid-of L (Q .floor .1 .1 .0) .chains, of-lines Q))))
 
   -- THE FORM RULE passes just where the parts do
   pub form-split : passesForm (limitsOf P) (floorIn L) ≡ test parts
@@ -147,8 +153,11 @@ module _ (P : Product) (S C M W T : List ℕ) where
   pub fails-tables : (r : Bool) → r ≡ test (tabs) → r ≡ false → false ≡ passesForm (limitsOf P) (floorIn L)
   fails-tables r e q = fails (λ p. clash r (e ∙ reflect (tabs) .1 (p .1 .0)) q)
 
+  pub fails-groups : (r : Bool) → r ≡ test (groups) → r ≡ false → false ≡ passesForm (limitsOf P) (floorIn L)
+  fails-groups r e q = fails (λ p. clash r (e ∙ reflect (groups) .1 (p .1 .1 .0)) q)
+
   fails-pool : (r : Bool) → r ≡ form W → r ≡ false → false ≡ passesForm (limitsOf P) (floorIn L)
-  fails-pool r e q = fails (λ p. clash r (e ∙ p .1 .1 .0) q)
+  fails-pool r e q = fails (λ p. clash r (e ∙ p .1 .1 .1 .0) q)
 
   -- what the pass over the lines builds on
   tables-right : lengthsIn L ≡ true → True (tabs) → TableClauses L
@@ -166,16 +175,17 @@ module _ (P : Product) (S C M W T : List ℕ) where
       }
 
   -- WHERE THE OTHERS DO, it rests on the pool and the pass over its lines
-  pub rests-on-lines : (a b r : Bool) → a ≡ lengthsIn L → a ≡ true → b ≡ test (tabs) → b ≡ true → r ≡ (form W && linesPass L)
+  pub rests-on-lines : (a b g r : Bool) → a ≡ lengthsIn L → a ≡ true → b ≡ test (tabs) → b ≡ true → g ≡ test (groups) → g ≡ true → r ≡ (form W && linesPass L)
       → r ≡ passesForm (limitsOf P) (floorIn L)
-  rests-on-lines a b r ea qa eb qb er = by-test (form W) (λ w. er ∙ ap (λ (x : Bool). x && linesPass L) w ∙ on w) (λ w. er ∙ ap (λ (x : Bool). x && linesPass L) w ∙ fails-pool (form W) refl w)
+  rests-on-lines a b g r ea qa eb qb eg qg er = by-test (form W) (λ w. er ∙ ap (λ (x : Bool). x && linesPass L) w ∙ on w) (λ w. er ∙ ap (λ (x : Bool). x && linesPass L) w ∙ fails-pool (form W) refl w)
     where
       on : form W ≡ true → linesPass L ≡ passesForm (limitsOf P) (floorIn L)
       on w =
           let l : lengthsIn L ≡ true = sym ea ∙ qa in
           let t = reflect (tabs) .0 (sym eb ∙ qb) in
+          let u = reflect (groups) .0 (sym eg ∙ qg) in
           pass-is-test L (tables-right l t)
           ∙ same-test (test (linesClaim L)) (test parts)
-          (λ e. reflect parts .1 (l, (t, (w, reflect (linesClaim L) .0 e))))
-          (λ e. reflect (linesClaim L) .1 (reflect parts .0 e .1 .1 .1))
+          (λ e. reflect parts .1 (l, (t, (u, (w, reflect (linesClaim L) .0 e)))))
+          (λ e. reflect (linesClaim L) .1 (reflect parts .0 e .1 .1 .1 .1))
           ∙ sym form-split

@@ -59,5 +59,8 @@ pub fn passes(
     if !form_tables::tables_pass(stations, carts, messages, bounds) {
         return false;
     }
+    if !form_groups::groups_pass(stations, carts) {
+        return false;
+    }
     form_lines::lines_pass(stations, carts, messages, lines, bounds.stations)
 }

@@ -9,6 +9,7 @@ use lib.ListN.{length, getD}
 use lib.Bits.{bitOr}
 use borrow.Author.Tests.{eq-eqb, eqb-true, eqb-false, ne-eqb, not-true, not-false}
 use Rattle.protocol.specs.Folds.{update2}
+use Rattle.protocol.specs.Groups.{groupCount}
 use Rattle.protocol.specs.CartSets.{has, minus, setOf}
 use Rattle.protocol.proofs.Tests.{same-test, by-test, by-lt}
 use Rattle.protocol.proofs.SetLaws.{has-zero, has-minus, has-setOf, setOf-lt, setOf-beyond, minus-lt, member-below, same-members, either-empty}
@@ -16,7 +17,7 @@ use Rattle.sets.proofs.MaskLaws.{with-here, with-other, without-other}
 use Rattle.rows.specs.Rows.{cell, column}
 use Rattle.rows.proofs.RowLaws.{cell-zero, cell-past, update2-column}
 use Rattle.rows.proofs.ColumnLaws.{word-put, column-read, column-put, column-put-turned, column-stays, column-beyond, column-zero}
-use Rattle.stations.specs.View.{width, initiators, rooms, headOf, head, stationsOf, expectedAt, copyAt, acksAt, queueAt, headIn, stationsIn, stationWord, noStations, withSent, withExpected, withLocal, withCopy, withAcks, withRoom, withQueue, copiesAt, entriesAt, counted, countedWith, entriesIn, someIn, listingIn, Stations}
+use Rattle.stations.specs.View.{width, initiators, rooms, headOf, head, noGroups, groupAt, headWord, withGroup, stationsOf, expectedAt, copyAt, acksAt, queueAt, headIn, stationsIn, stationWord, noStations, withSent, withExpected, withLocal, withCopy, withAcks, withRoom, withQueue, copiesAt, entriesAt, counted, countedWith, entriesIn, someIn, listingIn, Stations}
 
 -- A STATION'S ROW AND THE FLOOR'S OWN
 
@@ -52,14 +53,41 @@ module _ (l m : List ℕ) (k v : ℕ) where
   unfolding stationsIn
   stations-kept e = ap (λ (W : ℕ → ℕ → ℕ). stationsOf (λ u. W (1 + u))) e ∙ ap stationsOf (off-stations (cell width l) k v)
 
+-- a word of the floor's own row that is no group's: the groups stay
+groups-stay : (W : ℕ → ℕ) (k v : ℕ) → k < 3
+    → column groupCount groupAt (λ r j. cond (eqb j k) v (W j)) 0 ≡ column groupCount groupAt (λ r. W) 0
+unfolding column
+groups-stay W k v low = fun-ext (λ g. column-stays groupCount groupAt (λ r. W) 0 v k (λ j l e. omega arith) 0 g)
+
 -- the floor's own three words
 pub head-put : (l l₁ l₂ l₃ : List ℕ) (x y z : ℕ) → cell width l₁ ≡ update2 (cell width l) 0 0 x → cell width l₂ ≡ update2 (cell width l₁) 0 1 y
-    → cell width l₃ ≡ update2 (cell width l₂) 0 2 z → headIn l₃ ≡ head x y z
+    → cell width l₃ ≡ update2 (cell width l₂) 0 2 z → headIn l₃ ≡ head x y z (headIn l .groups)
 unfolding headIn
 head-put l l₁ l₂ l₃ x y z p q r =
+    let W = cell width l 0 in
     ap (λ (W : ℕ → ℕ → ℕ). headOf (W 0)) r
     ∙ ap (λ (W : ℕ → ℕ → ℕ). headOf (update2 W 0 2 z 0)) q
     ∙ ap (λ (W : ℕ → ℕ → ℕ). headOf (update2 (update2 W 0 1 y) 0 2 z 0)) p
+    ∙ ap (head x y z)
+    (groups-stay (λ j. cond (eqb j 1) y (cond (eqb j 0) x (W j))) 2 z (omega arith)
+    ∙ groups-stay (λ j. cond (eqb j 0) x (W j)) 1 y (omega arith)
+    ∙ groups-stay W 0 x (omega arith))
+
+-- the members of a group: what is read, and what a store of its word leaves
+pub group-read : (l : List ℕ) (g : ℕ) → g < groupCount → headWord l (groupAt g) ≡ headIn l .groups g
+unfolding headIn
+group-read l g h = column-read groupCount groupAt (λ r. headWord l) 0 g h
+
+pub group-put : (l l₁ : List ℕ) (g v : ℕ) → g < groupCount → cell width l₁ ≡ update2 (cell width l) 0 (groupAt g) v → headIn l₁ ≡ withGroup (headIn l) g v
+unfolding headIn column
+group-put l l₁ g v h p =
+    ap (λ (W : ℕ → ℕ → ℕ). headOf (W 0)) p
+    ∙ (λ i. record {
+      mark = update2-column (cell width l) 0 (groupAt g) v 0 0 (omega arith) i;
+      stations = update2-column (cell width l) 0 (groupAt g) v 0 1 (omega arith) i;
+      carts = update2-column (cell width l) 0 (groupAt g) v 0 2 (omega arith) i;
+      groups = λ j. column-put groupCount groupAt (λ r. headWord l) 0 v g h (λ j l e. omega arith) 0 j i;
+    })
 
 -- THE WORDS THAT COUNT
 
@@ -264,9 +292,11 @@ pub no-stations : (l : List ℕ) → ((k : ℕ) → getD l k 0 ≡ 0) → statio
 unfolding stationsIn
 no-stations l h = ap (λ (W : ℕ → ℕ → ℕ). stationsOf (λ t. W (1 + t))) (cell-zero width l h) ∙ no-words
 
-pub no-head : (l : List ℕ) → ((k : ℕ) → getD l k 0 ≡ 0) → headIn l ≡ head 0 0 0
+pub no-head : (l : List ℕ) → ((k : ℕ) → getD l k 0 ≡ 0) → headIn l ≡ head 0 0 0 noGroups
 unfolding headIn
-no-head l h = ap (λ (W : ℕ → ℕ → ℕ). headOf (W 0)) (cell-zero width l h)
+no-head l h =
+    ap (λ (W : ℕ → ℕ → ℕ). headOf (W 0)) (cell-zero width l h)
+    ∙ ap (head 0 0 0) (fun-ext (λ g. column-zero groupCount groupAt (λ r k. 0) 0 g (λ k. refl)))
 
 -- BEYOND
 

@@ -7,11 +7,13 @@ use lib.Dec.{eqb}
 use lib.ListN.{length}
 use Rattle.protocol.specs.CartSets.{has, with, without, setOf}
 use Rattle.protocol.specs.Folds.{update, update2}
+use Rattle.protocol.specs.Groups.{groupCount}
 use Rattle.rows.specs.Rows.{cell, column, RowIn}
 
--- THE WORDS: row 0 is the floor's own, with the mark, how many stations, how many carts. Row 1 + t is station t's: word 0 says how many
--- messages it has sent, words 1 to 16 the numbers that it expects, word 17 its local carts; then each room has three words; word 114 says which
--- rooms' copies and ack lists count, and word 115 which rooms' queue entries: where a room is not among them, there is none, whatever its words say.
+-- THE WORDS: row 0 is the floor's own, with the mark, how many stations, how many carts, and in words 3 to 18 the members of each group. Row 1 + t
+-- is station t's: word 0 says how many messages it has sent, words 1 to 16 the numbers that it expects, word 17 its local carts; then each room has
+-- three words; word 114 says which rooms' copies and ack lists count, and word 115 which rooms' queue entries: where a room is not among them, there
+-- is none, whatever its words say.
 
 -- the words of a row
 abbrev pub width : ℕ
@@ -42,20 +44,29 @@ stationWord words t k = cell width words (1 + t) k
 
 -- THE FLOOR'S OWN
 
--- "the mark that says started"; how many stations, and how many carts, the floor has
+-- "the mark that says started"; how many stations, and how many carts, the floor has; the members of each group
 pub record Head : Type 0 where
   pub mark : ℕ
   pub stations : ℕ
   pub carts : ℕ
+  pub groups : ℕ → ℕ
 
-abbrev pub head : ℕ → ℕ → ℕ → Head
-head mark n k = record { mark = mark; stations = n; carts = k }
+abbrev pub head : ℕ → ℕ → ℕ → (ℕ → ℕ) → Head
+head mark n k groups = record { mark = mark; stations = n; carts = k; groups = groups }
+
+-- "none defined at a start"
+abbrev pub noGroups : ℕ → ℕ
+noGroups g = 0
+
+-- where the members of group g stand in the row
+abbrev pub groupAt : ℕ → ℕ
+groupAt g = 3 + g
 
 -- by the words of a row
 abbrev pub headOf : (ℕ → ℕ) → Head
-headOf W = head (W 0) (W 1) (W 2)
+headOf W = head (W 0) (W 1) (W 2) (column groupCount groupAt (λ r. W) 0)
 
--- in a table
+-- in a table: no members beyond sixteen groups
 unfoldable pub headIn : List ℕ → Head
 headIn words = headOf (headWord words)
 
@@ -152,6 +163,10 @@ abbrev pub Leaves : List ℕ → List ℕ → Stations → Type 0
 Leaves S S′ X = (stationsIn S′ ≡ X) × ((headIn S′ ≡ headIn S) × (length S′ ≡ length S))
 
 -- ONE ENTRY CHANGED
+
+-- group g has these members
+abbrev pub withGroup : Head → ℕ → ℕ → Head
+withGroup H g set = head (H .mark) (H .stations) (H .carts) (update (H .groups) g set)
 
 -- station t has sent n
 abbrev pub withSent : Stations → ℕ → ℕ → Stations

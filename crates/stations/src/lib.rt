@@ -8,7 +8,8 @@ ghost use lib.Dec.{eqb};
 ghost use lib.ListN.{length, getD};
 ghost use Rattle.protocol.specs.CartSets.{has, setOf};
 ghost use Rattle.protocol.specs.Folds.{update2};
-ghost use Rattle.stations.specs.View.{width, initiators, rooms, HasHead, HasStation, countedWith, entriesIn, wordNames, wordLists, namingIn, listingIn, someIn, stationWord, head, headIn, stationsIn, noStations, withSent, withExpected, withLocal, withCopy, withAcks, withRoom, withQueue, Leaves};
+ghost use Rattle.protocol.specs.Groups.{groupCount};
+ghost use Rattle.stations.specs.View.{width, initiators, rooms, HasHead, HasStation, countedWith, entriesIn, wordNames, wordLists, namingIn, listingIn, someIn, stationWord, head, noGroups, headIn, withGroup, stationsIn, noStations, withSent, withExpected, withLocal, withCopy, withAcks, withRoom, withQueue, Leaves};
 
 // A row of the table has this many words. Row 0 is the floor's own, row 1 + t is station t's.
 const WIDTH: usize = 116;
@@ -16,12 +17,17 @@ const WIDTH: usize = 116;
 // The mark that says started.
 pub const STARTED: u64 = 1;
 
-// The floor's own row: the mark, how many stations, how many carts. The rest is not used.
+// The floor's own row: the mark, how many stations, how many carts, and the members of each of sixteen groups. The rest is not used.
 const MARK: usize = 0;
 
 const STATIONS: usize = 1;
 
 const CARTS: usize = 2;
+
+const GROUP: usize = 3;
+
+// "Sixteen groups", of every caller.
+pub const GROUPS: u64 = 16;
 
 // A station's row: how many messages it has sent; what it expects of each of sixteen initiators; its local carts; three words for each of
 // thirty-two rooms: the copy, the ack list, the queue's entry; and which rooms' copies and ack lists count, and which rooms' entries, so that a search
@@ -99,16 +105,34 @@ pub fn cart_count(stations: &[u64]) -> u64
     rows::word_at(stations, WIDTH, 0, CARTS)
 }
 
-// The floor has this mark, and so many stations and carts.
+// The floor has this mark, and so many stations and carts; its groups stay.
 pub fn put_head(stations: &mut [u64], mark: u64, n: u64, k: u64)
     requires { ⌜ HasHead (now stations) ⌝ }
-    ensures { λ _. ⌜ headIn (now (stations .exit)) ≡ head mark n k ⌝ }
+    ensures { λ _. ⌜ headIn (now (stations .exit)) ≡ head mark n k (headIn (now (stations .entry)) .groups) ⌝ }
     ensures { λ _. ⌜ stationsIn (now (stations .exit)) ≡ stationsIn (now (stations .entry)) ⌝ }
     ensures { λ _. ⌜ length (now (stations .exit)) ≡ length (now (stations .entry)) ⌝ }
 {
     rows::put_word(stations, WIDTH, 0, MARK, mark);
     rows::put_word(stations, WIDTH, 0, STATIONS, n);
     rows::put_word(stations, WIDTH, 0, CARTS, k);
+}
+
+// The members of a group; none, and it is not defined.
+pub fn group_of(stations: &[u64], group: u64) -> u64
+    requires { ⌜ HasHead (now stations) × (group < groupCount) ⌝ }
+    ensures { λ r. ⌜ r ≡ headIn (now (stations .entry)) .groups group ⌝ }
+{
+    rows::word_at(stations, WIDTH, 0, GROUP + group as usize)
+}
+
+// A group has other members; what the stations keep stays.
+pub fn put_group(stations: &mut [u64], group: u64, set: u64)
+    requires { ⌜ HasHead (now stations) × (group < groupCount) ⌝ }
+    ensures { λ _. ⌜ headIn (now (stations .exit)) ≡ withGroup (headIn (now (stations .entry))) group set ⌝ }
+    ensures { λ _. ⌜ stationsIn (now (stations .exit)) ≡ stationsIn (now (stations .entry)) ⌝ }
+    ensures { λ _. ⌜ length (now (stations .exit)) ≡ length (now (stations .entry)) ⌝ }
+{
+    rows::put_word(stations, WIDTH, 0, GROUP + group as usize, set);
 }
 
 // How many messages the station has sent.
@@ -334,7 +358,7 @@ pub fn put_queue(stations: &mut [u64], m: usize, station: Station, carts: u64)
 pub fn clear_stations(stations: &mut [u64])
     ensures { λ _. ⌜ ((k : ℕ) → getD (now (stations .exit)) k 0 ≡ 0) ⌝ }
     ensures { λ _. ⌜ stationsIn (now (stations .exit)) ≡ noStations ⌝ }
-    ensures { λ _. ⌜ headIn (now (stations .exit)) ≡ head 0 0 0 ⌝ }
+    ensures { λ _. ⌜ headIn (now (stations .exit)) ≡ head 0 0 0 noGroups ⌝ }
     ensures { λ _. ⌜ length (now (stations .exit)) ≡ length (now (stations .entry)) ⌝ }
 {
     rows::clear(stations);

@@ -7,7 +7,7 @@ use native.Mathlib.Omega.{arith}
 use Rattle.protocol.specs.CartSets.{setOf}
 use Rattle.protocol.specs.Floor.{Product, Carts, localTo, outside, justStarted}
 use Rattle.protocol.proofs.SetLaws.{has-zero, has-setOf, setOf-lt, zero-below, same-members}
-use Rattle.stations.specs.View.{Stations, head, headIn, stationsIn, noStations}
+use Rattle.stations.specs.View.{Stations, head, noGroups, headIn, stationsIn, noStations}
 use Rattle.carts.specs.View.{cartsIn, canonicalIn, noCarts}
 use Rattle.messages.specs.View.{Rooms, roomsIn, noRooms}
 use Rattle.messages.specs.Texts.{textIn}
@@ -23,7 +23,7 @@ nobody : (t : ℕ) → setOf 64 (λ c. localTo outside t) ≡ 0
 nobody t = same-members 64 (setOf 64 (λ c. false)) 0 (setOf-lt 64 (λ c. false)) (zero-below 64) (λ c l. has-setOf 64 (λ c. false) c l ∙ sym (has-zero c))
 
 module _ {P : Product} (S C M W₀ W T : List ℕ) (n k : ℕ)
-    (top : headIn S ≡ head 1 n k) (no-stations : stationsIn S ≡ noStations) (no-carts : cartsIn C ≡ noCarts) (canonical : canonicalIn C ≡ (λ c. true))
+    (top : headIn S ≡ head 1 n k noGroups) (no-stations : stationsIn S ≡ noStations) (no-carts : cartsIn C ≡ noCarts) (canonical : canonicalIn C ≡ (λ c. true))
     (no-rooms : roomsIn M ≡ noRooms) (cleared : Cleared W₀ W) (sizes : Lengths (lent P S C M W T)) where
   abbrev L : Lent
   L = lent P S C M W T
@@ -44,4 +44,4 @@ module _ {P : Product} (S C M W₀ W T : List ℕ) (n k : ℕ)
   unfolding textIn
   start-view =
       (λ i. floorOf (lengthsIn L) (wordsIn L) (top i) (no-stations i) (no-carts i) (no-rooms i) (textsIn T (no-rooms i)) (linesIn W))
-      ∙ (λ i. floorOf (lengths-right L sizes i) (words-right L laid-start i) (head 1 n k) noStations noCarts noRooms (textsIn T noRooms) (clear-view W₀ W cleared i))
+      ∙ (λ i. floorOf (lengths-right L sizes i) (words-right L laid-start i) (head 1 n k noGroups) noStations noCarts noRooms (textsIn T noRooms) (clear-view W₀ W cleared i))

@@ -79,6 +79,7 @@ floorOf lengths words H S C R text lines =
       started = eqb (H .mark) 1;
       stations = H .stations;
       carts = H .carts;
+      groups = H .groups;
       sent = S .sent;
       expected = S .expected;
       place = C .place;

@@ -11,9 +11,8 @@ use borrow.Author.Tests.{eqb-true, ne-eqb, not-true}
 use Rattle.protocol.specs.Folds.{update}
 use Rattle.protocol.specs.CartSets.{has, setOf}
 use Rattle.protocol.specs.Floor.{Floor, Product, limitsOf, Record, multicast, put, toEvery}
-use Rattle.protocol.specs.Events.{send, done}
+use Rattle.protocol.specs.Events.{done}
 use Rattle.protocol.specs.Wired.{freeRoom, withMessage, onSend}
-use Rattle.protocol.specs.Step.{step}
 use Rattle.protocol.proofs.Tests.{by-test, by-lt, by-eq, clash, and-left, and-right, and-intro, eqb-self, on-update}
 use Rattle.protocol.proofs.SetLaws.{has-setOf, has-zero}
 use Rattle.protocol.proofs.Accepted.{MaySend}
@@ -33,7 +32,6 @@ use Rattle.view.proofs.RecordWords.{multicast-is, multicast-right}
 use Rattle.view.proofs.Standing.{Standing, few-stations}
 use Rattle.wired_lines.proofs.EveryView.{every-view, laid-every}
 use Rattle.wired_send.specs.Sent.{Sent}
-use Rattle.wired_send.proofs.SendRoom.{send-step}
 
 -- THE ROOMS WITH A NEW MESSAGE in a room that was free
 module _ (R : Rooms) (m s number set waiting octets : ℕ) (free : eqb (R .waiting m) 0 ≡ true) where
@@ -167,17 +165,8 @@ module _ {P : Product} (S S′ C M M′ W W′ T T′ : List ℕ) (m s set : ℕ
       λ i. floorOf ((lengths-right L′ lengths ∙ sym (lengths-right L (X .lengths))) i) ((words-right L′ laid ∙ sym (words-right L (X .laid))) i)
       (sent .top i) (sent .stations i) (cartsIn C) (sent .message .rooms i) (texts i) (lines i)
 
-  -- m is the first free room
-  module _ (found : freeRoom (limitsOf P) (floorIn L) ≡ some m) where
-    pub send-is : floorIn L′ ≡ onSend (limitsOf P) (floorIn L) s set text .floor
-    unfolding onSend
-    send-is = rw found message-is
-
-    -- and its report: no cart is passed over, and a record goes to each station
-    pub send-done : done (floorIn L′) 2 s number 0 n 0 [] ≡ onSend (limitsOf P) (floorIn L) s set text
-    unfolding onSend
-    send-done = rw found (ap (λ (G : Floor). done G 2 s number 0 n 0 []) message-is)
-
-    -- the whole event
-    pub send-event : floorIn L′ ≡ step (limitsOf P) (floorIn L) (send s set text)
-    send-event = message-is ∙ sym (send-step (limitsOf P) (floorIn L) s set text m (X .passes) found may)
+  -- m is the first free room: the whole step, and its report, of whatever kind: no cart is passed over, and a record goes to each station
+  pub send-done : freeRoom (limitsOf P) (floorIn L) ≡ some m → (kind : ℕ)
+      → done (floorIn L′) kind s number 0 n 0 [] ≡ onSend (limitsOf P) (floorIn L) kind s set text
+  unfolding onSend
+  send-done found kind = rw found (ap (λ (G : Floor). done G kind s number 0 n 0 []) message-is)

@@ -4,14 +4,14 @@ use mathlib.Core.Bool.{true}
 use mathlib.Core.List.{List}
 use Prim.Native.Nat.{ℕ}
 use lib.ListN.{length}
-use Rattle.stations.specs.View.{head, headIn, stationsIn, noStations}
+use Rattle.stations.specs.View.{head, noGroups, headIn, stationsIn, noStations}
 use Rattle.carts.specs.View.{cartsIn, canonicalIn, noCarts}
 use Rattle.messages.specs.View.{roomsIn, noRooms}
 use Rattle.lines.specs.Post.{Cleared}
 
 -- the mark of a started floor, n stations and k carts; nothing else
 pub record Begun (S S′ C C′ M M′ W W′ : List ℕ) (n k : ℕ) : Type 0 where
-  pub top : headIn S′ ≡ head 1 n k
+  pub top : headIn S′ ≡ head 1 n k noGroups
   pub stations : stationsIn S′ ≡ noStations
   pub station-words : length S′ ≡ length S
   pub carts : cartsIn C′ ≡ noCarts

@@ -76,6 +76,18 @@ flag-number-requires c κs = search needs
 report-requires-11 : tie.Need-report-requires-11
 report-requires-11 c κs = search needs
 
+enum-known-outcome-12 : tie.Need-enum-known-outcome-12
+enum-known-outcome-12 c = search needs
+
+report-requires-12 : tie.Need-report-requires-12
+report-requires-12 c κs = search needs
+
+enum-known-outcome-13 : tie.Need-enum-known-outcome-13
+enum-known-outcome-13 c = search needs
+
+report-requires-13 : tie.Need-report-requires-13
+report-requires-13 c κs = search needs
+
 returns : tie.Need-returns
 returns c = let f = c .before .before .before .before .args .effect in c .report .ensures ∙ sym (ap (λ (o : Outcome). reportOf o f) (c .before .before .outcome .given .1))
 
@@ -114,6 +126,12 @@ returns-11 c =
     ∙ ap (λ (n : ℕ). values 6 (flagged .before .before .outcome11 .given .0 .0 .0) n f) (flagged .flag-number .ensures)
     ∙ sym (ap (λ (o : Outcome). reportOf o f) (flagged .before .before .outcome11 .given .1))
 
+returns-12 : tie.Need-returns-12
+returns-12 c = let f = c .before .before .before .before .args .effect in c .report12 .ensures ∙ sym (ap (λ (o : Outcome). reportOf o f) (c .before .before .outcome12 .given .1))
+
+returns-13 : tie.Need-returns-13
+returns-13 c = let f = c .before .before .before .before .args .effect in c .report13 .ensures ∙ sym (ap (λ (o : Outcome). reportOf o f) (c .before .before .outcome13 .given .1))
+
 pub report-of-spec : {M : Type 1} → statement M
 report-of-spec =
     tie.close
@@ -141,6 +159,10 @@ report-of-spec =
     enum-known-outcome-11
     flag-number-requires
     report-requires-11
+    enum-known-outcome-12
+    report-requires-12
+    enum-known-outcome-13
+    report-requires-13
     returns
     returns-2
     returns-3
@@ -151,4 +173,6 @@ report-of-spec =
     returns-8
     returns-9
     returns-10
-    returns-11)
+    returns-11
+    returns-12
+    returns-13)

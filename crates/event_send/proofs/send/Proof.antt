@@ -1,15 +1,15 @@
 -- `event_send::send` meets its contract.
-use mathlib.Core.Path.{refl}
+use mathlib.Core.Path.{refl, sym, _∙_}
 use mathlib.Core.Bool.{false}
 use native.Mathlib.Omega.{arith}
 use denote.Ref.{now}
+use borrow.Author.Needs.{needs}
 use Rattle.protocol.specs.Events.{send}
 use Rattle.view.specs.View.{lent}
 use Rattle.event_answers.proofs.Meets.{meets-no}
 use Rattle.event_answers.proofs.Broken.{broken-send}
 use Rattle.event_answers.proofs.Readies.{has-head, started-passes, unstarted-breaks}
-use Rattle.event_send.proofs.SendMeets.{searched, rooms-asked, checks-asked, has-station, send-asks, meets-send}
-use borrow.Author.Needs.{needs}
+use Rattle.event_send.proofs.SendMeets.{searched, rooms-asked, checks-asked, send-may, send-posts, can-post, meets-posted}
 use Rattle.event_send.proofs.send.Statement.{statement}
 use Rattle.event_send.proofs.send.Tie as tie
 
@@ -17,36 +17,34 @@ is-started-requires : tie.Need-is-started-requires
 is-started-requires c κs =
     let start = c .before .before .before .before .before .before .before in
     let a = start .args in
-    has-head (lent (start .pre .0 .0) (now (a .stations)) (now (a .carts)) (now (a .messages)) (now (a .lines)) (now (a .texts))) (start .pre .0 .2)
+    let P = start .pre .0 .0 in
+    has-head (lent P (now (a .stations)) (now (a .carts)) (now (a .messages)) (now (a .lines)) (now (a .texts))) (start .pre .0 .2)
 
 same-length : tie.Need-same-length
 same-length c = search needs
 
 returns : tie.Need-returns
 returns c =
-    let asked = c .before in
-    let start = asked .before .before .before .before .before .before .before .before in
+    let start = c .before .before .before .before .before .before .before .before .before in
     let a = start .args in
-    λ P numbers R. broken-send (lent P (now (a .stations)) (now (a .carts)) (now (a .messages)) (now (a .lines)) (now (a .texts))) false (unstarted-breaks (lent P (now (a .stations)) (now (a .carts)) (now (a .messages)) (now (a .lines)) (now (a .texts))) _ (asked .is-started .ensures) (c .if1 .taken)) refl (a .station .0) (a .set) (now (a .text)) (start .pre .1)
+    λ P numbers R. broken-send (lent P (now (a .stations)) (now (a .carts)) (now (a .messages)) (now (a .lines)) (now (a .texts))) false (unstarted-breaks (lent P (now (a .stations)) (now (a .carts)) (now (a .messages)) (now (a .lines)) (now (a .texts))) _ (c .before .is-started .ensures) (c .if1 .taken)) refl (a .station .0) (a .set) (now (a .text)) (start .pre .1)
 
 free-room-requires : tie.Need-free-room-requires
 free-room-requires c κs =
-    let begun = c .before in
-    let start = begun .before .before .before .before .before .before .before .before .before in
+    let start = c .before .before .before .before .before .before .before .before .before .before in
     let a = start .args in
     let P = start .pre .0 .0 in
     let numbers = start .pre .0 .1 in
-    let passes = (started-passes (lent P (now (a .stations)) (now (a .carts)) (now (a .messages)) (now (a .lines)) (now (a .texts))) _ (begun .before .is-started .ensures) (start .pre .0 .2) (begun .if1 .left)) in
+    let passes = started-passes (lent P (now (a .stations)) (now (a .carts)) (now (a .messages)) (now (a .lines)) (now (a .texts))) _ (c .before .before .is-started .ensures) (start .pre .0 .2) (c .before .if1 .left) in
     rooms-asked P (a .bounds) numbers (now (a .stations)) (now (a .carts)) (now (a .messages)) (now (a .lines)) (now (a .texts)) passes
 
 send-refusal-requires : tie.Need-send-refusal-requires
 send-refusal-requires c κs =
-    let begun = c .before .before .before in
-    let start = begun .before .before .before .before .before .before .before .before .before in
+    let start = c .before .before .before .before .before .before .before .before .before .before .before .before in
     let a = start .args in
     let P = start .pre .0 .0 in
     let numbers = start .pre .0 .1 in
-    let passes = (started-passes (lent P (now (a .stations)) (now (a .carts)) (now (a .messages)) (now (a .lines)) (now (a .texts))) _ (begun .before .is-started .ensures) (start .pre .0 .2) (begun .if1 .left)) in
+    let passes = started-passes (lent P (now (a .stations)) (now (a .carts)) (now (a .messages)) (now (a .lines)) (now (a .texts))) _ (c .before .before .before .before .is-started .ensures) (start .pre .0 .2) (c .before .before .before .if1 .left) in
     let asked = checks-asked P (a .bounds) numbers (now (a .stations)) (now (a .carts)) (now (a .messages)) (now (a .lines)) (now (a .texts)) passes in
     (asked .0, asked .1, asked .2, asked .3, start .pre .1)
 
@@ -58,57 +56,22 @@ same-length-3 c = search needs
 
 returns-2 : tie.Need-returns-2
 returns-2 c =
-    let checked = c .before in
-    let searching = checked .before .before in
-    let begun = searching .before .before in
-    let start = begun .before .before .before .before .before .before .before .before .before in
+    let start = c .before .before .before .before .before .before .before .before .before .before .before .before .before .before in
     let a = start .args in
     λ P numbers R.
-    let room = searched P (a .bounds) numbers (now (a .messages)) _ (searching .free-room .ensures) in
-    let told = checked .send-refusal .ensures P (now (a .messages)) (now (a .lines)) (now (a .texts)) (numbers .last-is) room in
-    meets-no (lent P (now (a .stations)) (now (a .carts)) (now (a .messages)) (now (a .lines)) (now (a .texts))) (send (a .station .0) (a .set) (now (a .text))) _ (started-passes (lent P (now (a .stations)) (now (a .carts)) (now (a .messages)) (now (a .lines)) (now (a .texts))) _ (begun .before .is-started .ensures) R (begun .if1 .left)) told (c .if2 .taken)
+    let room = searched P (a .bounds) numbers (now (a .messages)) _ (c .before .before .before .free-room .ensures) in
+    meets-no (lent P (now (a .stations)) (now (a .carts)) (now (a .messages)) (now (a .lines)) (now (a .texts))) (send (a .station .0) (a .set) (now (a .text))) _ (started-passes (lent P (now (a .stations)) (now (a .carts)) (now (a .messages)) (now (a .lines)) (now (a .texts))) _ (c .before .before .before .before .before .before .is-started .ensures) R (c .before .before .before .before .before .if1 .left)) (c .before .send-refusal .ensures P (now (a .messages)) (now (a .lines)) (now (a .texts)) (numbers .last-is) room) (c .if2 .taken)
 
-station-count-requires : tie.Need-station-count-requires
-station-count-requires c κs =
-    let begun = c .before .before .before .before .before .before in
-    let start = begun .before .before .before .before .before .before .before .before .before in
+post-requires : tie.Need-post-requires
+post-requires c κs =
+    let start = c .before .before .before .before .before .before .before .before .before .before .before .before .before .before .before .before .before .before in
     let a = start .args in
     let P = start .pre .0 .0 in
     let numbers = start .pre .0 .1 in
-    let passes = (started-passes (lent P (now (a .stations)) (now (a .carts)) (now (a .messages)) (now (a .lines)) (now (a .texts))) _ (begun .before .is-started .ensures) (start .pre .0 .2) (begun .if1 .left)) in
-    omega (arith, checks-asked P (a .bounds) numbers (now (a .stations)) (now (a .carts)) (now (a .messages)) (now (a .lines)) (now (a .texts)) passes .0)
-
-sent-of-requires : tie.Need-sent-of-requires
-sent-of-requires c κs =
-    let free = c .before .before .before in
-    let checked = free .before in
-    let searching = checked .before .before in
-    let begun = searching .before .before in
-    let start = begun .before .before .before .before .before .before .before .before .before in
-    let a = start .args in
-    let P = start .pre .0 .0 in
-    let numbers = start .pre .0 .1 in
-    let passes = (started-passes (lent P (now (a .stations)) (now (a .carts)) (now (a .messages)) (now (a .lines)) (now (a .texts))) _ (begun .before .is-started .ensures) (start .pre .0 .2) (begun .if1 .left)) in
-    let room = searched P (a .bounds) numbers (now (a .messages)) _ (searching .free-room .ensures) in
-    let told = checked .send-refusal .ensures P (now (a .messages)) (now (a .lines)) (now (a .texts)) (numbers .last-is) room in
-    has-station P (a .bounds) numbers (now (a .stations)) (now (a .carts)) (now (a .messages)) (now (a .lines)) (now (a .texts)) passes (a .station .0) (a .set) (searching .free-room .result) (now (a .text)) room _ told (free .if2 .left)
-
-on-send-requires : tie.Need-on-send-requires
-on-send-requires c κs =
-    let numbered = c .before .before .before .before in
-    let counted = numbered .before .before in
-    let free = counted .before .before in
-    let checked = free .before in
-    let searching = checked .before .before in
-    let begun = searching .before .before in
-    let start = begun .before .before .before .before .before .before .before .before .before in
-    let a = start .args in
-    let P = start .pre .0 .0 in
-    let numbers = start .pre .0 .1 in
-    let passes = (started-passes (lent P (now (a .stations)) (now (a .carts)) (now (a .messages)) (now (a .lines)) (now (a .texts))) _ (begun .before .is-started .ensures) (start .pre .0 .2) (begun .if1 .left)) in
-    let room = searched P (a .bounds) numbers (now (a .messages)) _ (searching .free-room .ensures) in
-    let told = checked .send-refusal .ensures P (now (a .messages)) (now (a .lines)) (now (a .texts)) (numbers .last-is) room in
-    send-asks P (a .bounds) numbers (now (a .stations)) (now (a .carts)) (now (a .messages)) (now (a .lines)) (now (a .texts)) passes (a .station .0) (a .set) (searching .free-room .result) (now (a .text)) room _ told (free .if2 .left) _ _ (counted .station-count .ensures) (numbered .sent-of .ensures)
+    let passes = started-passes (lent P (now (a .stations)) (now (a .carts)) (now (a .messages)) (now (a .lines)) (now (a .texts))) _ (c .before .before .before .before .before .before .before .before .before .before .is-started .ensures) (start .pre .0 .2) (c .before .before .before .before .before .before .before .before .before .if1 .left) in
+    let room = searched P (a .bounds) numbers (now (a .messages)) _ (c .before .before .before .before .before .before .before .free-room .ensures) in
+    let may = send-may P (a .bounds) numbers (now (a .stations)) (now (a .carts)) (now (a .messages)) (now (a .lines)) (now (a .texts)) passes (a .station .0) (a .set) (now (a .text)) _ (c .before .before .before .before .before .send-refusal .ensures P (now (a .messages)) (now (a .lines)) (now (a .texts)) (numbers .last-is) room) (c .before .before .before .before .if2 .left) in
+    can-post P (a .bounds) numbers (now (a .stations)) (now (a .carts)) (now (a .messages)) (now (a .lines)) (now (a .texts)) passes (a .station .0) (a .set) _ (now (a .text)) room may
 
 same-length-4 : tie.Need-same-length-4
 same-length-4 c = search needs
@@ -124,19 +87,15 @@ same-length-7 c = search needs
 
 returns-3 : tie.Need-returns-3
 returns-3 c =
-    let done = c .before .before .before .before .before .before .before .before in
-    let numbered = done .before .before .before .before .before in
-    let counted = numbered .before .before in
-    let free = counted .before .before in
-    let checked = free .before in
-    let searching = checked .before .before in
-    let begun = searching .before .before in
-    let start = begun .before .before .before .before .before .before .before .before .before in
+    let start = c .before .before .before .before .before .before .before .before .before .before .before .before .before .before .before .before .before .before .before .before .before .before .before .before .before .before .before .before .before in
     let a = start .args in
     λ P numbers R.
-    let room = searched P (a .bounds) numbers (now (a .messages)) _ (searching .free-room .ensures) in
-    let told = checked .send-refusal .ensures P (now (a .messages)) (now (a .lines)) (now (a .texts)) (numbers .last-is) room in
-    meets-send P (a .bounds) numbers (now (a .stations)) (now (a .carts)) (now (a .messages)) (now (a .lines)) (now (a .texts)) (started-passes (lent P (now (a .stations)) (now (a .carts)) (now (a .messages)) (now (a .lines)) (now (a .texts))) _ (begun .before .is-started .ensures) R (begun .if1 .left)) (a .station .0) (a .set) (searching .free-room .result) (now (a .text)) room _ told (free .if2 .left) _ _ (counted .station-count .ensures) (numbered .sent-of .ensures) _ _ _ _ _ (done .on-send .ensures .0) (done .on-send .ensures .1)
+    let passes = started-passes (lent P (now (a .stations)) (now (a .carts)) (now (a .messages)) (now (a .lines)) (now (a .texts))) _ (c .before .before .before .before .before .before .before .before .before .before .before .before .before .before .before .before .before .before .before .before .before .is-started .ensures) R (c .before .before .before .before .before .before .before .before .before .before .before .before .before .before .before .before .before .before .before .before .if1 .left) in
+    let room = searched P (a .bounds) numbers (now (a .messages)) _ (c .before .before .before .before .before .before .before .before .before .before .before .before .before .before .before .before .before .before .free-room .ensures) in
+    let told = c .before .before .before .before .before .before .before .before .before .before .before .before .before .before .before .before .send-refusal .ensures P (now (a .messages)) (now (a .lines)) (now (a .texts)) (numbers .last-is) room in
+    let may = send-may P (a .bounds) numbers (now (a .stations)) (now (a .carts)) (now (a .messages)) (now (a .lines)) (now (a .texts)) passes (a .station .0) (a .set) (now (a .text)) _ told (c .before .before .before .before .before .before .before .before .before .before .before .before .before .before .before .if2 .left) in
+    meets-posted P (a .bounds) numbers (now (a .stations)) (now (a .carts)) (now (a .messages)) (now (a .lines)) (now (a .texts)) passes (a .station .0) (a .set) _ (now (a .text)) room may (send (a .station .0) (a .set) (now (a .text))) 2 (sym told ∙ c .before .before .before .before .before .before .before .before .before .before .before .before .before .before .before .if2 .left)
+    (send-posts P (a .bounds) numbers (now (a .stations)) (now (a .carts)) (now (a .messages)) (now (a .lines)) (now (a .texts)) passes (a .station .0) (a .set) (now (a .text))) _ _ _ _ _ (c .before .before .before .before .before .before .before .before .before .before .post .ensures)
 
 pub send-spec : {M : Type 1} → statement M
 send-spec =
@@ -150,9 +109,7 @@ send-spec =
     same-length-2
     same-length-3
     returns-2
-    station-count-requires
-    sent-of-requires
-    on-send-requires
+    post-requires
     same-length-4
     same-length-5
     same-length-6

@@ -14,7 +14,7 @@ use Rattle.products.specs.declared.Bounds.{Bounds}
 use Rattle.products.specs.Numbers.{NumbersOf}
 use Rattle.products.proofs.Numbers.{productOf, its-numbers}
 use Rattle.form_test.proofs.Lengths.{right-lengths}
-use Rattle.form_test.proofs.Split.{fails-lengths, fails-tables, rests-on-lines}
+use Rattle.form_test.proofs.Split.{fails-lengths, fails-tables, fails-groups, rests-on-lines}
 use Rattle.form_test.proofs.passes.Statement.{statement}
 use Rattle.form_test.proofs.passes.Tie as tie
 
@@ -49,8 +49,8 @@ returns-2 c =
     λ P e. fails-tables P (a .stations .now) (a .carts .now) (a .messages .now) (a .lines .now) (a .texts .now) (t .result)
     (t .ensures (limitsOf P) (e .last-is) ∙ as-of P (a .bounds) (a .stations .now) (a .carts .now) (a .messages .now) e) (not-true _ (c .if2 .taken))
 
-lines-pass-requires : tie.Need-lines-pass-requires
-lines-pass-requires c κs =
+groups-pass-requires : tie.Need-groups-pass-requires
+groups-pass-requires c κs =
     let a = c .before .before .before .before .before .before .before .before .before .args in
     let f = c .before .before .before .before .before .before .before .before .before .pre in
     let t = c .before .before .before .lengths-ok in
@@ -59,6 +59,27 @@ lines-pass-requires c κs =
     let L : Lent = lent P (a .stations .now) (a .carts .now) (a .messages .now) (a .lines .now) (a .texts .now) in
     let h : Lengths L = right-lengths L (t .result) (t .ensures P (its-numbers (a .bounds) f)) (not-false _ (c .before .before .if1 .left)) in
     let counts = passed (tablesRule (limitsOf P) (a .bounds .stations) (a .bounds .carts) (a .bounds .held) (a .stations .now) (a .carts .now) (a .messages .now)) (s .result) (s .ensures (limitsOf P) refl) (not-false _ (c .if2 .left)) .0 in
+    let b = f .few-carts in
+    let on = counts .1 .1 .1 in
+    let rows = h .carts in
+    (omega (arith, h .stations), omega arith, omega arith)
+
+returns-3 : tie.Need-returns-3
+returns-3 c =
+    let a = c .before .before .before .before .before .before .before .before .before .before .before .args in
+    let t = c .before .groups-pass in
+    λ P e. fails-groups P (a .stations .now) (a .carts .now) (a .messages .now) (a .lines .now) (a .texts .now) (t .result) (t .ensures) (not-true _ (c .if3 .taken))
+
+lines-pass-requires : tie.Need-lines-pass-requires
+lines-pass-requires c κs =
+    let a = c .before .before .before .before .before .before .before .before .before .before .before .args in
+    let f = c .before .before .before .before .before .before .before .before .before .before .before .pre in
+    let t = c .before .before .before .before .before .lengths-ok in
+    let s = c .before .before .before .tables-pass in
+    let P = productOf (a .bounds) f in
+    let L : Lent = lent P (a .stations .now) (a .carts .now) (a .messages .now) (a .lines .now) (a .texts .now) in
+    let h : Lengths L = right-lengths L (t .result) (t .ensures P (its-numbers (a .bounds) f)) (not-false _ (c .before .before .before .before .if1 .left)) in
+    let counts = passed (tablesRule (limitsOf P) (a .bounds .stations) (a .bounds .carts) (a .bounds .held) (a .stations .now) (a .carts .now) (a .messages .now)) (s .result) (s .ensures (limitsOf P) refl) (not-false _ (c .before .before .if2 .left)) .0 in
     let b = f .few-carts in
     let on = counts .1 .1 .1 in
     let rows = h .carts in (
@@ -71,14 +92,16 @@ lines-pass-requires c κs =
       pool-sized P (a .lines .now) (h .lines),
     )
 
-returns-3 : tie.Need-returns-3
-returns-3 c =
-    let a = c .before .before .before .before .before .before .before .before .before .before .args in
-    let t = c .before .before .before .before .lengths-ok in
-    let s = c .before .before .tables-pass in
-    λ P e. rests-on-lines P (a .stations .now) (a .carts .now) (a .messages .now) (a .lines .now) (a .texts .now) (t .result) (s .result) (c .lines-pass .result)
-    (t .ensures P e) (not-false _ (c .before .before .before .if1 .left))
-    (s .ensures (limitsOf P) (e .last-is) ∙ as-of P (a .bounds) (a .stations .now) (a .carts .now) (a .messages .now) e) (not-false _ (c .before .if2 .left)) (c .lines-pass .ensures P (a .texts .now))
+returns-4 : tie.Need-returns-4
+returns-4 c =
+    let a = c .before .before .before .before .before .before .before .before .before .before .before .before .args in
+    let t = c .before .before .before .before .before .before .lengths-ok in
+    let s = c .before .before .before .before .tables-pass in
+    let g = c .before .before .groups-pass in
+    λ P e. rests-on-lines P (a .stations .now) (a .carts .now) (a .messages .now) (a .lines .now) (a .texts .now) (t .result) (s .result) (g .result) (c .lines-pass .result)
+    (t .ensures P e) (not-false _ (c .before .before .before .before .before .if1 .left))
+    (s .ensures (limitsOf P) (e .last-is) ∙ as-of P (a .bounds) (a .stations .now) (a .carts .now) (a .messages .now) e) (not-false _ (c .before .before .before .if2 .left))
+    (g .ensures) (not-false _ (c .before .if3 .left)) (c .lines-pass .ensures P (a .texts .now))
 
 pub passes-spec : {M : Type 1} → statement M
 passes-spec =
@@ -88,5 +111,7 @@ passes-spec =
     returns
     tables-pass-requires
     returns-2
+    groups-pass-requires
+    returns-3
     lines-pass-requires
-    returns-3)
+    returns-4)

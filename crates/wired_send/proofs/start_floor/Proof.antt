@@ -1,6 +1,7 @@
 -- `wired_send::start_floor` meets its contract.
-use mathlib.Core.Path.{_∙_}
+use mathlib.Core.Path.{ap, _∙_}
 use borrow.Author.Needs.{needs}
+use Rattle.stations.specs.View.{Head, head}
 use Rattle.wired_send.proofs.start_floor.Statement.{statement}
 use Rattle.wired_send.proofs.start_floor.Tie as tie
 
@@ -37,8 +38,9 @@ returns c =
     let y = c .before .before .before .before .before .before .before .before .before .before .before .before .before .before .put-head .ensures in
     let k = c .before .before .before .before .before .before .before .before .before .before .clear-carts .ensures in
     let m = c .before .before .before .before .before .before .clear-messages .ensures in
+    let a = c .before .before .before .before .before .before .before .before .before .before .before .before .before .before .before .before .before .before .before .before .before .before .before .before .args in
     record {
-      top = y .0;
+      top = y .0 ∙ ap (λ (H : Head). head 1 (a .n) (a .k) (H .groups)) (x .1 .1 .0);
       stations = y .1 .0 ∙ x .1 .0;
       station-words = y .1 .1 ∙ x .1 .1 .1;
       carts = k .0;

@@ -1,11 +1,11 @@
--- `event_send::all_entered` meets its contract. The invariant: the carts taken out have entered. The rest falls with each.
+-- `form_groups::all_entered` meets its contract. The invariant: the carts taken out have entered. The rest falls with each.
 use Prim.Native.Nat.{_<_}
 use native.Mathlib.Omega.{arith}
 use Rattle.carts.specs.View.{cartsIn}
 use Rattle.form_tables.proofs.Walks.{Walked, walk-start, walk-end, walk-member, walk-below, walk-no, walk-on, walk-less}
-use Rattle.event_send.proofs.SetChecks.{hasEntered, stays-out, came-in}
-use Rattle.event_send.proofs.all_entered.Statement.{statement}
-use Rattle.event_send.proofs.all_entered.Tie as tie
+use Rattle.form_groups.proofs.Entered.{hasEntered, stays-out, came-in}
+use Rattle.form_groups.proofs.all_entered.Statement.{statement}
+use Rattle.form_groups.proofs.all_entered.Tie as tie
 
 abbrev Inv-loop : tie.InvT-loop
 Inv-loop carts set rest₀ rest = (rest < 18446744073709551616) × Walked 64 set (hasEntered (cartsIn carts .place)) rest

@@ -1,8 +1,8 @@
--- `event_send::is_outside` meets its contract.
-use Rattle.event_send.proofs.SetChecks.{met-outside, met-at, met-leaving, met-travelling}
+-- `form_groups::is_outside` meets its contract.
+use Rattle.form_groups.proofs.Entered.{met-outside, met-at, met-leaving, met-travelling}
 use borrow.Author.Needs.{needs}
-use Rattle.event_send.proofs.is_outside.Statement.{statement}
-use Rattle.event_send.proofs.is_outside.Tie as tie
+use Rattle.form_groups.proofs.is_outside.Statement.{statement}
+use Rattle.form_groups.proofs.is_outside.Tie as tie
 
 place-of-requires : tie.Need-place-of-requires
 place-of-requires c κs = search needs

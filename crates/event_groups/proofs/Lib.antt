@@ -1,0 +1,2 @@
+pub mod GroupChecks
+pub mod GroupMeets
