@@ -1,4 +1,4 @@
-// THE CONTROLLER: the seven events over a floor in lent memory. Each takes any numbers and any lent parts, refuses first, "Checks run down the
+// THE CONTROLLER: the nine events over a floor in lent memory. Each takes any numbers and any lent parts, refuses first, "Checks run down the
 // table; the first that applies is the answer", and leaves exactly the written floor. A contract `Met L L′ e a` says of the lent parts
 // before and after: the answer is the written one, the floor that they say is the written step's, and a refusal changed no word of them.
 use dispatcher::Quiet;
@@ -8,7 +8,8 @@ use ids::Station;
 use products::Bounds;
 ghost use mathlib.Core.List.{[]};
 ghost use Rattle.protocol.specs.Floor.{wholeFloor};
-ghost use Rattle.protocol.specs.Events.{start, enter, send, wire, move, flag};
+ghost use Rattle.protocol.specs.Events.{start, enter, send, wire, move, flag, sendGroup};
+ghost use Rattle.protocol.specs.Events as events;
 ghost use Rattle.products.specs.Numbers.{Fits, NumbersOf};
 ghost use Rattle.view.specs.View.{lent};
 ghost use Rattle.event_answers.specs.Answers.{answerIn};
@@ -183,6 +184,56 @@ pub fn flag_cart(
         texts,
         cart,
         steady,
+        own_bounds(),
+    )
+}
+
+// "Kind 7 carries a group number .. and the set; an empty set undefines the group".
+pub fn define_group(
+    stations: &mut [u64],
+    carts: &[u64],
+    messages: &[u64],
+    lines: &[u64],
+    texts: &[u8],
+    group: u64,
+    set: u64,
+) -> Answer
+    ensures { λ a. ⌜ Met (lent wholeFloor (now (stations .entry)) (now (carts .entry)) (now (messages .entry)) (now (lines .entry)) (now (texts .entry))) (lent wholeFloor (now (stations .exit)) (now (carts .entry)) (now (messages .entry)) (now (lines .entry)) (now (texts .entry))) (events.group group set) (answerIn a []) ⌝ }
+{
+    tested_events::define_group(
+        stations,
+        carts,
+        messages,
+        lines,
+        texts,
+        group,
+        set,
+        own_bounds(),
+    )
+}
+
+// "Kind 8 .. sends to the members as they are at that send".
+pub fn send_group(
+    stations: &mut [u64],
+    carts: &[u64],
+    messages: &mut [u64],
+    lines: &mut [u64],
+    texts: &mut [u8],
+    station: Station,
+    group: u64,
+    text: &[u8],
+) -> Answer
+    ensures { λ a. ⌜ Met (lent wholeFloor (now (stations .entry)) (now (carts .entry)) (now (messages .entry)) (now (lines .entry)) (now (texts .entry))) (lent wholeFloor (now (stations .exit)) (now (carts .entry)) (now (messages .exit)) (now (lines .exit)) (now (texts .exit))) (sendGroup (station .0) group (now (text .entry))) (answerIn a []) ⌝ }
+{
+    tested_events::send_group(
+        stations,
+        carts,
+        messages,
+        lines,
+        texts,
+        station,
+        group,
+        text,
         own_bounds(),
     )
 }

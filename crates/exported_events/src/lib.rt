@@ -12,7 +12,8 @@ ghost use Prim.Native.Nat.{_≤_};
 ghost use lib.Dec.{eqb};
 ghost use lib.ListN.{length, set};
 ghost use Rattle.protocol.specs.Floor.{wholeFloor};
-ghost use Rattle.protocol.specs.Events.{start, enter, send, wire, move, flag};
+ghost use Rattle.protocol.specs.Events.{start, enter, send, wire, move, flag, sendGroup};
+ghost use Rattle.protocol.specs.Events as events;
 ghost use Rattle.view.specs.View.{lent};
 ghost use Rattle.event_answers.specs.Met.{Ready};
 ghost use Rattle.exported_events.specs.Words.{answerRow, answerWords, quietWords, Answered, AnsweredText, AnsweredQuiet};
@@ -272,6 +273,54 @@ pub extern "C" fn mekhturia_flag(
     put_answer_words(out, answer);
 }
 
+// "Kind 7 carries a group number .. and the set".
+#[no_mangle]
+pub extern "C" fn mekhturia_group(
+    stations: &mut [u64],
+    carts: &[u64],
+    messages: &[u64],
+    lines: &[u64],
+    texts: &[u8],
+    group: u64,
+    set: u64,
+    out: &mut [u64],
+)
+    requires { ⌜ 8 ≤ length (now out) ⌝ }
+    ensures { λ _. ⌜ Answered (lent wholeFloor (now (stations .entry)) (now (carts .entry)) (now (messages .entry)) (now (lines .entry)) (now (texts .entry))) (lent wholeFloor (now (stations .exit)) (now (carts .entry)) (now (messages .entry)) (now (lines .entry)) (now (texts .entry))) (events.group group set) [] (now (out .entry)) (now (out .exit)) ⌝ }
+{
+    let answer = controller::define_group(stations, carts, messages, lines, texts, group, set);
+    put_answer_words(out, answer);
+}
+
+// "Kind 8 .. sends to the members as they are at that send".
+#[no_mangle]
+pub extern "C" fn mekhturia_send_group(
+    stations: &mut [u64],
+    carts: &[u64],
+    messages: &mut [u64],
+    lines: &mut [u64],
+    texts: &mut [u8],
+    station: u64,
+    group: u64,
+    text: &[u8],
+    out: &mut [u64],
+)
+    requires { ⌜ 8 ≤ length (now out) ⌝ }
+    ensures { λ _. ⌜ Answered (lent wholeFloor (now (stations .entry)) (now (carts .entry)) (now (messages .entry)) (now (lines .entry)) (now (texts .entry))) (lent wholeFloor (now (stations .exit)) (now (carts .entry)) (now (messages .exit)) (now (lines .exit)) (now (texts .exit))) (sendGroup station group (now (text .entry))) [] (now (out .entry)) (now (out .exit)) ⌝ }
+{
+    let answer = controller::send_group(
+        stations,
+        carts,
+        messages,
+        lines,
+        texts,
+        Station(station),
+        group,
+        text,
+    );
+    put_answer_words(out, answer);
+}
+
 // "Run the floor until it is quiet", with a lent text buffer. Two words are enough for its answer.
 #[no_mangle]
 pub extern "C" fn mekhturia_quiet(
@@ -460,6 +509,58 @@ pub extern "C" fn mekhturia_step_flag(
         texts,
         CartNumber(cart),
         steady != 0,
+    );
+    put_answer_words(out, answer);
+}
+
+// The same of a group.
+#[no_mangle]
+pub extern "C" fn mekhturia_step_group(
+    stations: &mut [u64],
+    carts: &[u64],
+    messages: &[u64],
+    lines: &[u64],
+    texts: &[u8],
+    group: u64,
+    set: u64,
+    out: &mut [u64],
+)
+    requires { ⌜ Ready (lent wholeFloor (now stations) (now carts) (now messages) (now lines) (now texts)) ⌝ }
+    requires { ⌜ 8 ≤ length (now out) ⌝ }
+    ensures { λ _. ⌜ Answered (lent wholeFloor (now (stations .entry)) (now (carts .entry)) (now (messages .entry)) (now (lines .entry)) (now (texts .entry))) (lent wholeFloor (now (stations .exit)) (now (carts .entry)) (now (messages .entry)) (now (lines .entry)) (now (texts .entry))) (events.group group set) [] (now (out .entry)) (now (out .exit)) ⌝ }
+{
+    let answer = event_groups::define_group(stations, carts, messages, lines, texts, group, set);
+    put_answer_words(out, answer);
+}
+
+// The same of a send to a group.
+#[no_mangle]
+pub extern "C" fn mekhturia_step_send_group(
+    stations: &mut [u64],
+    carts: &[u64],
+    messages: &mut [u64],
+    lines: &mut [u64],
+    texts: &mut [u8],
+    station: u64,
+    group: u64,
+    text: &[u8],
+    out: &mut [u64],
+)
+    requires { ⌜ Ready (lent wholeFloor (now stations) (now carts) (now messages) (now lines) (now texts)) ⌝ }
+    requires { ⌜ length (now text) ≤ 32 ⌝ }
+    requires { ⌜ 8 ≤ length (now out) ⌝ }
+    ensures { λ _. ⌜ Answered (lent wholeFloor (now (stations .entry)) (now (carts .entry)) (now (messages .entry)) (now (lines .entry)) (now (texts .entry))) (lent wholeFloor (now (stations .exit)) (now (carts .entry)) (now (messages .exit)) (now (lines .exit)) (now (texts .exit))) (sendGroup station group (now (text .entry))) [] (now (out .entry)) (now (out .exit)) ⌝ }
+{
+    let answer = event_send::send_group(
+        stations,
+        carts,
+        messages,
+        lines,
+        texts,
+        Station(station),
+        group,
+        text,
+        products::floor_bounds(),
     );
     put_answer_words(out, answer);
 }

@@ -7,7 +7,7 @@ use native.Mathlib.Omega.{arith}
 use lib.ListN.{length, take, drop, length-take}
 use lib.Seq.{take-nil, take-take, drop-drop}
 use Rattle.protocol.specs.Floor.{Product}
-use Rattle.protocol.specs.Events.{send, refused}
+use Rattle.protocol.specs.Events.{send, sendGroup, refused}
 use Rattle.protocol.specs.Events as events
 use Rattle.protocol.specs.Printed.{restOf}
 use Rattle.products.specs.declared.Bounds.{Bounds}
@@ -15,7 +15,7 @@ use Rattle.products.specs.Numbers.{Fits, NumbersOf}
 use Rattle.view.specs.View.{Lent, lent}
 use Rattle.view.proofs.Lengths.{lengths-of}
 use Rattle.frames.specs.declared.Event.{Event}
-use Rattle.frames.specs.declared.Event.the-variants.{Send}
+use Rattle.frames.specs.declared.Event.the-variants.{Send, SendGroup}
 use Rattle.frames.specs.Decoded.{eventIn}
 use Rattle.ids.specs.declared.Station.{Station}
 use Rattle.reports.specs.Effects.{acceptedIn}
@@ -44,6 +44,11 @@ short-part l at n h = omega (arith, length-take (at + 16 + n - (at + 16)) (drop 
 pub send-is : (l : List ℕ) (at n : ℕ) (e : Event) (s : Station) (set : ℕ) → e ≡ Send s set n
     → eventIn (drop at l) e ≡ send (s .0) set (take (at + 16 + n - (at + 16)) (drop (at + 16) l))
 send-is l at n e s set q = ap (eventIn (drop at l)) q ∙ ap (λ (x : List ℕ). send (s .0) set x) (sym (text-part l at n (at + 16) (at + 16 + n) refl refl))
+
+-- and of a send to a group
+pub send-group-is : (l : List ℕ) (at n : ℕ) (e : Event) (s : Station) (g : ℕ) → e ≡ SendGroup s g n
+    → eventIn (drop at l) e ≡ sendGroup (s .0) g (take (at + 16 + n - (at + 16)) (drop (at + 16) l))
+send-group-is l at n e s g q = ap (eventIn (drop at l)) q ∙ ap (λ (x : List ℕ). sendGroup (s .0) g x) (sym (text-part l at n (at + 16) (at + 16 + n) refl refl))
 
 -- A FLOOR OF THESE NUMBERS: they fit, and where there is a room at least there is a part of the texts
 pub numbers-fit : (P : Product) (b : Bounds) → NumbersOf P b → Fits b
@@ -76,18 +81,18 @@ module _ (bounds : Bounds) (before after : Product → Lent) (ev e : events.Even
   on-frame a met = subst (λ (x : events.Event). MetWith bounds before after x a) (sym same) met
 
   -- an answer without a text
-  pub answered-plainly : 32 ≤ length T → (a : Answer) (next : ℕ) (r : Dispatched) → r ≡ record { next = next; told = toldOf a; room = 0; size = 0 }
+  pub answered-plainly : 32 ≤ length T → (a : Answer) (next octets : ℕ) (r : Dispatched) → r ≡ record { next = next; told = toldOf a; room = 0; size = 0; taken = octets }
       → MetWith bounds before after e (answerIn a []) → Answered bounds before after ev T r
-  answered-plainly long a next r is met =
+  answered-plainly long a next octets r is met =
       rw is (
         record { room = omega arith; part = λ z. omega arith; size = omega arith },
         on-frame (toldIn (toldOf a) []) (subst (λ (l : List ℕ). MetWith bounds before after e (toldIn (toldOf a) l)) (take-nil (octetsIn a)) met),
       )
 
   -- a radio step's, with its text where it lies
-  pub answered-text : (h : Handed) (next : ℕ) (t : Told) → t ≡ toldOf (h .answer) → Lies T 32 h → MetWith bounds before after e (handedIn T h)
-      → Answered bounds before after ev T (record { next = next; told = t; room = h .room; size = t .size })
-  answered-text h next t is lies met = rw is (record { room = lies .room; part = lies .part; size = lies .short }, on-frame (handedIn T h) met)
+  pub answered-text : (h : Handed) (next octets : ℕ) (t : Told) → t ≡ toldOf (h .answer) → Lies T 32 h → MetWith bounds before after e (handedIn T h)
+      → Answered bounds before after ev T (record { next = next; told = t; room = h .room; size = t .size; taken = octets })
+  answered-text h next octets t is lies met = rw is (record { room = lies .room; part = lies .part; size = lies .short }, on-frame (handedIn T h) met)
 
 -- THE REST OF THE LINE of what was dispatched
 module _ (T : List ℕ) (r : Dispatched) (out out′ : List ℕ) (at next : ℕ) where

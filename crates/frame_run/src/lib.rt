@@ -25,17 +25,18 @@ ghost use Rattle.frame_run.specs.Went.{Took, Turned, Went};
 const FRAME: usize = 16;
 
 // An event that was dispatched, its line begun: where the line goes on behind its index, what the event answered, and, of a radio step, in which
-// room's part of the texts its text lies and how many octets it has.
+// room's part of the texts its text lies and how many octets it has; and how many octets the event took of the input.
 struct Dispatched {
     next: usize,
     told: Told,
     room: usize,
     size: usize,
+    taken: usize,
 }
 
 // One that has no text.
-fn without_text(next: usize, answer: Answer) -> Dispatched
-    ensures { λ r. ⌜ r ≡ record { next = next; told = toldOf answer; room = 0; size = 0 } ⌝ }
+fn without_text(next: usize, taken: usize, answer: Answer) -> Dispatched
+    ensures { λ r. ⌜ r ≡ record { next = next; told = toldOf answer; room = 0; size = 0; taken = taken } ⌝ }
 {
     let told = event_answers::told_of(answer);
     Dispatched {
@@ -43,6 +44,7 @@ fn without_text(next: usize, answer: Answer) -> Dispatched
         told,
         room: 0,
         size: 0,
+        taken,
     }
 }
 
@@ -68,18 +70,18 @@ fn dispatch(
     requires { ⌜ (at + sizeOf e ≤ length (now input)) × (sizeOf e ≤ 48) ⌝ }
     requires { ⌜ (line + longestNumber ≤ length (now output)) × Tabled (now numbers) ⌝ }
     ensures { λ r. ⌜ Within (now (texts .exit)) r × MetWith bounds (λ P. lent P (now (stations .entry)) (now (carts .entry)) (now (messages .entry)) (now (lines .entry)) (now (texts .entry))) (λ P. lent P (now (stations .exit)) (now (carts .exit)) (now (messages .exit)) (now (lines .exit)) (now (texts .exit))) (eventIn (drop at (now (input .entry))) e) (dispatchedIn (now (texts .exit)) r) ⌝ }
-    ensures { λ r. ⌜ Began 3 longestNumber (decimal index) (now (output .entry)) (now (output .exit)) line (r .next) ⌝ }
+    ensures { λ r. ⌜ Began 3 longestNumber (decimal index) (now (output .entry)) (now (output .exit)) line (r .next) × (r .taken ≡ sizeOf e) ⌝ }
 {
     match e {
         Event::Start(n, k) => {
             let next = frame_lines::put_index(output, line, numbers, index);
             let answer = event_start::start(stations, carts, messages, lines, texts, n, k, bounds);
-            without_text(next, answer)
+            without_text(next, FRAME, answer)
         }
         Event::Enter(station, cart) => {
             let next = frame_lines::put_index(output, line, numbers, index);
             let answer = event_carts::enter(stations, carts, messages, lines, texts, station, cart);
-            without_text(next, answer)
+            without_text(next, FRAME, answer)
         }
         Event::Send(station, set, size) => {
             let next = frame_lines::put_index(output, line, numbers, index);
@@ -96,12 +98,12 @@ fn dispatch(
                 text,
                 bounds,
             );
-            without_text(next, answer)
+            without_text(next, FRAME + size, answer)
         }
         Event::Wire(from, to) => {
             let next = frame_lines::put_index(output, line, numbers, index);
             let answer = event_wire::wire(stations, carts, messages, lines, texts, from, to);
-            without_text(next, answer)
+            without_text(next, FRAME, answer)
         }
         Event::Radio(station, cart) => {
             let next = frame_lines::put_index(output, line, numbers, index);
@@ -122,12 +124,13 @@ fn dispatch(
                 told,
                 room: handed.room,
                 size: told.size,
+                taken: FRAME,
             }
         }
         Event::Move(cart, to) => {
             let next = frame_lines::put_index(output, line, numbers, index);
             let answer = event_carts::move_cart(stations, carts, messages, lines, texts, cart, to);
-            without_text(next, answer)
+            without_text(next, FRAME, answer)
         }
         Event::Flag(cart, steady) => {
             let next = frame_lines::put_index(output, line, numbers, index);
@@ -140,7 +143,37 @@ fn dispatch(
                 cart,
                 steady,
             );
-            without_text(next, answer)
+            without_text(next, FRAME, answer)
+        }
+        Event::Group(group, set) => {
+            let next = frame_lines::put_index(output, line, numbers, index);
+            let answer = event_groups::define_group(
+                stations,
+                carts,
+                messages,
+                lines,
+                texts,
+                group,
+                set,
+            );
+            without_text(next, FRAME, answer)
+        }
+        Event::SendGroup(station, group, size) => {
+            let next = frame_lines::put_index(output, line, numbers, index);
+            let from = at + FRAME;
+            let text = &input[from..from + size];
+            let answer = event_send::send_group(
+                stations,
+                carts,
+                messages,
+                lines,
+                texts,
+                station,
+                group,
+                text,
+                bounds,
+            );
+            without_text(next, FRAME + size, answer)
         }
     }
 }
@@ -250,7 +283,7 @@ fn take_event(
     );
     let written = print(output, texts, numbers, dispatched);
     Progress {
-        read: p.read + frames::size_of(e),
+        read: p.read + dispatched.taken,
         written,
         frames: p.frames + 1,
         state: FULL,

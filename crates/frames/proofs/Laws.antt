@@ -9,11 +9,11 @@ use lib.Dec.{eqb}
 use lib.ListN.{length, getD, take, drop, length-drop, drop-of-length-le}
 use lib.Seq.{length-take-le, getD-take, getD-drop, drop-cons, take-take}
 use lib.Pow.{pow-mono, pow-add, mod-pow-add, shr-shr}
-use borrow.Author.Tests.{ne-eqb, lt-ltb, le-ltb, eqb-true}
-use Rattle.protocol.proofs.Tests.{by-test, by-lt, on-cond}
+use borrow.Author.Tests.{ne-eqb, lt-ltb, le-ltb}
+use Rattle.protocol.proofs.Tests.{by-test, by-lt}
 use Rattle.protocol.specs.Floor.{limits}
 use Rattle.protocol.specs.Folds.{isEmpty}
-use Rattle.protocol.specs.Events.{start, enter, send, wire, radio, move, flag}
+use Rattle.protocol.specs.Events.{start, enter, send, wire, radio, move, flag, group, sendGroup}
 use Rattle.protocol.specs.Frames.{Fields, Reading, bigEndian, fieldsOf, unlisted, eventOf, lastKind, fieldsRefusal, frameRefusal, frameOf, readAt, end, refusedFrame, taken}
 use Rattle.frames.specs.declared.Halves.{Halves}
 use Rattle.frames.specs.Decoded.{lowOctets, fieldsIn}
@@ -146,18 +146,26 @@ low-fields head set =
 
 -- cart and other are the ten bits below the station
 pub send-fields : (head : ℕ)
-    → (head / 2 ^ 46 % 1024 + head % 2 ^ 40 ≡ 0 → head / 2 ^ 50 % 64 + head / 2 ^ 46 % 16 + head % 2 ^ 40 ≡ 0)
-    × (head / 2 ^ 50 % 64 + head / 2 ^ 46 % 16 + head % 2 ^ 40 ≡ 0 → head / 2 ^ 46 % 1024 + head % 2 ^ 40 ≡ 0)
+    → (head % 2 ^ 40 + head / 2 ^ 46 % 1024 ≡ 0 → head / 2 ^ 50 % 64 + head / 2 ^ 46 % 16 + head % 2 ^ 40 ≡ 0)
+    × (head / 2 ^ 50 % 64 + head / 2 ^ 46 % 16 + head % 2 ^ 40 ≡ 0 → head % 2 ^ 40 + head / 2 ^ 46 % 1024 ≡ 0)
 send-fields head =
     sums (head / 2 ^ 50 % 64) (head / 2 ^ 46 % 16) (head % 2 ^ 40) (head / 2 ^ 46 % 1024)
     (mod-pow-add (head / 2 ^ 46) 6 4 ∙ ap (λ (n : ℕ). n % 64 * 16 + head / 2 ^ 46 % 16) (shr-shr head 46 4))
   where
     sums : (cart other zeros both : ℕ) → both ≡ cart * 16 + other
-        → (both + zeros ≡ 0 → cart + other + zeros ≡ 0) × (cart + other + zeros ≡ 0 → both + zeros ≡ 0)
+        → (zeros + both ≡ 0 → cart + other + zeros ≡ 0) × (cart + other + zeros ≡ 0 → zeros + both ≡ 0)
     sums cart other zeros both e = (λ z. omega arith, λ z. omega arith)
 
 -- the fields not listed for a kind
 module _ (f : Fields) where
+  pub unlisted-start : f .kind ≡ 0 → unlisted f ≡ f .other + f .length + f .zero + f .set
+  unfolding unlisted
+  unlisted-start k = rw k refl
+
+  pub unlisted-enter : f .kind ≡ 1 → unlisted f ≡ f .other + f .length + f .zero + f .set
+  unfolding unlisted
+  unlisted-enter k = rw k refl
+
   pub unlisted-send : f .kind ≡ 2 → unlisted f ≡ f .cart + f .other + f .zero
   unfolding unlisted
   unlisted-send k = rw k refl
@@ -165,6 +173,10 @@ module _ (f : Fields) where
   pub unlisted-wire : f .kind ≡ 3 → unlisted f ≡ f .cart + f .length + f .zero + f .set
   unfolding unlisted
   unlisted-wire k = rw k refl
+
+  pub unlisted-radio : f .kind ≡ 4 → unlisted f ≡ f .other + f .length + f .zero + f .set
+  unfolding unlisted
+  unlisted-radio k = rw k refl
 
   pub unlisted-move : f .kind ≡ 5 → unlisted f ≡ f .station + f .length + f .zero + f .set
   unfolding unlisted
@@ -174,9 +186,13 @@ module _ (f : Fields) where
   unfolding unlisted
   unlisted-flag k = rw k refl
 
-  pub unlisted-else : (f .kind ≡ 2 → ⊥) → (f .kind ≡ 3 → ⊥) → (f .kind ≡ 5 → ⊥) → (f .kind ≡ 6 → ⊥) → unlisted f ≡ f .other + f .length + f .zero + f .set
+  pub unlisted-group : f .kind ≡ 7 → unlisted f ≡ f .station + f .cart + f .length + f .zero
   unfolding unlisted
-  unlisted-else a b c d = rw (ne-eqb (f .kind) 2 a, ne-eqb (f .kind) 3 b, ne-eqb (f .kind) 5 c, ne-eqb (f .kind) 6 d) refl
+  unlisted-group k = rw k refl
+
+  pub unlisted-send-group : f .kind ≡ 8 → unlisted f ≡ f .cart + f .zero + f .set
+  unfolding unlisted
+  unlisted-send-group k = rw k refl
 
 -- REFUSALS
 
@@ -204,7 +220,7 @@ module _ (f : Fields) (behind : ℕ) where
 -- what is known of a frame that is not refused
 module _ (f : Fields) (behind : ℕ) (e : fieldsRefusal limits f behind ≡ 0) where
   kind-known : f .kind ≤ lastKind
-  kind-known = by-lt 6 (f .kind) (λ k. absurd (let z : 2 ≡ 0 = no-kind f behind k ∙ e in omega arith)) (λ k. k)
+  kind-known = by-lt lastKind (f .kind) (λ k. absurd (let z : 2 ≡ 0 = no-kind f behind k ∙ e in omega arith)) (λ k. k)
 
   listed : eqb (unlisted f) 0 ≡ true
   listed =
@@ -223,18 +239,6 @@ module _ (f : Fields) (behind : ℕ) (e : fieldsRefusal limits f behind ≡ 0) w
       (λ b. b)
 
 -- EVENTS
-
--- only a send has a text
-pub no-text : (f : Fields) → (f .kind ≡ 2 → ⊥) → unlisted f ≡ 0 → f .length ≡ 0
-unfolding unlisted
-no-text f h =
-    on-cond (λ (n : ℕ). n ≡ 0 → f .length ≡ 0) (eqb (f .kind) 2)
-    (λ e u. absurd (h (eqb-true (f .kind) 2 e)))
-    (λ _. on-cond (λ (n : ℕ). n ≡ 0 → f .length ≡ 0) (eqb (f .kind) 3)
-    (λ _ u. omega arith)
-    (λ _. on-cond (λ (n : ℕ). n ≡ 0 → f .length ≡ 0) (eqb (f .kind) 5)
-    (λ _ u. omega arith)
-    (λ _. on-cond (λ (n : ℕ). n ≡ 0 → f .length ≡ 0) (eqb (f .kind) 6) (λ _ u. omega arith) (λ _ u. omega arith))))
 
 -- the reading of a frame with these fields that is not refused, and these octets behind it
 abbrev pub frameWith : Fields → List ℕ → Reading
@@ -268,6 +272,14 @@ module _ (f : Fields) (text : List ℕ) where
   pub flag-event : f .kind ≡ 6 → flag (f .cart) (eqb (f .other) 1) ≡ eventOf limits f text
   unfolding eventOf
   flag-event k = rw k refl
+
+  pub group-event : f .kind ≡ 7 → group (f .other) (f .set) ≡ eventOf limits f text
+  unfolding eventOf
+  group-event k = rw k refl
+
+  pub send-group-event : f .kind ≡ 8 → sendGroup (f .station) (f .other) text ≡ eventOf limits f text
+  unfolding eventOf
+  send-group-event k = rw k refl
 
 -- READINGS
 

@@ -10,7 +10,7 @@ use lib.Seq.{take-append-le, drop-append-le}
 use borrow.Author.Tests.{lt-ltb, le-ltb}
 use Rattle.protocol.specs.Floor.{limits}
 use Rattle.protocol.specs.Refusals.{check}
-use Rattle.protocol.specs.Frames.{Fields, bigEndian, fieldsOf, unlisted, eventOf, fieldsRefusal, end, refusedFrame, taken, readAt}
+use Rattle.protocol.specs.Frames.{Fields, bigEndian, fieldsOf, unlisted, eventOf, lastKind, fieldsRefusal, end, refusedFrame, taken, readAt}
 use Rattle.protocol.proofs.Tests.{by-lt, by-eq}
 use Rattle.frames.proofs.Laws.{nothing-left, cut-frame, refused-frame, taken-frame, text-there}
 
@@ -50,7 +50,7 @@ none-with f x y h k e = rw (le-ltb y (f .length) k) (rw (le-ltb x (f .length) h)
 refusal-stands : (f : Fields) (behind more r : ℕ) → fieldsRefusal limits f behind ≡ r → (r ≡ 0 → ⊥) → (r ≡ 1 → ⊥) → fieldsRefusal limits f (behind + more) ≡ r
 unfolding fieldsRefusal
 refusal-stands f behind more r e n m =
-    same-check (ltb 6 (f .kind)) (not (eqb (unlisted f) 0)) (ltb 32 (f .length)) (check 1 (ltb behind (f .length)) 0) (check 1 (ltb (behind + more) (f .length)) 0) r e
+    same-check (ltb lastKind (f .kind)) (not (eqb (unlisted f) 0)) (ltb 32 (f .length)) (check 1 (ltb behind (f .length)) 0) (check 1 (ltb (behind + more) (f .length)) 0) r e
     (by-lt behind (f .length) (λ l q. m (sym q ∙ rw (lt-ltb behind (f .length) l) refl)) (λ l q. n (sym q ∙ rw (le-ltb behind (f .length) l) refl)))
 
 none-stands : (f : Fields) (behind more : ℕ) → fieldsRefusal limits f behind ≡ 0 → fieldsRefusal limits f (behind + more) ≡ 0

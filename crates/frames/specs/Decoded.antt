@@ -2,20 +2,21 @@
 use mathlib.Core.Bool.{cond}
 use mathlib.Core.List.{List, [], _∷_}
 use Prim.Native.Nat.{ℕ, zero, suc, _+_, _/_, _%_, _^_}
-use lib.Dec.{eqb}
+use lib.Dec.{eqb, ltb}
 use lib.ListN.{take, drop}
 use Rattle.protocol.specs.Floor.{limits}
-use Rattle.protocol.specs.Events.{start, enter, send, wire, radio, move, flag}
+use Rattle.protocol.specs.Events.{start, enter, send, wire, radio, move, flag, group, sendGroup}
 use Rattle.protocol.specs.Events as events
 use Rattle.protocol.specs.Frames.{Fields, eventOf, fieldsRefusal, end, refusedFrame, taken}
 use Rattle.protocol.specs.Frames as frames
 use Rattle.frames.specs.declared.Event.{Event}
-use Rattle.frames.specs.declared.Event.the-variants.{Start, Enter, Send, Wire, Radio, Move, Flag}
+use Rattle.frames.specs.declared.Event.the-variants.{Start, Enter, Send, Wire, Radio, Move, Flag, Group, SendGroup}
 use Rattle.frames.specs.declared.Reading.{Reading}
 use Rattle.frames.specs.declared.Reading.the-variants.{End, Refused, Taken}
 use Rattle.frames.specs.declared.Halves.{Halves}
 
--- the event, with these octets from its frame on: "A send is followed by its text"; a radio step's text buffer holds every text
+-- the event, with these octets from its frame on: "A send is followed by its text", and so is a send to a group; a radio step's text buffer
+-- holds every text
 abbrev pub eventIn : List ℕ → Event → events.Event
 eventIn l (Start n k) = start n k
 eventIn l (Enter t c) = enter (t .0) (c .0)
@@ -24,8 +25,10 @@ eventIn l (Wire i j) = wire (i .0) (j .0)
 eventIn l (Radio t c) = radio (t .0) (c .0) (limits .text)
 eventIn l (Move c to) = move (c .0) (to .0)
 eventIn l (Flag c b) = flag (c .0) b
+eventIn l (Group g set) = group g set
+eventIn l (SendGroup s g n) = sendGroup (s .0) g (take n (drop 16 l))
 
--- how many octets it took: "Sixteen octets", and a send's text
+-- how many octets it took: "Sixteen octets", and the text of a send, to a set or to a group
 abbrev pub sizeOf : Event → ℕ
 sizeOf (Start n k) = 16
 sizeOf (Enter t c) = 16
@@ -34,6 +37,8 @@ sizeOf (Wire i j) = 16
 sizeOf (Radio t c) = 16
 sizeOf (Move c to) = 16
 sizeOf (Flag c b) = 16
+sizeOf (Group g set) = 16
+sizeOf (SendGroup s g n) = 16 + n
 
 -- an event that was taken
 abbrev pub takenIn : List ℕ → Event → frames.Reading
@@ -76,9 +81,14 @@ fieldsIn f =
       set = f .set;
     }
 
--- an event whose frame has fields of this sum not listed for its kind
+-- an event whose frame has fields of this sum not listed for its kind: "Fields not listed for a kind must be zero"
 abbrev pub ifListed : ℕ → Event → Reading
 ifListed n e = cond (eqb n 0) (Taken e) (Refused 3)
+
+-- an event with a text of this length, and so many octets behind its frame: "Text of 32 accepted, 33 is 4", and then 1, "fewer text octets than
+-- the length"
+abbrev pub ifWhole : ℕ → ℕ → Event → Reading
+ifWhole length behind e = cond (ltb (limits .text) length) (Refused 4) (cond (ltb behind length) (Refused 1) (Taken e))
 
 -- the reading of a frame with these fields, at the front of these octets, and so many octets behind it
 abbrev pub frameIn : List ℕ → Fields → ℕ → frames.Reading

@@ -8,7 +8,7 @@ ghost use lib.ListN.{length, take, drop};
 ghost use lib.Seq.{paste};
 ghost use Rattle.protocol.specs.Floor.{limits};
 ghost use Rattle.protocol.specs.Frames.{bigEndian, fieldsOf, readAt};
-ghost use Rattle.frames.specs.Decoded.{lowOctets, fieldsIn, ifListed, frameIn, sizeOf, readingIn, refusalOf};
+ghost use Rattle.frames.specs.Decoded.{lowOctets, fieldsIn, ifListed, ifWhole, frameIn, sizeOf, readingIn, refusalOf};
 
 // An event.
 pub enum Event {
@@ -24,6 +24,10 @@ pub enum Event {
     Move(CartNumber, Station),
     // The cart, and whether it is steady.
     Flag(CartNumber, bool),
+    // The group, and its members from now on.
+    Group(u64, u64),
+    // The group, and how long the text is.
+    SendGroup(Station, u64, usize),
 }
 
 // What stands at a place: nothing, a frame that is refused, or an event.
@@ -112,8 +116,8 @@ fn halves_at(octets: &[u8], at: usize) -> Halves
     }
 }
 
-// The event of a frame whose kind does not list the low bits of the head, a field above them and the set, if all that is zero:
-// "Fields not listed for a kind must be zero."
+// The event of a frame whose kind does not list the low bits of the head, a field above them and the set, if all that is zero: "Fields not listed for a
+// kind must be zero."
 fn if_listed(low: u64, field: u64, set: u64, e: Event) -> Reading
     ensures { λ r. ⌜ r ≡ ifListed (low + field + set) e ⌝ }
 {
@@ -129,25 +133,31 @@ fn if_listed(low: u64, field: u64, set: u64, e: Event) -> Reading
     Reading::Taken(e)
 }
 
-// A send with so many octets behind its frame: "Checks run down the table".
-fn send_of(f: Halves, behind: usize) -> Reading
-    requires { ⌜ fieldsIn f .kind ≡ 2 ⌝ }
-    ensures { λ r. ⌜ ((l : List ℕ) → readingIn l r ≡ frameIn l (fieldsIn f) behind) ⌝ }
+// An event with a text of this length, and so many octets behind its frame: "Checks run down the table".
+fn if_whole(length: u64, behind: usize, e: Event) -> Reading
+    ensures { λ r. ⌜ r ≡ ifWhole length behind e ⌝ }
 {
-    if f.head / OTHER_BIT % 1024 != 0 {
-        return Reading::Refused(3);
-    }
-    if f.head % LENGTH_BIT != 0 {
-        return Reading::Refused(3);
-    }
-    let length = f.head / LENGTH_BIT % 64;
     if (products::TEXT as u64) < length {
         return Reading::Refused(4);
     }
     if (behind as u64) < length {
         return Reading::Refused(1);
     }
-    Reading::Taken(Event::Send(Station(f.head / STATION_BIT % 16), f.set, length as usize))
+    Reading::Taken(e)
+}
+
+// "2 send (station, length, set)", with so many octets behind the frame.
+fn send_of(f: Halves, behind: usize) -> Reading
+    requires { ⌜ fieldsIn f .kind ≡ 2 ⌝ }
+    ensures { λ r. ⌜ ((l : List ℕ) → readingIn l r ≡ frameIn l (fieldsIn f) behind) ⌝ }
+{
+    let stray = f.head % LENGTH_BIT + f.head / OTHER_BIT % 1024;
+    if stray != 0 {
+        return Reading::Refused(3);
+    }
+    let length = f.head / LENGTH_BIT % 64;
+    let e = Event::Send(Station(f.head / STATION_BIT % 16), f.set, length as usize);
+    if_whole(length, behind, e)
 }
 
 // "New frame kind 6 carries a cart and, in the other field, 1 for steady or 0 for not; 2 to 15 there is refusal 3": of that field all but the lowest bit
@@ -158,8 +168,55 @@ fn flag_of(f: Halves) -> Reading
 {
     let station = f.head / STATION_BIT % 16;
     let other = f.head / OTHER_BIT % 16;
+    let stray = station + other / 2;
     let e = Event::Flag(CartNumber(f.head / CART_BIT % 64), other == 1);
-    if_listed(f.head % OTHER_BIT, station + other / 2, f.set, e)
+    if_listed(f.head % OTHER_BIT, stray, f.set, e)
+}
+
+// "Kind 7 carries a group number in the other field and the set".
+fn group_of(f: Halves) -> Reading
+    requires { ⌜ fieldsIn f .kind ≡ 7 ⌝ }
+    ensures { λ r. ⌜ ((l : List ℕ) (behind : ℕ) → readingIn l r ≡ frameIn l (fieldsIn f) behind) ⌝ }
+{
+    let stray = f.head / STATION_BIT % 16 + f.head / CART_BIT % 64;
+    let e = Event::Group(f.head / OTHER_BIT % 16, f.set);
+    if_listed(f.head % OTHER_BIT, stray, 0, e)
+}
+
+// "Kind 8 carries station, group (other field) and length, then text", with so many octets behind the frame.
+fn send_group_of(f: Halves, behind: usize) -> Reading
+    requires { ⌜ fieldsIn f .kind ≡ 8 ⌝ }
+    ensures { λ r. ⌜ ((l : List ℕ) → readingIn l r ≡ frameIn l (fieldsIn f) behind) ⌝ }
+{
+    let stray = f.head % LENGTH_BIT + f.head / CART_BIT % 64;
+    if stray != 0 {
+        return Reading::Refused(3);
+    }
+    if f.set != 0 {
+        return Reading::Refused(3);
+    }
+    let length = f.head / LENGTH_BIT % 64;
+    let group = f.head / OTHER_BIT % 16;
+    let e = Event::SendGroup(Station(f.head / STATION_BIT % 16), group, length as usize);
+    if_whole(length, behind, e)
+}
+
+// A frame of a kind that came later, with so many octets behind it: "refusal 2 no longer covers a kind once a request defines it".
+fn later_of(f: Halves, behind: usize) -> Reading
+    requires { ⌜ 5 < fieldsIn f .kind ⌝ }
+    ensures { λ r. ⌜ ((l : List ℕ) → readingIn l r ≡ frameIn l (fieldsIn f) behind) ⌝ }
+{
+    let kind = f.head / KIND_BIT;
+    if kind == 6 {
+        return flag_of(f);
+    }
+    if kind == 7 {
+        return group_of(f);
+    }
+    if kind == 8 {
+        return send_group_of(f, behind);
+    }
+    Reading::Refused(2)
 }
 
 // A frame with so many octets behind it, taken apart by its kind or refused. Kinds are asked for one after the other, and not by a table of jumps:
@@ -172,8 +229,9 @@ fn reading_of(f: Halves, behind: usize) -> Reading
     let station = head / STATION_BIT % 16;
     if 2 < kind {
         if kind == 3 {
+            let stray = head / CART_BIT % 64;
             let e = Event::Wire(Station(station), Station(head / OTHER_BIT % 16));
-            return if_listed(head % OTHER_BIT, head / CART_BIT % 64, f.set, e);
+            return if_listed(head % OTHER_BIT, stray, f.set, e);
         }
         if kind == 4 {
             let e = Event::Radio(Station(station), CartNumber(head / CART_BIT % 64));
@@ -184,10 +242,7 @@ fn reading_of(f: Halves, behind: usize) -> Reading
             let e = Event::Move(cart, Station(head / OTHER_BIT % 16));
             return if_listed(head % OTHER_BIT, station, f.set, e);
         }
-        if kind == 6 {
-            return flag_of(f);
-        }
-        return Reading::Refused(2);
+        return later_of(f, behind);
     }
     if kind == 2 {
         return send_of(f, behind);
@@ -213,13 +268,14 @@ pub fn frame_at(octets: &[u8], at: usize) -> Reading
     reading_of(halves_at(octets, at), octets.len() - at - FRAME)
 }
 
-// How many octets an event took: its frame, and of a send the text.
+// How many octets an event took: its frame, and of a send, to a set or to a group, the text.
 pub fn size_of(e: Event) -> usize
     requires { ⌜ sizeOf e < 18446744073709551616 ⌝ }
     ensures { λ r. ⌜ r ≡ sizeOf e ⌝ }
 {
     match e {
         Event::Send(_, _, length) => FRAME + length,
+        Event::SendGroup(_, _, length) => FRAME + length,
         _ => FRAME,
     }
 }

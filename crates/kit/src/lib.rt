@@ -1,4 +1,4 @@
-// THE DEMONSTRATION KIT: the seven events over a small floor in lent memory, "at most 4 stations, 8 carts and 8 held messages". Every step is the floor's own:
+// THE DEMONSTRATION KIT: the nine events over a small floor in lent memory, "at most 4 stations, 8 carts and 8 held messages". Every step is the floor's own:
 // only the limits are others.
 use dispatcher::Quiet;
 use event_answers::Answer;
@@ -7,7 +7,8 @@ use ids::Station;
 use products::Bounds;
 ghost use mathlib.Core.List.{[]};
 ghost use Rattle.protocol.specs.Floor.{kit};
-ghost use Rattle.protocol.specs.Events.{start, enter, send, wire, move, flag};
+ghost use Rattle.protocol.specs.Events.{start, enter, send, wire, move, flag, sendGroup};
+ghost use Rattle.protocol.specs.Events as events;
 ghost use Rattle.products.specs.Numbers.{Fits, NumbersOf};
 ghost use Rattle.view.specs.View.{lent};
 ghost use Rattle.event_answers.specs.Answers.{answerIn};
@@ -182,6 +183,56 @@ pub fn flag_cart(
         texts,
         cart,
         steady,
+        own_bounds(),
+    )
+}
+
+// "Kind 7 carries a group number .. and the set; an empty set undefines the group".
+pub fn define_group(
+    stations: &mut [u64],
+    carts: &[u64],
+    messages: &[u64],
+    lines: &[u64],
+    texts: &[u8],
+    group: u64,
+    set: u64,
+) -> Answer
+    ensures { λ a. ⌜ Met (lent kit (now (stations .entry)) (now (carts .entry)) (now (messages .entry)) (now (lines .entry)) (now (texts .entry))) (lent kit (now (stations .exit)) (now (carts .entry)) (now (messages .entry)) (now (lines .entry)) (now (texts .entry))) (events.group group set) (answerIn a []) ⌝ }
+{
+    tested_events::define_group(
+        stations,
+        carts,
+        messages,
+        lines,
+        texts,
+        group,
+        set,
+        own_bounds(),
+    )
+}
+
+// "Kind 8 .. sends to the members as they are at that send".
+pub fn send_group(
+    stations: &mut [u64],
+    carts: &[u64],
+    messages: &mut [u64],
+    lines: &mut [u64],
+    texts: &mut [u8],
+    station: Station,
+    group: u64,
+    text: &[u8],
+) -> Answer
+    ensures { λ a. ⌜ Met (lent kit (now (stations .entry)) (now (carts .entry)) (now (messages .entry)) (now (lines .entry)) (now (texts .entry))) (lent kit (now (stations .exit)) (now (carts .entry)) (now (messages .exit)) (now (lines .exit)) (now (texts .exit))) (sendGroup (station .0) group (now (text .entry))) (answerIn a []) ⌝ }
+{
+    tested_events::send_group(
+        stations,
+        carts,
+        messages,
+        lines,
+        texts,
+        station,
+        group,
+        text,
         own_bounds(),
     )
 }

@@ -7,7 +7,7 @@ use Prim.Native.Nat.{ℕ, _+_, _*_, _≤_}
 use native.Mathlib.Omega.{arith}
 use lib.ListN.{length}
 use Rattle.protocol.specs.Floor.{Product, limitsOf, mostRecords, wholeFloor, kit}
-use Rattle.protocol.specs.Events.{Event, Answer, start, enter, send, wire, radio, move, flag, refused}
+use Rattle.protocol.specs.Events.{Event, Answer, start, enter, send, wire, radio, move, flag, group, sendGroup, refused}
 use Rattle.protocol.specs.Form.{passesForm}
 use Rattle.protocol.specs.Quiet.{turnedAway}
 use Rattle.protocol.proofs.Tests.{by-test}
@@ -16,12 +16,12 @@ use Rattle.view.proofs.Lengths.{Lengths, lengths-of}
 use Rattle.form_test.proofs.Split.{fails-lengths}
 use Rattle.event_start.proofs.Starts.{start-lengths}
 use Rattle.event_answers.specs.Met.{Met}
-use Rattle.event_answers.proofs.Broken.{broken-enter, broken-send, broken-wire, broken-radio, broken-move, broken-flag}
+use Rattle.event_answers.proofs.Broken.{broken-enter, broken-send, broken-wire, broken-radio, broken-move, broken-flag, broken-group, broken-send-group}
 use Rattle.dispatcher.specs.declared.Quiet.{Quiet}
 use Rattle.dispatcher.specs.declared.Quiet.the-variants.{Refused, After}
 use Rattle.dispatcher.specs.Called.{quietIn, QuietMet}
 use Rattle.dispatcher.proofs.CalledLaws.{quiet-broken}
-use Rattle.tested_events.specs.Parts.{SharesPart}
+use Rattle.tested_events.specs.Parts.{SharesPart, ShortText}
 
 -- two products that differ in all these numbers have no part of the same length
 module _ (P Q : Product) (stations : P .stations ≡ Q .stations → ⊥) (carts : P .carts ≡ Q .carts → ⊥) (held : P .held ≡ Q .held → ⊥)
@@ -53,18 +53,19 @@ module _ (L : Lent) (lengths : lengthsIn L ≡ false) where
   breaks : false ≡ passesForm (limitsOf (L .product)) (floorIn L)
   breaks = fails-lengths (L .product) (L .stations) (L .carts) (L .messages) (L .lines) (L .texts) (lengthsIn L) refl lengths
 
-  meets-5 : (e : Event) → ((s set : ℕ) (text : List ℕ) → e ≡ send s set text → length text ≤ 32) → Met L L e (refused 5)
+  meets-5 : (e : Event) → ShortText e → Met L L e (refused 5)
   meets-5 (start n k) _ = start-lengths (L .product) (L .stations) (L .carts) (L .messages) (L .lines) (L .texts) n k (lengthsIn L) refl lengths
   meets-5 (enter t c) _ = broken-enter L false breaks refl t c
-  meets-5 (send s set text) short = broken-send L false breaks refl s set text (short s set text refl)
+  meets-5 (send s set text) short = broken-send L false breaks refl s set text short
   meets-5 (wire i j) _ = broken-wire L false breaks refl i j
   meets-5 (radio t c buffer) _ = broken-radio L false breaks refl t c buffer
   meets-5 (move c to) _ = broken-move L false breaks refl c to
   meets-5 (flag c b) _ = broken-flag L false breaks refl c b
+  meets-5 (group g set) _ = broken-group L false breaks refl g set
+  meets-5 (sendGroup s g text) short = broken-send-group L false breaks refl s g text short
 
   -- 4 is met before it: a send with a text that is too long
-  pub wrong-lengths-are-5 : (L′ : Lent) (e : Event) (a : Answer) → Met L L′ e a → ((s set : ℕ) (text : List ℕ) → e ≡ send s set text → length text ≤ 32)
-      → (a ≡ refused 5) × (L′ ≡ L)
+  pub wrong-lengths-are-5 : (L′ : Lent) (e : Event) (a : Answer) → Met L L′ e a → ShortText e → (a ≡ refused 5) × (L′ ≡ L)
   wrong-lengths-are-5 L′ e a met short = let five = met .answers ∙ sym (meets-5 e short .answers) in (five, met .untouched 5 five)
 
   refused-is : (a : Quiet) → quietIn a ≡ turnedAway 5 → a ≡ Refused 5

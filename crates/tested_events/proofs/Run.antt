@@ -5,6 +5,7 @@ use Prim.Native.Nat.{ℕ}
 use native.Mathlib.Omega.{arith}
 use Rattle.protocol.specs.Floor.{Product, Limits, limitsOf, Floor}
 use Rattle.protocol.specs.Events.{Event, Answer, Report, start, accepted}
+use Rattle.protocol.specs.Groups.{asSent}
 use Rattle.protocol.specs.Step.{step, answer, floorAfter, answers}
 use Rattle.protocol.specs.TwoLists.{Lists, bothEmpty, listsStep, listsAfter, owes, TwoListRule}
 use Rattle.protocol.specs.Quiet.{quietSteps, quietFloor, quietEvents, mostSteps}
@@ -32,12 +33,15 @@ answers-of-calls L (k ∷ ks) h =
     (answers-of-calls (k .left) ks (h .1) ∙ ap₂ (λ (P : Product) (F : Floor). answers (limitsOf P) F (eventsOf ks)) (h .0 .product) (h .0 .floor))
 
 -- the two lists
-pub lists-of-calls : (L : Lent) (l : Lists) (ks : List Call) → Calls L ks → listsOf l ks ≡ listsAfter (limitsOf (L .product)) (floorIn L) l (eventsOf ks)
+pub lists-of-calls : (L : Lent) (l : Lists) (ks : List Call) → Calls L ks
+    → listsOf (limitsOf (L .product)) (floorIn L) l ks ≡ listsAfter (limitsOf (L .product)) (floorIn L) l (eventsOf ks)
 unfolding Calls listsOf listsAfter
 lists-of-calls L l [] h = refl
 lists-of-calls L l (k ∷ ks) h =
-    lists-of-calls (k .left) (listsStep (k .event) (k .answered) l) ks (h .1)
-    ∙ (λ i. listsAfter (limitsOf (h .0 .product i)) (h .0 .floor i) (listsStep (k .event) (h .0 .answers i) l) (eventsOf ks))
+    let sent = asSent (floorIn L) (k .event) in
+    (λ i. listsOf (limitsOf (sym (h .0 .product) i)) (sym (h .0 .floor) i) (listsStep sent (k .answered) l) ks)
+    ∙ lists-of-calls (k .left) (listsStep sent (k .answered) l) ks (h .1)
+    ∙ (λ i. listsAfter (limitsOf (h .0 .product i)) (h .0 .floor i) (listsStep sent (h .0 .answers i) l) (eventsOf ks))
 
 -- ALL IN ONE: a start was accepted on whatever was lent (L₀) and left L, and then every call was handed what the last one left
 pub run-is : (L₀ L : Lent) (n k : ℕ) (l : Report) → Met L₀ L (start n k) (accepted l) → (ks : List Call) → Calls L ks → RunIs L k ks

@@ -6,7 +6,8 @@ use mathlib.Core.Option.{none}
 use Prim.Native.Nat.{ℕ, _<_, _≤_}
 use Rattle.protocol.specs.Floor.{Limits, Floor, limitsOf, isHeld}
 use Rattle.protocol.specs.Events.{Event, Answer}
-use Rattle.protocol.specs.Step.{floorAfter, answers}
+use Rattle.protocol.specs.Groups.{asSent}
+use Rattle.protocol.specs.Step.{step, floorAfter, answers}
 use Rattle.protocol.specs.TwoLists.{Lists, bothEmpty, listsStep, listsAfter, owes, TwoListRule}
 use Rattle.protocol.specs.Quiet.{AllSteady, mostSteps, nextEvent, quietEvents}
 use Rattle.view.specs.View.{Lent, floorIn}
@@ -28,10 +29,12 @@ unfoldable pub leftBy : Lent → List Call → Lent
 leftBy L [] = L
 leftBy L (k ∷ ks) = leftBy (k .left) ks
 
--- the two lists of demand 3, from the events and from what the calls answered
-unfoldable pub listsOf : Lists → List Call → Lists
-listsOf l [] = l
-listsOf l (k ∷ ks) = listsOf (listsStep (k .event) (k .answered) l) ks
+-- the two lists of demand 3, from the events and from what the calls answered. "The sent list counts group sends by their members at sending": a group
+-- send does not say them, so they are those that the group has by the written steps over the same events, from floor F on (`asSent`), and not by
+-- the controller's own record
+unfoldable pub listsOf : Limits → Floor → Lists → List Call → Lists
+listsOf M F l [] = l
+listsOf M F l (k ∷ ks) = listsOf M (step M F (k .event)) (listsStep (asSent F (k .event)) (k .answered) l) ks
 
 abbrev pub eventsOf : List Call → List Event
 eventsOf ks = map (λ (k : Call). k .event) ks
@@ -42,7 +45,8 @@ pub record RunIs (L : Lent) (carts : ℕ) (ks : List Call) : Type 0 where
   pub floor : floorIn (leftBy L ks) ≡ floorAfter (limitsOf (L .product)) (floorIn L) (eventsOf ks)
   pub answered : map (λ (k : Call). k .answered) ks ≡ answers (limitsOf (L .product)) (floorIn L) (eventsOf ks)
   pub two-lists : (s c : ℕ) → c < carts
-      → TwoListRule (owes (limitsOf (L .product)) (floorAfter (limitsOf (L .product)) (floorIn L) (eventsOf ks)) s c) (listsOf bothEmpty ks .sent s c) (listsOf bothEmpty ks .received s c)
+      → TwoListRule (owes (limitsOf (L .product)) (floorAfter (limitsOf (L .product)) (floorIn L) (eventsOf ks)) s c)
+      (listsOf (limitsOf (L .product)) (floorIn L) bothEmpty ks .sent s c) (listsOf (limitsOf (L .product)) (floorIn L) bothEmpty ks .received s c)
 
 -- the events of a run, and those of the dispatcher behind them
 abbrev pub withQuiet : Limits → Floor → List Event → List Event

@@ -6,9 +6,13 @@ use event_answers::Answer;
 use ids::CartNumber;
 use ids::Station;
 use products::Bounds;
+ghost use mathlib.Core.Path.{_≡_};
 ghost use mathlib.Core.List.{[]};
+ghost use lib.Dec.{ltb};
+ghost use lib.ListN.{length};
 ghost use Rattle.protocol.specs.Floor.{Product};
-ghost use Rattle.protocol.specs.Events.{enter, send, wire, move, flag};
+ghost use Rattle.protocol.specs.Events.{enter, send, wire, move, flag, sendGroup};
+ghost use Rattle.protocol.specs.Events as events;
 ghost use Rattle.products.specs.Numbers.{Fits, NumbersOf};
 ghost use Rattle.view.specs.View.{lent};
 ghost use Rattle.event_answers.specs.Answers.{answerIn};
@@ -36,6 +40,13 @@ pub fn enter(
     event_carts::enter(stations, carts, messages, lines, texts, station, cart)
 }
 
+// "text longer than 32"
+fn is_too_long(text: &[u8]) -> bool
+    ensures { λ r. ⌜ r ≡ ltb 32 (length (now (text .entry))) ⌝ }
+{
+    products::TEXT < text.len()
+}
+
 // "Send (station, set, text)". A text longer than 32 octets is met before anything of the floor.
 pub fn send(
     stations: &mut [u64],
@@ -51,7 +62,7 @@ pub fn send(
     requires { ⌜ Fits bounds ⌝ }
     ensures { λ a. ⌜ ((P : Product) → NumbersOf P bounds → Met (lent P (now (stations .entry)) (now (carts .entry)) (now (messages .entry)) (now (lines .entry)) (now (texts .entry))) (lent P (now (stations .exit)) (now (carts .entry)) (now (messages .exit)) (now (lines .exit)) (now (texts .exit))) (send (station .0) set (now (text .entry))) (answerIn a [])) ⌝ }
 {
-    if products::TEXT < text.len() {
+    if is_too_long(text) {
         return Answer::Refused(4);
     }
     if !form_test::passes(stations, carts, messages, lines, texts, bounds) {
@@ -158,6 +169,61 @@ pub fn flag_cart(
         return Answer::Refused(5);
     }
     event_carts::flag_cart(stations, carts, messages, lines, texts, cart, steady)
+}
+
+// "Kind 7 carries a group number .. and the set; an empty set undefines the group".
+pub fn define_group(
+    stations: &mut [u64],
+    carts: &[u64],
+    messages: &[u64],
+    lines: &[u64],
+    texts: &[u8],
+    group: u64,
+    set: u64,
+    bounds: Bounds,
+) -> Answer
+    requires { ⌜ Fits bounds ⌝ }
+    ensures { λ a. ⌜ ((P : Product) → NumbersOf P bounds → Met (lent P (now (stations .entry)) (now (carts .entry)) (now (messages .entry)) (now (lines .entry)) (now (texts .entry))) (lent P (now (stations .exit)) (now (carts .entry)) (now (messages .entry)) (now (lines .entry)) (now (texts .entry))) (events.group group set) (answerIn a [])) ⌝ }
+{
+    if !form_test::passes(stations, carts, messages, lines, texts, bounds) {
+        return Answer::Refused(5);
+    }
+    event_groups::define_group(stations, carts, messages, lines, texts, group, set)
+}
+
+// "Kind 8 carries station, group .. and length, then text, and sends to the members as they are at that send". A text longer than 32 octets is met
+// before anything of the floor.
+pub fn send_group(
+    stations: &mut [u64],
+    carts: &[u64],
+    messages: &mut [u64],
+    lines: &mut [u64],
+    texts: &mut [u8],
+    station: Station,
+    group: u64,
+    text: &[u8],
+    bounds: Bounds,
+) -> Answer
+    requires { ⌜ Fits bounds ⌝ }
+    ensures { λ a. ⌜ ((P : Product) → NumbersOf P bounds → Met (lent P (now (stations .entry)) (now (carts .entry)) (now (messages .entry)) (now (lines .entry)) (now (texts .entry))) (lent P (now (stations .exit)) (now (carts .entry)) (now (messages .exit)) (now (lines .exit)) (now (texts .exit))) (sendGroup (station .0) group (now (text .entry))) (answerIn a [])) ⌝ }
+{
+    if is_too_long(text) {
+        return Answer::Refused(4);
+    }
+    if !form_test::passes(stations, carts, messages, lines, texts, bounds) {
+        return Answer::Refused(5);
+    }
+    event_send::send_group(
+        stations,
+        carts,
+        messages,
+        lines,
+        texts,
+        station,
+        group,
+        text,
+        bounds,
+    )
 }
 
 // "Run the floor until it is quiet", with a lent text buffer: 5, "21 if that buffer is shorter than 32, after 5, before the first step", and then all steps

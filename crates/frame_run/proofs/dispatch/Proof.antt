@@ -1,5 +1,5 @@
 -- `frame_run::dispatch` meets its contract.
-use mathlib.Core.Path.{sym, ap, subst}
+use mathlib.Core.Path.{sym, ap, _∙_, subst}
 use Prim.Native.Nat.{ℕ}
 use native.Mathlib.Omega.{arith}
 use lib.ListN.{drop}
@@ -7,7 +7,7 @@ use denote.Ref.{now}
 use Rattle.protocol.specs.Floor.{Product}
 use Rattle.view.specs.View.{lent}
 use Rattle.frames.specs.Decoded.{eventIn, sizeOf}
-use Rattle.frame_run.proofs.Events.{send-is, short-part, numbers-fit, some-part, answered-plainly, answered-text}
+use Rattle.frame_run.proofs.Events.{send-is, send-group-is, short-part, numbers-fit, some-part, answered-plainly, answered-text}
 use Rattle.protocol.specs.Printed.{decimal}
 use Rattle.frame_lines.specs.Lines.{Began, longestNumber}
 use Rattle.frame_run.specs.declared.Dispatched.{Dispatched}
@@ -82,6 +82,12 @@ send-requires c κs =
     let q = ap sizeOf (kind .e3 .given .1) in
     (start .pre .0 .1, short-part (now (a .input)) (a .at) (kind .e3 .given .0 .1 .1 .0) (omega (arith, q, start .pre .1 .0)))
 
+add-without-text : tie.Need-add-without-text
+add-without-text c =
+    let start = c .before .before .before .before .before .before .before .before .before .before .before .before .before .before .before .before .before .before .before .before .before .before .before .before .before .before .before .before .before .before in
+    let q = ap sizeOf (c .before .before .before .before .before .before .before .before .before .before .before .before .before .before .before .before .before .before .before .before .e3 .given .1) in
+    omega (arith, q, start .pre .1 .0 .1)
+
 without-text-requires-3 : tie.Need-without-text-requires-3
 without-text-requires-3 c κs = search needs
 
@@ -141,6 +147,66 @@ flag-cart-requires c κs =
 without-text-requires-6 : tie.Need-without-text-requires-6
 without-text-requires-6 c κs = search needs
 
+enum-known-e-8 : tie.Need-enum-known-e-8
+enum-known-e-8 c = search needs
+
+put-index-requires-8 : tie.Need-put-index-requires-8
+put-index-requires-8 c κs = search needs
+
+define-group-requires : tie.Need-define-group-requires
+define-group-requires c κs =
+    let start = c .before .before .before .before .before .before .before .before .before .before .before .before .before .before .before .before .before .before .before .before in
+    (start .pre .0 .1 .0, start .pre .0 .1 .2)
+
+without-text-requires-7 : tie.Need-without-text-requires-7
+without-text-requires-7 c κs = search needs
+
+enum-known-e-9 : tie.Need-enum-known-e-9
+enum-known-e-9 c = search needs
+
+put-index-requires-9 : tie.Need-put-index-requires-9
+put-index-requires-9 c κs = search needs
+
+add-from-2 : tie.Need-add-from-2
+add-from-2 c = search needs
+
+add-text-2 : tie.Need-add-text-2
+add-text-2 c =
+    let start = c .before .before .before .before .before .before .before .before .before .before .before .before .before .before .before in
+    let q = ap sizeOf (c .before .before .before .before .before .e9 .given .1) in
+    let h = start .pre .1 .0 .0 in
+    omega (arith, q, h)
+
+sub-text-2 : tie.Need-sub-text-2
+sub-text-2 c = search needs
+
+part-text-start-2 : tie.Need-part-text-start-2
+part-text-start-2 c = search needs
+
+part-text-end-2 : tie.Need-part-text-end-2
+part-text-end-2 c =
+    let start = c .before .before .before .before .before .before .before .before .before .before .before .before .before .before .before in
+    let q = ap sizeOf (c .before .before .before .before .before .e9 .given .1) in
+    let h = start .pre .1 .0 .0 in
+    omega (arith, q, h)
+
+send-group-requires : tie.Need-send-group-requires
+send-group-requires c κs =
+    let start = c .before .before .before .before .before .before .before .before .before .before .before .before .before .before .before .before .before .before .before .before .before in
+    let a = start .args in
+    let kind = c .before .before .before .before .before .before .before .before .before .before .before in
+    let q = ap sizeOf (kind .e9 .given .1) in
+    (start .pre .0 .1, short-part (now (a .input)) (a .at) (kind .e9 .given .0 .1 .1 .0) (omega (arith, q, start .pre .1 .0)))
+
+add-without-text-2 : tie.Need-add-without-text-2
+add-without-text-2 c =
+    let start = c .before .before .before .before .before .before .before .before .before .before .before .before .before .before .before .before .before .before .before .before .before .before .before .before .before .before .before .before .before .before in
+    let q = ap sizeOf (c .before .before .before .before .before .before .before .before .before .before .before .before .before .before .before .before .before .before .before .before .e9 .given .1) in
+    omega (arith, q, start .pre .1 .0 .1)
+
+without-text-requires-8 : tie.Need-without-text-requires-8
+without-text-requires-8 c κs = search needs
+
 same-length : tie.Need-same-length
 same-length c = search needs
 
@@ -167,7 +233,7 @@ returns c =
     let start = kind .before .before .before .before .before .before .before .before .before .before in
     let a = start .args in
     let began = subst (λ (n : ℕ). Began 3 longestNumber (decimal (a .index)) (now (a .output)) (index .put-index .last .0) (a .line) n) (sym (ap (λ (r : Dispatched). r .next) (c .without-text .ensures))) (index .put-index .ensures) in
-    (answered-plainly (a .bounds) (λ (P : Product). lent P (now (a .stations)) (now (a .carts)) (now (a .messages)) (now (a .lines)) (now (a .texts))) _ _ _ (ap (eventIn (drop (a .at) (now (a .input)))) (kind .e .given .1)) (now (a .texts)) (some-part (a .bounds) _ _ _ _ _ (start .pre .0)) (met .start .result) _ (c .without-text .result) (c .without-text .ensures) (λ P n R. met .start .ensures P n), began)
+    (answered-plainly (a .bounds) (λ (P : Product). lent P (now (a .stations)) (now (a .carts)) (now (a .messages)) (now (a .lines)) (now (a .texts))) _ _ _ (ap (eventIn (drop (a .at) (now (a .input)))) (kind .e .given .1)) (now (a .texts)) (some-part (a .bounds) _ _ _ _ _ (start .pre .0)) (met .start .result) _ _ (c .without-text .result) (c .without-text .ensures) (λ P n R. met .start .ensures P n), (began, ap (λ (r : Dispatched). r .taken) (c .without-text .ensures) ∙ sym (ap sizeOf (kind .e .given .1))))
 
 same-length-7 : tie.Need-same-length-7
 same-length-7 c = search needs
@@ -195,7 +261,7 @@ returns-2 c =
     let start = kind .before .before .before .before .before .before .before .before .before .before in
     let a = start .args in
     let began = subst (λ (n : ℕ). Began 3 longestNumber (decimal (a .index)) (now (a .output)) (index .put-index2 .last .0) (a .line) n) (sym (ap (λ (r : Dispatched). r .next) (c .without-text2 .ensures))) (index .put-index2 .ensures) in
-    (answered-plainly (a .bounds) (λ (P : Product). lent P (now (a .stations)) (now (a .carts)) (now (a .messages)) (now (a .lines)) (now (a .texts))) _ _ _ (ap (eventIn (drop (a .at) (now (a .input)))) (kind .e2 .given .1)) (now (a .texts)) (some-part (a .bounds) _ _ _ _ _ (start .pre .0)) (met .enter .result) _ (c .without-text2 .result) (c .without-text2 .ensures) (λ P n R. met .enter .ensures P R), began)
+    (answered-plainly (a .bounds) (λ (P : Product). lent P (now (a .stations)) (now (a .carts)) (now (a .messages)) (now (a .lines)) (now (a .texts))) _ _ _ (ap (eventIn (drop (a .at) (now (a .input)))) (kind .e2 .given .1)) (now (a .texts)) (some-part (a .bounds) _ _ _ _ _ (start .pre .0)) (met .enter .result) _ _ (c .without-text2 .result) (c .without-text2 .ensures) (λ P n R. met .enter .ensures P R), (began, ap (λ (r : Dispatched). r .taken) (c .without-text2 .ensures) ∙ sym (ap sizeOf (kind .e2 .given .1))))
 
 same-length-13 : tie.Need-same-length-13
 same-length-13 c = search needs
@@ -225,7 +291,7 @@ returns-3 c =
     let start = kind .before .before .before .before .before .before .before .before .before .before in
     let a = start .args in
     let began = subst (λ (n : ℕ). Began 3 longestNumber (decimal (a .index)) (now (a .output)) (index .put-index3 .last .0) (a .line) n) (sym (ap (λ (r : Dispatched). r .next) (c .without-text3 .ensures))) (index .put-index3 .ensures) in
-    (answered-plainly (a .bounds) (λ (P : Product). lent P (now (a .stations)) (now (a .carts)) (now (a .messages)) (now (a .lines)) (now (a .texts))) _ _ _ (send-is (now (a .input)) (a .at) _ (a .e) _ _ (kind .e3 .given .1)) _ (omega (arith, met .send .kept, some-part (a .bounds) _ _ _ _ _ (start .pre .0))) (met .send .result) _ (c .without-text3 .result) (c .without-text3 .ensures) (met .send .ensures), began)
+    (answered-plainly (a .bounds) (λ (P : Product). lent P (now (a .stations)) (now (a .carts)) (now (a .messages)) (now (a .lines)) (now (a .texts))) _ _ _ (send-is (now (a .input)) (a .at) _ (a .e) _ _ (kind .e3 .given .1)) _ (omega (arith, met .send .kept, some-part (a .bounds) _ _ _ _ _ (start .pre .0))) (met .send .result) _ _ (c .without-text3 .result) (c .without-text3 .ensures) (met .send .ensures), (began, ap (λ (r : Dispatched). r .taken) (c .without-text3 .ensures) ∙ sym (ap sizeOf (kind .e3 .given .1))))
 
 same-length-19 : tie.Need-same-length-19
 same-length-19 c = search needs
@@ -253,7 +319,7 @@ returns-4 c =
     let start = kind .before .before .before .before .before .before .before .before .before .before in
     let a = start .args in
     let began = subst (λ (n : ℕ). Began 3 longestNumber (decimal (a .index)) (now (a .output)) (index .put-index4 .last .0) (a .line) n) (sym (ap (λ (r : Dispatched). r .next) (c .without-text4 .ensures))) (index .put-index4 .ensures) in
-    (answered-plainly (a .bounds) (λ (P : Product). lent P (now (a .stations)) (now (a .carts)) (now (a .messages)) (now (a .lines)) (now (a .texts))) _ _ _ (ap (eventIn (drop (a .at) (now (a .input)))) (kind .e4 .given .1)) (now (a .texts)) (some-part (a .bounds) _ _ _ _ _ (start .pre .0)) (met .wire .result) _ (c .without-text4 .result) (c .without-text4 .ensures) (λ P n R. met .wire .ensures P R), began)
+    (answered-plainly (a .bounds) (λ (P : Product). lent P (now (a .stations)) (now (a .carts)) (now (a .messages)) (now (a .lines)) (now (a .texts))) _ _ _ (ap (eventIn (drop (a .at) (now (a .input)))) (kind .e4 .given .1)) (now (a .texts)) (some-part (a .bounds) _ _ _ _ _ (start .pre .0)) (met .wire .result) _ _ (c .without-text4 .result) (c .without-text4 .ensures) (λ P n R. met .wire .ensures P R), (began, ap (λ (r : Dispatched). r .taken) (c .without-text4 .ensures) ∙ sym (ap sizeOf (kind .e4 .given .1))))
 
 same-length-25 : tie.Need-same-length-25
 same-length-25 c = search needs
@@ -280,7 +346,7 @@ returns-5 c =
     let kind = index .before .before .before in
     let start = kind .before .before .before .before .before .before .before .before .before .before in
     let a = start .args in
-    (answered-text (a .bounds) (λ (P : Product). lent P (now (a .stations)) (now (a .carts)) (now (a .messages)) (now (a .lines)) (now (a .texts))) _ _ _ (ap (eventIn (drop (a .at) (now (a .input)))) (kind .e5 .given .1)) (now (a .texts)) (met .radio .result) _ (c .told-of .result) (c .told-of .ensures) (met .radio .ensures .1) (λ P n R. met .radio .ensures .0 P R), index .put-index5 .ensures)
+    (answered-text (a .bounds) (λ (P : Product). lent P (now (a .stations)) (now (a .carts)) (now (a .messages)) (now (a .lines)) (now (a .texts))) _ _ _ (ap (eventIn (drop (a .at) (now (a .input)))) (kind .e5 .given .1)) (now (a .texts)) (met .radio .result) _ _ (c .told-of .result) (c .told-of .ensures) (met .radio .ensures .1) (λ P n R. met .radio .ensures .0 P R), (index .put-index5 .ensures, sym (ap sizeOf (kind .e5 .given .1))))
 
 same-length-31 : tie.Need-same-length-31
 same-length-31 c = search needs
@@ -308,7 +374,7 @@ returns-6 c =
     let start = kind .before .before .before .before .before .before .before .before .before .before in
     let a = start .args in
     let began = subst (λ (n : ℕ). Began 3 longestNumber (decimal (a .index)) (now (a .output)) (index .put-index6 .last .0) (a .line) n) (sym (ap (λ (r : Dispatched). r .next) (c .without-text5 .ensures))) (index .put-index6 .ensures) in
-    (answered-plainly (a .bounds) (λ (P : Product). lent P (now (a .stations)) (now (a .carts)) (now (a .messages)) (now (a .lines)) (now (a .texts))) _ _ _ (ap (eventIn (drop (a .at) (now (a .input)))) (kind .e6 .given .1)) (now (a .texts)) (some-part (a .bounds) _ _ _ _ _ (start .pre .0)) (met .move-cart .result) _ (c .without-text5 .result) (c .without-text5 .ensures) (λ P n R. met .move-cart .ensures P R), began)
+    (answered-plainly (a .bounds) (λ (P : Product). lent P (now (a .stations)) (now (a .carts)) (now (a .messages)) (now (a .lines)) (now (a .texts))) _ _ _ (ap (eventIn (drop (a .at) (now (a .input)))) (kind .e6 .given .1)) (now (a .texts)) (some-part (a .bounds) _ _ _ _ _ (start .pre .0)) (met .move-cart .result) _ _ (c .without-text5 .result) (c .without-text5 .ensures) (λ P n R. met .move-cart .ensures P R), (began, ap (λ (r : Dispatched). r .taken) (c .without-text5 .ensures) ∙ sym (ap sizeOf (kind .e6 .given .1))))
 
 same-length-37 : tie.Need-same-length-37
 same-length-37 c = search needs
@@ -336,7 +402,63 @@ returns-7 c =
     let start = kind .before .before .before .before .before .before .before .before .before .before in
     let a = start .args in
     let began = subst (λ (n : ℕ). Began 3 longestNumber (decimal (a .index)) (now (a .output)) (index .put-index7 .last .0) (a .line) n) (sym (ap (λ (r : Dispatched). r .next) (c .without-text6 .ensures))) (index .put-index7 .ensures) in
-    (answered-plainly (a .bounds) (λ (P : Product). lent P (now (a .stations)) (now (a .carts)) (now (a .messages)) (now (a .lines)) (now (a .texts))) _ _ _ (ap (eventIn (drop (a .at) (now (a .input)))) (kind .e7 .given .1)) (now (a .texts)) (some-part (a .bounds) _ _ _ _ _ (start .pre .0)) (met .flag-cart .result) _ (c .without-text6 .result) (c .without-text6 .ensures) (λ P n R. met .flag-cart .ensures P R), began)
+    (answered-plainly (a .bounds) (λ (P : Product). lent P (now (a .stations)) (now (a .carts)) (now (a .messages)) (now (a .lines)) (now (a .texts))) _ _ _ (ap (eventIn (drop (a .at) (now (a .input)))) (kind .e7 .given .1)) (now (a .texts)) (some-part (a .bounds) _ _ _ _ _ (start .pre .0)) (met .flag-cart .result) _ _ (c .without-text6 .result) (c .without-text6 .ensures) (λ P n R. met .flag-cart .ensures P R), (began, ap (λ (r : Dispatched). r .taken) (c .without-text6 .ensures) ∙ sym (ap sizeOf (kind .e7 .given .1))))
+
+same-length-43 : tie.Need-same-length-43
+same-length-43 c = search needs
+
+same-length-44 : tie.Need-same-length-44
+same-length-44 c = search needs
+
+same-length-45 : tie.Need-same-length-45
+same-length-45 c = search needs
+
+same-length-46 : tie.Need-same-length-46
+same-length-46 c = search needs
+
+same-length-47 : tie.Need-same-length-47
+same-length-47 c = search needs
+
+same-length-48 : tie.Need-same-length-48
+same-length-48 c = search needs
+
+returns-8 : tie.Need-returns-8
+returns-8 c =
+    let met = c .before .before .before in
+    let index = c .before .before .before .before .before .before .before .before .before .before .before in
+    let kind = c .before .before .before .before .before .before .before .before .before .before .before .before .before .before in
+    let start = c .before .before .before .before .before .before .before .before .before .before .before .before .before .before .before .before .before .before .before .before .before .before .before .before in
+    let a = start .args in
+    let began = subst (λ (n : ℕ). Began 3 longestNumber (decimal (a .index)) (now (a .output)) (index .put-index8 .last .0) (a .line) n) (sym (ap (λ (r : Dispatched). r .next) (c .without-text7 .ensures))) (index .put-index8 .ensures) in
+    (answered-plainly (a .bounds) (λ (P : Product). lent P (now (a .stations)) (now (a .carts)) (now (a .messages)) (now (a .lines)) (now (a .texts))) _ _ _ (ap (eventIn (drop (a .at) (now (a .input)))) (kind .e8 .given .1)) (now (a .texts)) (some-part (a .bounds) _ _ _ _ _ (start .pre .0)) (met .define-group .result) _ _ (c .without-text7 .result) (c .without-text7 .ensures) (λ P n R. met .define-group .ensures P R), (began, ap (λ (r : Dispatched). r .taken) (c .without-text7 .ensures) ∙ sym (ap sizeOf (kind .e8 .given .1))))
+
+same-length-49 : tie.Need-same-length-49
+same-length-49 c = search needs
+
+same-length-50 : tie.Need-same-length-50
+same-length-50 c = search needs
+
+same-length-51 : tie.Need-same-length-51
+same-length-51 c = search needs
+
+same-length-52 : tie.Need-same-length-52
+same-length-52 c = search needs
+
+same-length-53 : tie.Need-same-length-53
+same-length-53 c = search needs
+
+same-length-54 : tie.Need-same-length-54
+same-length-54 c = c .before .before .before .before .before .before .before .before .before .before .before .before .before .before .before .before .before .before .put-index9 .ensures .kept
+
+returns-9 : tie.Need-returns-9
+returns-9 c =
+    let met = c .before .before .before .before .before .before .before .before .before in
+    let index = c .before .before .before .before .before .before .before .before .before .before .before .before .before .before .before .before .before .before in
+    let kind = c .before .before .before .before .before .before .before .before .before .before .before .before .before .before .before .before .before .before .before .before .before in
+    let start = c .before .before .before .before .before .before .before .before .before .before .before .before .before .before .before .before .before .before .before .before .before .before .before .before .before .before .before .before .before .before .before in
+    let a = start .args in
+    let began = subst (λ (n : ℕ). Began 3 longestNumber (decimal (a .index)) (now (a .output)) (index .put-index9 .last .0) (a .line) n) (sym (ap (λ (r : Dispatched). r .next) (c .without-text8 .ensures))) (index .put-index9 .ensures) in
+    (answered-plainly (a .bounds) (λ (P : Product). lent P (now (a .stations)) (now (a .carts)) (now (a .messages)) (now (a .lines)) (now (a .texts))) _ _ _ (send-group-is (now (a .input)) (a .at) _ (a .e) _ _ (kind .e9 .given .1)) _ (omega (arith, met .send-group .kept, some-part (a .bounds) _ _ _ _ _ (start .pre .0))) (met .send-group .result) _ _ (c .without-text8 .result) (c .without-text8 .ensures) (met .send-group .ensures), (began, ap (λ (r : Dispatched). r .taken) (c .without-text8 .ensures) ∙ sym (ap sizeOf (kind .e9 .given .1))))
 
 pub dispatch-spec : {M : Type 1} → statement M
 dispatch-spec =
@@ -358,6 +480,7 @@ dispatch-spec =
     part-text-start
     part-text-end
     send-requires
+    add-without-text
     without-text-requires-3
     enum-known-e-4
     put-index-requires-4
@@ -375,6 +498,20 @@ dispatch-spec =
     put-index-requires-7
     flag-cart-requires
     without-text-requires-6
+    enum-known-e-8
+    put-index-requires-8
+    define-group-requires
+    without-text-requires-7
+    enum-known-e-9
+    put-index-requires-9
+    add-from-2
+    add-text-2
+    sub-text-2
+    part-text-start-2
+    part-text-end-2
+    send-group-requires
+    add-without-text-2
+    without-text-requires-8
     same-length
     same-length-2
     same-length-3
@@ -423,4 +560,18 @@ dispatch-spec =
     same-length-40
     same-length-41
     same-length-42
-    returns-7)
+    returns-7
+    same-length-43
+    same-length-44
+    same-length-45
+    same-length-46
+    same-length-47
+    same-length-48
+    returns-8
+    same-length-49
+    same-length-50
+    same-length-51
+    same-length-52
+    same-length-53
+    same-length-54
+    returns-9)

@@ -18,24 +18,17 @@ dispatch-requires c κs =
 
 print-requires : tie.Need-print-requires
 print-requires c κs =
-    let done = c .before .before .before .before .before .before .before .before .before .before .before .before .before .before in
-    let start = done .before .before .before .before .before .before .before .before .before .before .before .before .before .before .before in
-    let h = done .dispatch .ensures in
-    (omega (arith, start .pre .1 .0 .2, h .1 .few, h .1 .kept), h .0 .0, start .pre .1 .1 .2)
+    let start = c .before .before .before .before .before .before .before .before .before .before .before .before .before .before .before .before .before .before .before .before .before .before .before .before .before .before .before .before .before in
+    let h = c .before .before .before .before .before .before .before .before .before .before .before .before .before .before .dispatch .ensures in
+    (omega (arith, start .pre .1 .0 .2, h .1 .0 .few, h .1 .0 .kept), h .0 .0, start .pre .1 .1 .2)
 
-size-of-requires : tie.Need-size-of-requires
-size-of-requires c κs =
-    let start = c .before .before .before .before .before .before .before .before .before .before .before .before .before .before .before .before .before .before .before .before .before .before .before .before .before .before .before .before .before .before .before .before in
-    omega (arith, start .pre .1 .0)
+add-t31 : tie.Need-add-t31
+add-t31 c =
+    let start = c .before .before .before .before .before .before .before .before .before .before .before .before .before .before .before .before .before .before .before .before .before .before .before .before .before .before .before .before .before .before .before .before .before .before in
+    omega (arith, start .pre .1 .0, start .pre .1 .1 .1, c .before .before .before .before .before .before .before .before .before .before .before .before .before .before .before .before .before .before .before .dispatch .ensures .1 .1)
 
 add-t32 : tie.Need-add-t32
 add-t32 c =
-    let sized = c .before in
-    let start = sized .before .before .before .before .before .before .before .before .before .before .before .before .before .before .before .before .before .before .before .before .before .before .before .before .before .before .before .before .before .before .before .before .before in
-    omega (arith, start .pre .1 .0, start .pre .1 .1 .1, sized .size-of .ensures)
-
-add-t33 : tie.Need-add-t33
-add-t33 c =
     let start = c .before .before .before .before .before .before .before .before .before .before .before .before .before .before .before .before .before .before .before .before .before .before .before .before .before .before .before .before .before .before .before .before .before .before .before in
     omega (arith, start .pre .1 .0, start .pre .1 .1 .0, start .pre .1 .1 .1)
 
@@ -59,14 +52,11 @@ same-length-6 c = search needs
 
 returns : tie.Need-returns
 returns c =
-    let sized = c .before .before in
-    let printed = sized .before .before .before in
-    let done = printed .before .before .before .before .before .before .before .before .before .before .before .before .before .before .before in
-    let start = done .before .before .before .before .before .before .before .before .before .before .before .before .before .before .before in
+    let start = c .before .before .before .before .before .before .before .before .before .before .before .before .before .before .before .before .before .before .before .before .before .before .before .before .before .before .before .before .before .before .before .before .before .before .before in
     let a = start .args in
-    let h = done .dispatch .ensures in
-    λ P n R. took (a .index) (lent P (now (a .stations)) (now (a .carts)) (now (a .messages)) (now (a .lines)) (now (a .texts))) _ (now (a .output)) _ (a .p) _ _ _ _ R (h .0 .1 P n R) (line-written (a .index) _ (h .1) (printed .print .ensures))
-    (ap (λ (k : ℕ). a .p .read + k) (sized .size-of .ensures)) refl refl
+    let h = c .before .before .before .before .before .before .before .before .before .before .before .before .before .before .before .before .before .before .before .before .dispatch .ensures in
+    λ P n R. took (a .index) (lent P (now (a .stations)) (now (a .carts)) (now (a .messages)) (now (a .lines)) (now (a .texts))) _ (now (a .output)) _ (a .p) _ _ _ _ R (h .0 .1 P n R) (line-written (a .index) _ (h .1 .0) (c .before .before .before .before .before .print .ensures))
+    (ap (λ (k : ℕ). a .p .read + k) (h .1 .1)) refl refl
 
 pub take-event-spec : {M : Type 1} → statement M
 take-event-spec =
@@ -74,9 +64,8 @@ take-event-spec =
     (tie.spec
     dispatch-requires
     print-requires
-    size-of-requires
+    add-t31
     add-t32
-    add-t33
     same-length
     same-length-2
     same-length-3

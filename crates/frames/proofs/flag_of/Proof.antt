@@ -7,8 +7,8 @@ use borrow.Author.Needs.{needs}
 use Rattle.frames.proofs.flag_of.Statement.{statement}
 use Rattle.frames.proofs.flag_of.Tie as tie
 
-add-if-listed : tie.Need-add-if-listed
-add-if-listed c = search needs
+add-stray : tie.Need-add-stray
+add-stray c = search needs
 
 if-listed-requires : tie.Need-if-listed-requires
 if-listed-requires c κs = search needs
@@ -20,4 +20,4 @@ returns c =
     λ l behind. flag-read f behind l _ _ (start .pre) (c .if-listed .ensures) refl (flag-event (fieldsIn f) _ (start .pre))
 
 pub flag-of-spec : {M : Type 1} → statement M
-flag-of-spec = tie.close (tie.spec add-if-listed if-listed-requires returns)
+flag-of-spec = tie.close (tie.spec add-stray if-listed-requires returns)

@@ -2,8 +2,8 @@
 use mathlib.Core.Path.{refl}
 use native.Mathlib.Omega.{arith}
 use Rattle.frames.specs.Decoded.{fieldsIn}
-use Rattle.frames.proofs.Laws.{start-event, enter-event, wire-event, radio-event, move-event}
-use Rattle.frames.proofs.Values.{station-read, wire-read, move-read, unknown-read}
+use Rattle.frames.proofs.Laws.{unlisted-start, unlisted-enter, unlisted-radio, start-event, enter-event, wire-event, radio-event, move-event}
+use Rattle.frames.proofs.Values.{station-read, wire-read, move-read}
 use borrow.Author.Needs.{needs}
 use Rattle.frames.proofs.reading_of.Statement.{statement}
 use Rattle.frames.proofs.reading_of.Tie as tie
@@ -24,8 +24,8 @@ returns-2 : tie.Need-returns-2
 returns-2 c =
     let a = c .before .before .before .before .args in
     let k = c .before .if3 .taken in
-    λ l. station-read (a .f) (a .behind) l _ _ (omega arith) (λ z. omega arith) (λ z. omega arith) (λ z. omega arith) (λ z. omega arith)
-    (c .if-listed2 .ensures) refl (radio-event (fieldsIn (a .f)) _ k)
+    λ l. station-read (a .f) (a .behind) l _ _ (omega arith) (unlisted-radio (fieldsIn (a .f)) k) (c .if-listed2 .ensures) refl
+    (radio-event (fieldsIn (a .f)) _ k)
 
 if-listed-requires-3 : tie.Need-if-listed-requires-3
 if-listed-requires-3 c κs = search needs
@@ -36,37 +36,27 @@ returns-3 c =
     let k = c .before .if4 .taken in
     λ l. move-read (a .f) (a .behind) l _ _ k (c .if-listed3 .ensures) refl (move-event (fieldsIn (a .f)) _ k)
 
-flag-of-requires : tie.Need-flag-of-requires
-flag-of-requires c κs = search needs
+later-of-requires : tie.Need-later-of-requires
+later-of-requires c κs = search needs
 
 returns-4 : tie.Need-returns-4
-returns-4 c = let a = c .before .before .before .before .before .before .args in λ l. c .flag-of .ensures l (a .behind)
-
-returns-5 : tie.Need-returns-5
-returns-5 c =
-    let a = c .before .before .before .before .before .args in
-    let some = c .before .before .before .before .if1 .taken in
-    let three = c .before .before .before .if2 .left in
-    let four = c .before .before .if3 .left in
-    let five = c .before .if4 .left in
-    let six = c .if5 .left in
-    λ l. unknown-read (a .f) (a .behind) l (omega arith)
+returns-4 c = search needs
 
 send-of-requires : tie.Need-send-of-requires
 send-of-requires c κs = search needs
 
-returns-6 : tie.Need-returns-6
-returns-6 c = search needs
+returns-5 : tie.Need-returns-5
+returns-5 c = search needs
 
 if-listed-requires-4 : tie.Need-if-listed-requires-4
 if-listed-requires-4 c κs = search needs
 
-returns-7 : tie.Need-returns-7
-returns-7 c =
+returns-6 : tie.Need-returns-6
+returns-6 c =
     let a = c .before .before .before .before .args in
-    let k = c .before .if7 .taken in
-    λ l. station-read (a .f) (a .behind) l _ _ (omega arith) (λ z. omega arith) (λ z. omega arith) (λ z. omega arith) (λ z. omega arith)
-    (c .if-listed4 .ensures) refl (enter-event (fieldsIn (a .f)) _ k)
+    let k = c .before .if6 .taken in
+    λ l. station-read (a .f) (a .behind) l _ _ (omega arith) (unlisted-enter (fieldsIn (a .f)) k) (c .if-listed4 .ensures) refl
+    (enter-event (fieldsIn (a .f)) _ k)
 
 add-if-listed : tie.Need-add-if-listed
 add-if-listed c = search needs
@@ -77,14 +67,14 @@ add-t33 c = search needs
 if-listed-requires-5 : tie.Need-if-listed-requires-5
 if-listed-requires-5 c κs = search needs
 
-returns-8 : tie.Need-returns-8
-returns-8 c =
+returns-7 : tie.Need-returns-7
+returns-7 c =
     let a = c .before .before .before .before .args in
     let few = c .before .before .before .if1 .left in
-    let two = c .before .before .if6 .left in
-    let one = c .before .if7 .left in
-    λ l. station-read (a .f) (a .behind) l _ _ (omega arith) (λ z. omega arith) (λ z. omega arith) (λ z. omega arith) (λ z. omega arith)
-    (c .if-listed5 .ensures) refl (start-event (fieldsIn (a .f)) _ (omega arith))
+    let two = c .before .before .if5 .left in
+    let one = c .before .if6 .left in
+    λ l. station-read (a .f) (a .behind) l _ _ (omega arith) (unlisted-start (fieldsIn (a .f)) (omega arith)) (c .if-listed5 .ensures) refl
+    (start-event (fieldsIn (a .f)) _ (omega arith))
 
 pub reading-of-spec : {M : Type 1} → statement M
 reading-of-spec =
@@ -96,14 +86,13 @@ reading-of-spec =
     returns-2
     if-listed-requires-3
     returns-3
-    flag-of-requires
+    later-of-requires
     returns-4
-    returns-5
     send-of-requires
-    returns-6
+    returns-5
     if-listed-requires-4
-    returns-7
+    returns-6
     add-if-listed
     add-t33
     if-listed-requires-5
-    returns-8)
+    returns-7)

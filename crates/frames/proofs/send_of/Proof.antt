@@ -1,33 +1,29 @@
 -- `frames::send_of` meets its contract.
+use mathlib.Core.Path.{refl}
 use native.Mathlib.Omega.{arith}
-use Rattle.frames.proofs.Values.{send-stray, send-long, send-cut, send-read}
+use borrow.Author.Needs.{needs}
+use Rattle.frames.specs.Decoded.{fieldsIn}
+use Rattle.frames.proofs.Laws.{send-event}
+use Rattle.frames.proofs.Values.{send-stray, send-read}
 use Rattle.frames.proofs.send_of.Statement.{statement}
 use Rattle.frames.proofs.send_of.Tie as tie
 
+add-stray : tie.Need-add-stray
+add-stray c = search needs
+
 returns : tie.Need-returns
 returns c =
-    let a = c .before .before in
-    λ l. send-stray (a .args .f) (a .args .behind) l (a .pre) (λ z. omega arith)
+    let start = c .before .before .before in
+    λ l. send-stray (start .args .f) (start .args .behind) l (start .pre) (c .if1 .taken)
+
+if-whole-requires : tie.Need-if-whole-requires
+if-whole-requires c κs = search needs
 
 returns-2 : tie.Need-returns-2
 returns-2 c =
-    let a = c .before .before .before .before in
-    λ l. send-stray (a .args .f) (a .args .behind) l (a .pre) (λ z. omega arith)
-
-returns-3 : tie.Need-returns-3
-returns-3 c =
-    let a = c .before .before .before .before .before .before in
-    λ l. send-long (a .args .f) (a .args .behind) l (a .pre) (omega arith) (omega arith)
-
-returns-4 : tie.Need-returns-4
-returns-4 c =
-    let a = c .before .before .before .before .before .before .before in
-    λ l. send-cut (a .args .f) (a .args .behind) l (a .pre) (omega arith) (omega arith) (omega arith)
-
-returns-5 : tie.Need-returns-5
-returns-5 c =
-    let a = c .before .before .before .before .before .before .before .before in
-    λ l. send-read (a .args .f) (a .args .behind) l (a .pre) (omega arith) (omega arith) (omega arith)
+    let start = c .before .before .before .before .before .before in
+    let f = start .args .f in
+    λ l. send-read f (start .args .behind) l _ _ (start .pre) (omega (arith, c .before .before .before .if1 .left)) (c .if-whole .ensures) refl (send-event (fieldsIn f) _ (start .pre))
 
 pub send-of-spec : {M : Type 1} → statement M
-send-of-spec = tie.close (tie.spec returns returns-2 returns-3 returns-4 returns-5)
+send-of-spec = tie.close (tie.spec add-stray returns if-whole-requires returns-2)

@@ -13,11 +13,22 @@ enum-known-e c = search needs
 add-result : tie.Need-add-result
 add-result c = omega (arith, ap (λ x. sizeOf x) (c .before .e .given .1))
 
+enum-known-e-2 : tie.Need-enum-known-e-2
+enum-known-e-2 c = search needs
+
+add-result-2 : tie.Need-add-result-2
+add-result-2 c = omega (arith, ap (λ x. sizeOf x) (c .before .e2 .given .1))
+
 returns : tie.Need-returns
 returns c = sym (ap (λ x. sizeOf x) (c .before .e .given .1))
 
 returns-2 : tie.Need-returns-2
-returns-2 c = other-size (c .before .args .e) (c .match .keys2)
+returns-2 c = sym (ap (λ x. sizeOf x) (c .before .e2 .given .1))
+
+returns-3 : tie.Need-returns-3
+returns-3 c = other-size (c .before .args .e) (c .match .keys3)
 
 pub size-of-spec : {M : Type 1} → statement M
-size-of-spec = tie.close (tie.spec enum-known-e add-result returns returns-2)
+size-of-spec =
+    tie.close
+    (tie.spec enum-known-e add-result enum-known-e-2 add-result-2 returns returns-2 returns-3)

@@ -1,8 +1,9 @@
 -- `tested_events::send` meets its contract.
-use native.Mathlib.Omega.{arith}
+use mathlib.Core.Path.{sym, _∙_}
 use borrow.Author.Needs.{needs}
-use borrow.Author.Tests.{not-true}
+use borrow.Author.Tests.{ltb-true, ltb-false, not-true}
 use denote.Ref.{now}
+use lib.ListN.{length}
 use Rattle.products.proofs.Numbers.{productOf, its-numbers}
 use Rattle.view.specs.View.{lent}
 use Rattle.event_answers.proofs.Broken.{long-send, broken-send}
@@ -12,19 +13,23 @@ use Rattle.tested_events.proofs.send.Tie as tie
 
 returns : tie.Need-returns
 returns c P e =
-    let a = c .before .before .before .before .before .before .before .args in
-    long-send (lent P (now (a .stations)) (now (a .carts)) (now (a .messages)) (now (a .lines)) (now (a .texts))) (a .station .0) (a .set) (now (a .text)) (omega (arith, c .if1 .taken))
+    let a = c .before .before .before .before .before .before .before .before .args in
+    long-send (lent P (now (a .stations)) (now (a .carts)) (now (a .messages)) (now (a .lines)) (now (a .texts))) (a .station .0) (a .set) (now (a .text)) (ltb-true 32 (length (now (a .text))) (sym (c .before .is-too-long .ensures) ∙ c .if1 .taken))
 
 returns-2 : tie.Need-returns-2
 returns-2 c P e =
-    let a = c .before .before .before .before .before .before .before .before .before .before .before .before .before .args in
-    broken-send (lent P (now (a .stations)) (now (a .carts)) (now (a .messages)) (now (a .lines)) (now (a .texts))) _ (c .before .passes .ensures P e) (not-true _ (c .if2 .taken)) (a .station .0) (a .set) (now (a .text)) (omega (arith, c .before .before .before .before .before .before .if1 .left))
+    let a = c .before .before .before .before .before .before .before .before .before .before .before .before .before .before .args in
+    broken-send (lent P (now (a .stations)) (now (a .carts)) (now (a .messages)) (now (a .lines)) (now (a .texts))) _ (c .before .passes .ensures P e) (not-true _ (c .if2 .taken)) (a .station .0) (a .set) (now (a .text))
+    (ltb-false 32 (length (now (a .text))) (sym (c .before .before .before .before .before .before .before .is-too-long .ensures) ∙ c .before .before .before .before .before .before .if1 .left))
 
 send-requires : tie.Need-send-requires
 send-requires c κs =
-    let start = c .before .before .before .before .before .before .before .before .before .before .before .before .before .before .before .before .before in
-    let e = its-numbers (start .args .bounds) (start .pre) in
-    ((productOf (start .args .bounds) (start .pre), e, tested-ready _ _ (c .before .before .before .before .before .passes .ensures _ e) (c .before .before .before .before .if2 .left)), omega (arith, c .before .before .before .before .before .before .before .before .before .before .if1 .left))
+    let start = c .before .before .before .before .before .before .before .before .before .before .before .before .before .before .before .before .before .before in
+    let a = start .args in
+    let e = its-numbers (a .bounds) (start .pre) in (
+      (productOf (a .bounds) (start .pre), e, tested-ready _ _ (c .before .before .before .before .before .passes .ensures _ e) (c .before .before .before .before .if2 .left)),
+      ltb-false 32 (length (now (a .text))) (sym (c .before .before .before .before .before .before .before .before .before .before .before .is-too-long .ensures) ∙ c .before .before .before .before .before .before .before .before .before .before .if1 .left),
+    )
 
 returns-3 : tie.Need-returns-3
 returns-3 c P e = c .before .before .before .before .before .before .before .before .send .ensures P e (tested-ready _ _ (c .before .before .before .before .before .before .before .before .before .before .before .before .before .before .passes .ensures P e) (c .before .before .before .before .before .before .before .before .before .before .before .before .before .if2 .left))
@@ -32,4 +37,4 @@ returns-3 c P e = c .before .before .before .before .before .before .before .bef
 pub send-spec : {M : Type 1} → statement M
 send-spec =
     tie.close
-    (tie.spec returns (λ c κs. search needs) (λ c. search needs) (λ c. search needs) (λ c. search needs) (λ c. search needs) returns-2 send-requires (λ c. search needs) (λ c. search needs) (λ c. search needs) (λ c. search needs) returns-3)
+    (tie.spec (λ c κs. search needs) returns (λ c κs. search needs) (λ c. search needs) (λ c. search needs) (λ c. search needs) (λ c. search needs) returns-2 send-requires (λ c. search needs) (λ c. search needs) (λ c. search needs) (λ c. search needs) returns-3)
