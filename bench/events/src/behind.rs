@@ -1,7 +1,7 @@
 //! The plain floor behind the same calls as the proved events: C functions that are lent five parts and the words for the answer. The first
 //! part is the floor, the others are empty.
 
-use crate::event::{self, cart, said, station, Event};
+use crate::event::{self, cart, group, said, station, Event};
 use crate::proved::{Said, WORDS};
 use plain::Floor;
 use std::hint::black_box;
@@ -48,6 +48,13 @@ behind!(move_cart, Move, |floor, c: u64, to: u64| {
 behind!(flag_cart, Flag, |floor, c: u64, steady: u64| {
     said(6, floor.set_steady(cart(c), steady != 0).map(|step| (step, 0)))
 });
+behind!(set_group, SetGroup, |floor, g: u64, set: u64| {
+    said(7, floor.set_group(group(g), set).map(|step| (step, 0)))
+});
+behind!(send_group, SendGroup, |floor, s: u64, g: u64, text: *const u8, size: usize| {
+    let text = unsafe { std::slice::from_raw_parts(text, size) };
+    said(8, floor.send_to_group(station(s), group(g), text).map(|step| (step, 0)))
+});
 
 /// A plain floor and its functions; they are not known where they are called.
 #[derive(Clone)]
@@ -59,6 +66,8 @@ pub struct Behind {
     radio: Radio,
     move_cart: Move,
     flag_cart: Flag,
+    set_group: SetGroup,
+    send_group: SendGroup,
 }
 
 macro_rules! call {
@@ -81,6 +90,8 @@ impl Behind {
             radio: black_box(radio),
             move_cart: black_box(move_cart),
             flag_cart: black_box(flag_cart),
+            set_group: black_box(set_group),
+            send_group: black_box(send_group),
         }
     }
 
@@ -100,6 +111,10 @@ impl Behind {
             }
             Event::Move(c, to) => call!((self.move_cart), floor, out, c, to),
             Event::Flag(c, steady) => call!((self.flag_cart), floor, out, c, steady as u64),
+            Event::Group(g, set) => call!((self.set_group), floor, out, g, set),
+            Event::SendGroup(s, g, ref text) => {
+                call!((self.send_group), floor, out, s, g, text.as_ptr(), text.len())
+            }
         }
         out
     }

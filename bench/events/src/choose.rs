@@ -1,7 +1,8 @@
 //! Which event is tried next: often one that the floor can take, else any numbers, absurd ones among them.
 
 use crate::event::Event;
-use plain::{CartNo, Floor, Place, StationNo};
+use plain::floor::GROUPS;
+use plain::{CartNo, Floor, GroupNo, Place, StationNo};
 use shared::numbers::Numbers;
 
 /// Mostly below n, now and then beside it, or far off.
@@ -40,6 +41,18 @@ fn set(numbers: &mut Numbers, floor: Option<&Floor>, k: u64) -> u64 {
     }
 }
 
+/// A group to send to: mostly one that is defined, if the one that is looked at first or one behind it is.
+fn group(numbers: &mut Numbers, floor: Option<&Floor>) -> u64 {
+    const COUNT: u64 = GROUPS as u64;
+    let any = near(numbers, COUNT);
+    let from_any = (0..COUNT).map(|g| (any % COUNT + g) % COUNT);
+    let defined = |f: &Floor| from_any.into_iter().find(|&g| f.group(GroupNo(g as u8)) != 0);
+    match floor.and_then(defined) {
+        Some(group) if numbers.below(4) > 0 => group,
+        _ => any,
+    }
+}
+
 /// A line with a record, if the one that is looked at first or one behind it has any.
 fn line(numbers: &mut Numbers, floor: &Floor) -> Option<Event> {
     let n = floor.stations() as u64;
@@ -67,7 +80,8 @@ fn receiver(numbers: &mut Numbers, floor: &Floor) -> Option<Event> {
 pub fn event(numbers: &mut Numbers, floor: Option<&Floor>, n: u64, k: u64) -> Event {
     let kind = match floor {
         None if numbers.below(5) == 0 => 0,
-        _ => [0, 1, 1, 2, 2, 2, 3, 3, 3, 3, 3, 4, 4, 4, 5, 5, 6, 7][numbers.below(18) as usize],
+        _ => [0, 1, 1, 2, 2, 2, 3, 3, 3, 3, 3, 4, 4, 4, 5, 5, 6, 7, 7, 8, 8, 9]
+            [numbers.below(22) as usize],
     };
     if let (Some(floor), true) = (floor, numbers.below(4) > 0) {
         let sensible = match kind {
@@ -88,6 +102,8 @@ pub fn event(numbers: &mut Numbers, floor: Option<&Floor>, n: u64, k: u64) -> Ev
         4 => Event::Radio(near(numbers, n), near(numbers, k)),
         5 => Event::Move(near(numbers, k), near(numbers, n)),
         6 => Event::Flag(near(numbers, k), numbers.below(2) == 0),
+        7 => Event::Group(near(numbers, GROUPS as u64), set(numbers, floor, k)),
+        8 => Event::SendGroup(near(numbers, n), group(numbers, floor), text(numbers)),
         _ => Event::Quiet,
     }
 }

@@ -1,10 +1,11 @@
 //! Damage to a lent floor: one word or octet of any part, or a length; and floors that no run reaches soon, but that pass the form rule.
 
+use plain::floor::GROUPS;
 use plain::words::{
-    Words, COPIES, ENTRIES, LINES, RECORDS, REGISTERS, ROOM_WORDS, ROWS, STATION_ROW,
+    Words, COPIES, ENTRIES, GROUP_WORDS, LINES, RECORDS, REGISTERS, ROOM_WORDS, ROWS, STATION_ROW,
 };
 use shared::numbers::Numbers;
-use shared::places::{travelling_cart, used_row};
+use shared::places::{group_word, travelling_cart, used_row};
 use shared::rule;
 
 /// Another value: any, a small one, one beside it, the neighbour's, or one bit of it changed.
@@ -58,8 +59,19 @@ fn recount(numbers: &mut Numbers, w: &mut Words) {
     w.stations[row + COPIES + numbers.below(2) as usize] ^= 1 << room;
 }
 
+/// Some group has other members: any, a cart more, or carts of the floor, entered or not.
+fn regroup(numbers: &mut Numbers, w: &mut Words) {
+    let (at, all) = (group_word(numbers), u64::MAX >> (64 - w.stations[2]));
+    w.stations[at] = match numbers.below(4) {
+        0 => w.stations[at] | 1 << numbers.below(64),
+        1 => w.stations[at] | 1 << numbers.below(w.stations[2]),
+        2 => all & numbers.next() & numbers.next(),
+        _ => other(numbers, &w.stations, at),
+    };
+}
+
 fn word(numbers: &mut Numbers, w: &mut Words) {
-    match numbers.below(10) {
+    match numbers.below(11) {
         0 => {
             let at = numbers.below(w.texts.len() as u64) as usize;
             w.texts[at] ^= 1 << numbers.below(8);
@@ -68,6 +80,7 @@ fn word(numbers: &mut Numbers, w: &mut Words) {
         4 => replace(numbers, &mut w.carts),
         5..=6 => replace(numbers, &mut w.messages),
         7 => recount(numbers, w),
+        8 => regroup(numbers, w),
         _ => {
             let at = line_word(numbers, &w.lines, &w.carts);
             w.lines[at] = other(numbers, &w.lines, at);
@@ -132,9 +145,11 @@ fn uncounted(numbers: &mut Numbers, stations: &mut [u64]) {
     }
 }
 
-/// What no step looks at: the words of free rooms, of rooms that do not count, of free rows, of registers that are on no line and behind a text.
+/// What no step looks at: the words behind the groups, of free rooms, of rooms that do not count, of free rows, of registers that are on no line
+/// and behind a text.
 fn leftovers(numbers: &mut Numbers, w: &mut Words) {
     let all = u64::MAX >> (64 - w.stations[2]);
+    w.stations[GROUP_WORDS + GROUPS..STATION_ROW].fill_with(|| numbers.next());
     for m in 0..32 {
         if w.messages[6 * m + 4] != 0 {
             continue;
@@ -163,18 +178,19 @@ fn leftovers(numbers: &mut Numbers, w: &mut Words) {
     }
 }
 
-/// A word that says something of a cart, a held message, or what a station of the floor keeps: its part, and where it stands.
+/// A word that says something of a cart, a held message, a group, or what a station of the floor keeps: its part, and where it stands.
 fn meaningful(numbers: &mut Numbers, w: &Words) -> (usize, usize) {
     let (n, k) = (w.stations[1], w.stations[2]);
     let room = held_room(numbers, &w.messages);
     let (t, c) = (numbers.below(n) as usize, numbers.below(k) as usize);
     let row = STATION_ROW * (1 + t);
-    match numbers.below(7) {
+    match numbers.below(8) {
         0 => (1, 19 * c + 3 + t),
         1 => (2, 6 * room + 2 + numbers.below(4) as usize),
         2 => (0, row),
         3 => (0, row + 1 + numbers.below(n) as usize),
         4 => (0, row + COPIES + numbers.below(2) as usize),
+        5 => (0, group_word(numbers)),
         _ => (0, row + ROOM_WORDS + 3 * room + numbers.below(3) as usize),
     }
 }

@@ -2,7 +2,7 @@
 
 use crate::proved::{Said, WORDS};
 use plain::words::Words;
-use plain::{CartNo, Floor, Refusal, StationNo, Step};
+use plain::{CartNo, Floor, GroupNo, Refusal, StationNo, Step};
 use shared::places::LENGTHS;
 use shared::rule;
 
@@ -15,11 +15,14 @@ pub enum Event {
     Radio(u64, u64),
     Move(u64, u64),
     Flag(u64, bool),
+    Group(u64, u64),
+    SendGroup(u64, u64, Vec<u8>),
     Quiet,
 }
 
 /// The kinds in the order of their numbers. No frame has the last.
-pub const KINDS: [&str; 8] = ["start", "enter", "send", "wire", "radio", "move", "flag", "quiet"];
+pub const KINDS: [&str; 10] =
+    ["start", "enter", "send", "wire", "radio", "move", "flag", "group", "send to group", "quiet"];
 
 impl Event {
     pub fn kind(&self) -> usize {
@@ -31,7 +34,9 @@ impl Event {
             Event::Radio(..) => 4,
             Event::Move(..) => 5,
             Event::Flag(..) => 6,
-            Event::Quiet => 7,
+            Event::Group(..) => 7,
+            Event::SendGroup(..) => 8,
+            Event::Quiet => 9,
         }
     }
 
@@ -53,6 +58,11 @@ pub fn station(n: u64) -> StationNo {
 #[inline(always)]
 pub fn cart(n: u64) -> CartNo {
     CartNo(n.min(255) as u8)
+}
+
+#[inline(always)]
+pub fn group(n: u64) -> GroupNo {
+    GroupNo(n.min(255) as u8)
 }
 
 #[inline(always)]
@@ -91,6 +101,8 @@ pub fn apply(floor: &mut Floor, event: &Event, buffer: &mut [u8]) -> Said {
         Event::Radio(t, c) => return said(4, floor.radio(station(t), cart(c), buffer)),
         Event::Move(c, to) => (5, floor.move_cart(cart(c), station(to))),
         Event::Flag(c, steady) => (6, floor.set_steady(cart(c), steady)),
+        Event::Group(g, set) => (7, floor.set_group(group(g), set)),
+        Event::SendGroup(s, g, ref text) => (8, floor.send_to_group(station(s), group(g), text)),
         Event::Quiet => return quiet_said(floor.quiet(buffer)),
     };
     said(kind, answer.map(|step| (step, 0)))
@@ -108,7 +120,9 @@ pub fn plain(
         Event::Start(..) if lengths(w) != LENGTHS => return (refused(5), None),
         Event::Start(..) if w.stations[0] == 1 => return (refused(6), None),
         Event::Start(..) => Floor::new(),
-        Event::Send(_, _, text) if text.len() > 32 => return (refused(4), None),
+        Event::Send(_, _, text) | Event::SendGroup(_, _, text) if text.len() > 32 => {
+            return (refused(4), None)
+        }
         _ => match known {
             Some(floor) => floor,
             None => return (refused(5), None),

@@ -37,6 +37,8 @@ linked! {
     mekhturia_radio, mekhturia_step_radio => (station: u64, cart: u64, buffer: *mut u8, size: usize);
     mekhturia_move, mekhturia_step_move => (cart: u64, to: u64);
     mekhturia_flag, mekhturia_step_flag => (cart: u64, steady: u64);
+    mekhturia_group, mekhturia_step_group => (group: u64, set: u64);
+    mekhturia_send_group, mekhturia_step_send_group => (station: u64, group: u64, text: *const u8, size: usize);
     mekhturia_quiet => (buffer: *mut u8, size: usize);
 }
 
@@ -57,7 +59,10 @@ macro_rules! call {
 
 /// Calls the function of the event's kind. There are at least `WORDS` words for the answer.
 macro_rules! call_one {
-    ($w:expr, $event:expr, $buffer:expr, $out:expr, $start:ident, $enter:ident, $send:ident, $wire:ident, $radio:ident, $move:ident, $flag:ident) => {{
+    (
+        $w:expr, $event:expr, $buffer:expr, $out:expr,
+        $start:ident, $enter:ident, $send:ident, $wire:ident, $radio:ident, $move:ident, $flag:ident, $group:ident, $send_group:ident
+    ) => {{
         assert!($out.len() >= WORDS);
         match *$event {
             Event::Start(n, k) => call!($start, $w, $out, n, k),
@@ -71,6 +76,10 @@ macro_rules! call_one {
             }
             Event::Move(c, to) => call!($move, $w, $out, c, to),
             Event::Flag(c, steady) => call!($flag, $w, $out, c, steady as u64),
+            Event::Group(g, set) => call!($group, $w, $out, g, set),
+            Event::SendGroup(s, g, ref text) => {
+                call!($send_group, $w, $out, s, g, text.as_ptr(), text.len())
+            }
             Event::Quiet => {
                 call!(mekhturia_quiet, $w, $out, $buffer.as_mut_ptr(), $buffer.len())
             }
@@ -85,7 +94,8 @@ pub fn call(w: &mut Words, event: &Event, buffer: &mut [u8], out: &mut [u64]) {
         call_one! {
             w, event, buffer, out,
             mekhturia_start, mekhturia_enter, mekhturia_send,
-            mekhturia_wire, mekhturia_radio, mekhturia_move, mekhturia_flag
+            mekhturia_wire, mekhturia_radio, mekhturia_move, mekhturia_flag,
+            mekhturia_group, mekhturia_send_group
         }
     }
 }
@@ -99,6 +109,7 @@ pub unsafe fn step(w: &mut Words, event: &Event, buffer: &mut [u8], out: &mut [u
     call_one! {
         w, event, buffer, out,
         mekhturia_start, mekhturia_step_enter, mekhturia_step_send,
-        mekhturia_step_wire, mekhturia_step_radio, mekhturia_step_move, mekhturia_step_flag
+        mekhturia_step_wire, mekhturia_step_radio, mekhturia_step_move, mekhturia_step_flag,
+        mekhturia_step_group, mekhturia_step_send_group
     }
 }

@@ -1,6 +1,6 @@
 //! Floors that events reach: small and full-size ones, after short and long runs.
 
-use plain::{CartNo, Floor, StationNo};
+use plain::{CartNo, Floor, GroupNo, StationNo};
 use shared::floors::{self, some_text};
 use shared::numbers::Numbers;
 
@@ -14,11 +14,11 @@ fn size(numbers: &mut Numbers) -> (u64, u64) {
 }
 
 /// Which kinds come how often: a run may have few sends or many, and its lines may fill or stay short.
-fn weights(numbers: &mut Numbers) -> [u64; 6] {
-    std::array::from_fn(|kind| 1 + numbers.below([4, 4, 4, 12, 2, 24][kind]))
+fn weights(numbers: &mut Numbers) -> [u64; 8] {
+    std::array::from_fn(|kind| 1 + numbers.below([4, 4, 4, 12, 2, 2, 3, 24][kind]))
 }
 
-fn step(numbers: &mut Numbers, floor: &mut Floor, weights: &[u64; 6], n: u64, k: u64) {
+fn step(numbers: &mut Numbers, floor: &mut Floor, weights: &[u64; 8], n: u64, k: u64) {
     let (s, t) = (StationNo(numbers.below(n) as u8), StationNo(numbers.below(n) as u8));
     let cart = CartNo(numbers.below(k) as u8);
     let mut at = numbers.below(weights.iter().sum());
@@ -41,6 +41,14 @@ fn step(numbers: &mut Numbers, floor: &mut Floor, weights: &[u64; 6], n: u64, k:
             floor.radio(s, cart, &mut [0; 32]).map(|(step, _)| step)
         }
         Some(4) => floor.set_steady(cart, numbers.below(2) == 0),
+        Some(5) => {
+            let set = floor.entered() & numbers.next() & numbers.next();
+            floor.set_group(GroupNo(numbers.below(16) as u8), set)
+        }
+        Some(6) => {
+            let group = GroupNo(numbers.below(16) as u8);
+            floor.send_to_group(s, group, &some_text(numbers))
+        }
         _ => floor.wire(s, t),
     };
 }

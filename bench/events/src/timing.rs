@@ -142,20 +142,31 @@ fn wire_all(floor: &mut Floor) -> Vec<Event> {
     events
 }
 
-/// Sixteen messages, each to eight carts, until all are deleted.
+/// Eight carts of those that the cycle of messages may name.
+fn eight(numbers: &mut Numbers) -> u64 {
+    let free = (0..64).filter(|c| c % 16 != BLOCKED).collect::<Vec<u64>>();
+    let mut set = 0u64;
+    while set.count_ones() < 8 {
+        set |= 1 << free[numbers.below(free.len() as u64) as usize];
+    }
+    set
+}
+
+/// Sixteen messages, each to eight carts, until all are deleted: one of every two stations sends to a group, which gets its members before.
 fn messages(floor: &mut Floor) -> Vec<Batch> {
     let mut numbers = Numbers(0x5eed);
-    let free = (0..64).filter(|c| c % 16 != BLOCKED).collect::<Vec<u64>>();
-    let sends: Vec<Event> = (0..16)
-        .map(|s| {
-            let mut set = 0u64;
-            while set.count_ones() < 8 {
-                set |= 1 << free[numbers.below(free.len() as u64) as usize];
-            }
-            Event::Send(s, set, (0..1 + 2 * s).map(|_| numbers.next() as u8).collect())
-        })
-        .collect();
-    accept(floor, &sends);
+    let (mut groups, mut sends, mut to_groups) = (vec![], vec![], vec![]);
+    for s in 0..16 {
+        let set = eight(&mut numbers);
+        let text = (0..1 + 2 * s).map(|_| numbers.next() as u8).collect();
+        if s % 2 == 0 {
+            sends.push(Event::Send(s, set, text));
+        } else {
+            groups.push(Event::Group(s, set));
+            to_groups.push(Event::SendGroup(s, s, text));
+        }
+    }
+    [&groups, &sends, &to_groups].into_iter().for_each(|events| accept(floor, events));
     let multicasts = wire_all(floor);
     let mut radios = vec![];
     for t in (0..16).filter(|&t| t != BLOCKED) {
@@ -169,7 +180,9 @@ fn messages(floor: &mut Floor) -> Vec<Batch> {
     let deletes = wire_all(floor);
     assert!(floor.held() == STAY as usize);
     vec![
+        Batch { name: "group", events: groups },
         Batch { name: "send", events: sends },
+        Batch { name: "send to group", events: to_groups },
         Batch { name: "wire, multicast", events: multicasts },
         Batch { name: "radio", events: radios },
         Batch { name: "wire, ack list", events: acks },

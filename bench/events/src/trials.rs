@@ -58,7 +58,7 @@ fn step_alone(
     lent: &[u8],
     (left, buffer, out): (&Words, &[u8], &[u64]),
 ) -> Result<(), String> {
-    if matches!(event, Event::Send(_, _, text) if text.len() > 32) {
+    if matches!(event, Event::Send(_, _, text) | Event::SendGroup(_, _, text) if text.len() > 32) {
         return Ok(());
     }
     let (mut w, mut b, mut o) = (before.clone(), lent.to_vec(), [BEHIND; WORDS + 1]);
@@ -138,13 +138,13 @@ fn report(counts: &Counts, trials: u64) {
     for (kind, name) in KINDS.iter().enumerate() {
         let of = |r: u64| counts.answers.get(&(kind, r)).copied().unwrap_or(0);
         let refusals: Vec<String> =
-            (1..=25).filter(|&r| of(r) > 0).map(|r| format!("{r}: {}", of(r))).collect();
-        println!("  {name:<6} {:>9}   {}", of(0), refusals.join(", "));
+            (1..=26).filter(|&r| of(r) > 0).map(|r| format!("{r}: {}", of(r))).collect();
+        println!("  {name:<13} {:>9}   {}", of(0), refusals.join(", "));
     }
     println!("most steps until a floor was quiet: {}", counts.most_steps);
     let met = |r: u64| counts.answers.keys().any(|&(_, s)| s == r);
-    let missing: Vec<u64> = (4..22).chain([24, 25]).filter(|&r| !met(r)).collect();
-    println!("refusals 4 to 21, 24 and 25 that never occurred: {missing:?}");
+    let missing: Vec<u64> = (4..22).chain([24, 25, 26]).filter(|&r| !met(r)).collect();
+    println!("refusals 4 to 21 and 24 to 26 that never occurred: {missing:?}");
     println!("clauses of the form rule found broken: {:?}", counts.faults);
 }
 

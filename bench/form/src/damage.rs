@@ -1,8 +1,10 @@
-//! Damage to the words of a floor: a word or two replaced, which rooms count, a record doubled, a length changed.
+//! Damage to the words of a floor: a word or two replaced, which rooms count, a group's members, a record doubled, a length changed.
 
-use plain::words::{Words, COPIES, ENTRIES, LINES, RECORDS, REGISTERS, ROOM_WORDS, ROWS, STATION_ROW};
+use plain::words::{
+    Words, COPIES, ENTRIES, LINES, RECORDS, REGISTERS, ROOM_WORDS, ROWS, STATION_ROW,
+};
 use shared::numbers::Numbers;
-use shared::places::{travelling_cart, used_row};
+use shared::places::{group_word, travelling_cart, used_row};
 
 /// Another value for a word: any, a small one, one beside it, one bit of it, or another word's.
 fn other_value(numbers: &mut Numbers, words: &[u64], at: usize) -> u64 {
@@ -36,6 +38,15 @@ fn recount(numbers: &mut Numbers, stations: &mut [u64]) {
     stations[row + [COPIES, COPIES, ENTRIES][entry]] ^= 1 << room;
     if numbers.below(2) == 0 {
         replace(numbers, stations, row + ROOM_WORDS + 3 * room + entry);
+    }
+}
+
+/// Some group has a cart more, or any members.
+fn regroup(numbers: &mut Numbers, stations: &mut [u64]) {
+    let at = group_word(numbers);
+    match numbers.below(2) {
+        0 => stations[at] |= 1 << numbers.below(64),
+        _ => replace(numbers, stations, at),
     }
 }
 
@@ -77,6 +88,7 @@ fn one(numbers: &mut Numbers, w: &mut Words) {
             w.messages[6 * room + 4] ^= 1 << numbers.below(16);
         }
         10..=13 => recount(numbers, &mut w.stations),
+        14..=15 => regroup(numbers, &mut w.stations),
         part => {
             let in_lines = line_word(numbers, &w.lines, &w.carts);
             let words = [&mut w.stations, &mut w.carts, &mut w.messages, &mut w.lines];

@@ -31,6 +31,8 @@ impl Limits {
     pub const KIT: Limits = Limits { stations: 4, carts: 8, held: 8 };
 }
 
+/// "Sixteen groups, none defined at a start."
+pub const GROUPS: usize = 16;
 /// Longest text, in octets.
 pub const TEXT: usize = 32;
 /// The last number that a station gives to a message.
@@ -46,6 +48,10 @@ pub struct StationNo(pub u8);
 /// A cart, numbered from 0.
 #[derive(Clone, Copy, Debug, PartialEq, Eq)]
 pub struct CartNo(pub u8);
+
+/// A named group of carts, numbered from 0.
+#[derive(Clone, Copy, Debug, PartialEq, Eq)]
+pub struct GroupNo(pub u8);
 
 /// A message's number, given by its initiator.
 #[derive(Clone, Copy, Debug, PartialEq, Eq, PartialOrd, Ord)]
@@ -287,6 +293,8 @@ pub struct Floor {
     /// Carts that were told not to be steady. "A cart counts as steady from its entry until told",
     /// and as the flag is kept by cart, it "travels with the cart through hand-offs".
     pub(crate) unsteady: u64,
+    /// The members of each group; one that has none is not defined.
+    pub(crate) groups: [u64; GROUPS],
     /// Rooms in use.
     pub(crate) rooms: u32,
     /// Rooms in use by initiator.
@@ -348,6 +356,7 @@ impl Floor {
             carts: 0,
             entered: 0,
             unsteady: 0,
+            groups: [0; GROUPS],
             rooms: 0,
             rooms_by: [0; STATIONS],
             cart: [Cart { next: [0; STATIONS], place: Place::Outside }; CARTS],
@@ -389,6 +398,11 @@ impl Floor {
     /// Carts that are not steady.
     pub fn unsteady(&self) -> u64 {
         self.unsteady
+    }
+
+    /// The members of a group, none if it is not defined or there is no such group.
+    pub fn group(&self, group: GroupNo) -> u64 {
+        self.groups.get(group.0 as usize).copied().unwrap_or(0)
     }
 
     pub fn place(&self, cart: CartNo) -> Place {

@@ -1,6 +1,6 @@
 //! Frames taken apart into events.
 
-use crate::floor::{CartNo, StationNo, TEXT};
+use crate::floor::{CartNo, GroupNo, StationNo, TEXT};
 use crate::steps::Refusal;
 
 /// Octets of a frame, without the text that follows a send.
@@ -13,6 +13,11 @@ pub const WIRE: u8 = 3;
 pub const RADIO: u8 = 4;
 pub const MOVE: u8 = 5;
 pub const STEADY: u8 = 6;
+pub const GROUP: u8 = 7;
+pub const GROUP_SEND: u8 = 8;
+
+/// How many kinds there are.
+pub const KINDS: usize = 9;
 
 // Where the fields stand in the first eight octets, read as one number.
 const KIND: u32 = 60;
@@ -29,9 +34,8 @@ const LENGTH_FIELD: u64 = 0x3F << LENGTH;
 /// bit of that field alone were listed.
 const FLAG: u64 = 1 << OTHER;
 
-/// For each kind, the bits beside the kind that no listed field covers. A set is listed for a
-/// send alone.
-const STRAY: [u64; 7] = [
+/// For each kind, the bits beside the kind that no listed field covers, but for the set.
+const STRAY: [u64; KINDS] = [
     stray(STATION_FIELD | CART_FIELD),
     stray(STATION_FIELD | CART_FIELD),
     stray(STATION_FIELD | LENGTH_FIELD),
@@ -39,7 +43,12 @@ const STRAY: [u64; 7] = [
     stray(STATION_FIELD | CART_FIELD),
     stray(CART_FIELD | OTHER_FIELD),
     stray(CART_FIELD | FLAG),
+    stray(OTHER_FIELD),
+    stray(STATION_FIELD | OTHER_FIELD | LENGTH_FIELD),
 ];
+
+/// A bit for each kind that a set is listed for.
+const SETS: u32 = 1 << SEND | 1 << GROUP;
 
 const fn stray(listed: u64) -> u64 {
     !(listed | 0xF << KIND)
@@ -55,6 +64,8 @@ pub enum Event<'a> {
     Radio { station: StationNo, cart: CartNo },
     Move { cart: CartNo, to: StationNo },
     Steady { cart: CartNo, steady: bool },
+    Group { group: GroupNo, set: u64 },
+    GroupSend { station: StationNo, group: GroupNo, text: &'a [u8] },
 }
 
 /// What a reader answers.
@@ -100,74 +111,81 @@ impl<'a> Reader<'a> {
         let Some(&stray) = STRAY.get(kind as usize) else {
             return Taken::Refused(Refusal::UnknownKind);
         };
-        if head & stray != 0 || (set != 0 && kind != SEND) {
+        if head & stray != 0 || (set != 0 && SETS >> kind & 1 == 0) {
             return Taken::Refused(Refusal::StrayField);
         }
-        let station = StationNo((head >> STATION & 0xF) as u8);
-        let cart = CartNo((head >> CART & 0x3F) as u8);
-        let other = StationNo((head >> OTHER & 0xF) as u8);
         let mut rest = after;
-        let event = match kind {
-            START => Event::Start { stations: station.0 + 1, carts: cart.0 + 1 },
-            ENTER => Event::Enter { station, cart },
-            SEND => match text_of(head, after) {
-                Ok((text, behind)) => {
-                    rest = behind;
-                    Event::Send { station, set, text }
-                }
-                Err(refusal) => return Taken::Refused(refusal),
-            },
-            WIRE => Event::Wire { from: station, to: other },
-            RADIO => Event::Radio { station, cart },
-            MOVE => Event::Move { cart, to: other },
-            _ => Event::Steady { cart, steady: other.0 != 0 },
-        };
-        self.rest = rest;
-        Taken::Event(event)
+        match event_of(head, set, &mut rest) {
+            Ok(event) => {
+                self.rest = rest;
+                Taken::Event(event)
+            }
+            Err(refusal) => Taken::Refused(refusal),
+        }
     }
 }
 
-/// The text of a send, and what follows it.
+/// The event of a frame with no stray field; its text, if it has one, is taken from what follows.
 #[inline(always)]
-fn text_of(head: u64, after: &[u8]) -> Result<(&[u8], &[u8]), Refusal> {
+fn event_of<'a>(head: u64, set: u64, rest: &mut &'a [u8]) -> Result<Event<'a>, Refusal> {
+    let station = StationNo((head >> STATION & 0xF) as u8);
+    let cart = CartNo((head >> CART & 0x3F) as u8);
+    let other = (head >> OTHER & 0xF) as u8;
+    Ok(match (head >> KIND) as u8 {
+        START => Event::Start { stations: station.0 + 1, carts: cart.0 + 1 },
+        ENTER => Event::Enter { station, cart },
+        SEND => Event::Send { station, set, text: text_of(head, rest)? },
+        WIRE => Event::Wire { from: station, to: StationNo(other) },
+        RADIO => Event::Radio { station, cart },
+        MOVE => Event::Move { cart, to: StationNo(other) },
+        STEADY => Event::Steady { cart, steady: other != 0 },
+        GROUP => Event::Group { group: GroupNo(other), set },
+        _ => Event::GroupSend { station, group: GroupNo(other), text: text_of(head, rest)? },
+    })
+}
+
+/// The text of a send, taken from what follows its head.
+#[inline(always)]
+fn text_of<'a>(head: u64, rest: &mut &'a [u8]) -> Result<&'a [u8], Refusal> {
     let length = (head >> LENGTH & 0x3F) as usize;
     if length > TEXT {
         return Err(Refusal::LongText);
     }
-    after.split_at_checked(length).ok_or(Refusal::CutFrame)
+    let (text, behind) = rest.split_at_checked(length).ok_or(Refusal::CutFrame)?;
+    *rest = behind;
+    Ok(text)
 }
 
 /// Writes an event as a frame at the end of `out`. Numbers must fit their fields.
 pub fn put(event: &Event, out: &mut Vec<u8>) {
-    let field = |value: u8, at: u32| (value as u64) << at;
-    let (head, set, text): (u64, u64, &[u8]) = match *event {
-        Event::Start { stations, carts } => {
-            let (last_station, last_cart) = (stations - 1, carts - 1);
-            (field(START, KIND) | field(last_station, STATION) | field(last_cart, CART), 0, &[])
-        }
-        Event::Enter { station, cart } => {
-            (field(ENTER, KIND) | field(station.0, STATION) | field(cart.0, CART), 0, &[])
-        }
-        Event::Send { station, set, text } => {
-            let length = text.len() as u8;
-            (field(SEND, KIND) | field(station.0, STATION) | field(length, LENGTH), set, text)
-        }
-        Event::Wire { from, to } => {
-            (field(WIRE, KIND) | field(from.0, STATION) | field(to.0, OTHER), 0, &[])
-        }
-        Event::Radio { station, cart } => {
-            (field(RADIO, KIND) | field(station.0, STATION) | field(cart.0, CART), 0, &[])
-        }
-        Event::Move { cart, to } => {
-            (field(MOVE, KIND) | field(cart.0, CART) | field(to.0, OTHER), 0, &[])
-        }
-        Event::Steady { cart, steady } => {
-            (field(STEADY, KIND) | field(cart.0, CART) | field(steady as u8, OTHER), 0, &[])
-        }
-    };
+    let (head, set, text) = fields_of(event);
     out.extend_from_slice(&head.to_be_bytes());
     out.extend_from_slice(&set.to_be_bytes());
     out.extend_from_slice(text);
+}
+
+/// The head of an event's frame, its set and its text.
+fn fields_of<'a>(event: &Event<'a>) -> (u64, u64, &'a [u8]) {
+    let kind = |kind: u8| (kind as u64) << KIND;
+    let at = |station: StationNo| (station.0 as u64) << STATION;
+    let of = |cart: CartNo| (cart.0 as u64) << CART;
+    let other = |number: u8| (number as u64) << OTHER;
+    let length = |text: &[u8]| (text.len() as u64) << LENGTH;
+    match *event {
+        Event::Start { stations, carts } => {
+            (kind(START) | at(StationNo(stations - 1)) | of(CartNo(carts - 1)), 0, &[])
+        }
+        Event::Enter { station, cart } => (kind(ENTER) | at(station) | of(cart), 0, &[]),
+        Event::Send { station, set, text } => (kind(SEND) | at(station) | length(text), set, text),
+        Event::Wire { from, to } => (kind(WIRE) | at(from) | other(to.0), 0, &[]),
+        Event::Radio { station, cart } => (kind(RADIO) | at(station) | of(cart), 0, &[]),
+        Event::Move { cart, to } => (kind(MOVE) | of(cart) | other(to.0), 0, &[]),
+        Event::Steady { cart, steady } => (kind(STEADY) | of(cart) | other(steady as u8), 0, &[]),
+        Event::Group { group, set } => (kind(GROUP) | other(group.0), set, &[]),
+        Event::GroupSend { station, group, text } => {
+            (kind(GROUP_SEND) | at(station) | other(group.0) | length(text), 0, text)
+        }
+    }
 }
 
 #[cfg(test)]
@@ -214,6 +232,10 @@ mod tests {
             Event::Move { cart: CartNo(61), to: StationNo(13) },
             Event::Steady { cart: CartNo(60), steady: false },
             Event::Steady { cart: CartNo(0), steady: true },
+            Event::Group { group: GroupNo(15), set: u64::MAX },
+            Event::Group { group: GroupNo(0), set: 0 },
+            Event::GroupSend { station: StationNo(15), group: GroupNo(14), text: &text },
+            Event::GroupSend { station: StationNo(0), group: GroupNo(0), text: &[] },
         ];
         let mut octets = Vec::new();
         events.iter().for_each(|event| put(event, &mut octets));
@@ -230,7 +252,7 @@ mod tests {
     fn refusals_in_order() {
         assert_eq!(refusal(&[0xFF]), 1);
         assert_eq!(refusal(&[0xFF; 15]), 1);
-        for kind in 7..16 {
+        for kind in KINDS as u8..16 {
             assert_eq!(refusal(&[kind << 4 | 0xF; 16]), 2);
         }
         // A stray field goes before the length, the length before the cut text.
@@ -239,12 +261,14 @@ mod tests {
         long[7] = 1;
         assert_eq!(refusal(&long), 3);
         assert_eq!(refusal(&frame(&[0x20, 0x00, 32])), 1);
+        assert_eq!(refusal(&frame(&[0x80, 0x00, 33])), 4);
+        assert_eq!(refusal(&frame(&[0x80, 0x00, 32])), 1);
     }
 
     #[test]
     fn each_field_is_listed_or_refused() {
         // kind; station, cart, other, length, zero, set: 1 where listed
-        let listed: [(u8, [u8; 6]); 7] = [
+        let listed: [(u8, [u8; 6]); KINDS] = [
             (START, [1, 1, 0, 0, 0, 0]),
             (ENTER, [1, 1, 0, 0, 0, 0]),
             (SEND, [1, 0, 0, 1, 0, 1]),
@@ -252,6 +276,8 @@ mod tests {
             (RADIO, [1, 1, 0, 0, 0, 0]),
             (MOVE, [0, 1, 1, 0, 0, 0]),
             (STEADY, [0, 1, 1, 0, 0, 0]),
+            (GROUP, [0, 0, 1, 0, 0, 1]),
+            (GROUP_SEND, [1, 0, 1, 1, 0, 0]),
         ];
         let widths = [4, 6, 4, 6, 40, 64];
         for (kind, fields) in listed {

@@ -3,7 +3,8 @@
 //! its speed.
 //!
 //! * [`floor`]: the records of stations, carts and held messages, and the wired lines.
-//! * [`steps`]: the events: start, enter, send, wire, radio, move, steady.
+//! * [`steps`]: the events: start, enter, send, wire, radio, move, steady,
+//!   groups and sends to them.
 //! * [`quiet`]: the floor run until it is quiet.
 //! * [`frames`]: frames taken apart into events.
 //! * [`report`]: the printed run.
@@ -20,5 +21,5 @@ pub mod run;
 pub mod steps;
 pub mod words;
 
-pub use floor::{CartNo, Floor, Limits, MessageNo, Place, StationNo};
+pub use floor::{CartNo, Floor, GroupNo, Limits, MessageNo, Place, StationNo};
 pub use steps::{Refusal, Step};

@@ -117,6 +117,13 @@ fn handle(floor: &mut Floor, event: &Event, report: &mut Report) {
         Event::Wire { from, to } => (frames::WIRE, floor.wire(from, to)),
         Event::Move { cart, to } => (frames::MOVE, floor.move_cart(cart, to)),
         Event::Steady { cart, steady } => (frames::STEADY, floor.set_steady(cart, steady)),
+        Event::Group { group, set } => {
+            return print_rare(report, frames::GROUP, floor.set_group(group, set));
+        }
+        Event::GroupSend { station, group, text } => {
+            let answer = floor.send_to_group(station, group, text);
+            return print_rare(report, frames::GROUP_SEND, answer);
+        }
         Event::Radio { station, cart } => {
             let mut text = [0; TEXT];
             return match floor.radio(station, cart, &mut text) {
@@ -125,8 +132,22 @@ fn handle(floor: &mut Floor, event: &Event, report: &mut Report) {
             };
         }
     };
+    print(report, kind, answer);
+}
+
+/// Prints the line of an event.
+#[inline(always)]
+fn print(report: &mut Report, kind: u8, answer: Result<Step, Refusal>) {
     match answer {
         Ok(step) => report.accepted(kind, &step),
         Err(refusal) => report.refused(refusal),
     }
+}
+
+/// The same for the kinds that seldom come: their steps and their printing stay out of the loop,
+/// so that its answers need no place in memory.
+#[cold]
+#[inline(never)]
+fn print_rare(report: &mut Report, kind: u8, answer: Result<Step, Refusal>) {
+    print(report, kind, answer);
 }

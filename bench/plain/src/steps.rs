@@ -2,8 +2,8 @@
 //! the answer, and changes nothing before the last check has passed.
 
 use crate::floor::{
-    carts_of, line, rooms_of, stations_of, CartNo, Floor, Held, Place, Record, Room, StationNo,
-    LAST_NUMBER, STATIONS, TEXT,
+    carts_of, line, rooms_of, stations_of, CartNo, Floor, GroupNo, Held, Place, Record, Room,
+    StationNo, LAST_NUMBER, STATIONS, TEXT,
 };
 
 /// What an accepted event answers.
@@ -46,6 +46,7 @@ pub enum Refusal {
     ShortBuffer = 21,
     EmptyText = 24,
     NotSteady = 25,
+    NoSuchGroup = 26,
 }
 
 impl Refusal {
@@ -107,6 +108,56 @@ impl Floor {
     #[inline]
     pub fn send(&mut self, station: StationNo, set: u64, text: &[u8]) -> Result<Step, Refusal> {
         let number = self.check_send(station, set, text)?;
+        Ok(self.post(station, number, set, text))
+    }
+
+    /// A station initiates a message "to the members as they are at that send". The set is copied
+    /// with it, so "a later change of the group touches no message already sent". The members have
+    /// entered: that was asked when the group was defined.
+    #[inline(never)]
+    pub fn send_to_group(
+        &mut self,
+        station: StationNo,
+        group: GroupNo,
+        text: &[u8],
+    ) -> Result<Step, Refusal> {
+        if text.len() > TEXT {
+            return Err(Refusal::LongText);
+        }
+        self.check_started()?;
+        self.check_station(station)?;
+        // "26 group not defined or above 15, after 8, then 24, 13, 14."
+        let members = self.group(group);
+        if members == 0 {
+            return Err(Refusal::NoSuchGroup);
+        }
+        let number = self.check_post(station, text)?;
+        Ok(self.post(station, number, members, text))
+    }
+
+    /// A group gets its members; "an empty set undefines the group". It "prints group and number
+    /// of members".
+    #[inline(never)]
+    pub fn set_group(&mut self, group: GroupNo, set: u64) -> Result<Step, Refusal> {
+        self.check_started()?;
+        if set & !self.all_carts() != 0 {
+            return Err(Refusal::NoSuchCart);
+        }
+        if set & !self.entered != 0 {
+            return Err(Refusal::NamedNeverEntered);
+        }
+        // "12 after 9, then 26 for a library group above 15."
+        let Some(members) = self.groups.get_mut(group.0 as usize) else {
+            return Err(Refusal::NoSuchGroup);
+        };
+        *members = set;
+        Ok(Step { a: group.0 as u16, b: set.count_ones() as u16, p: 0, w: 0, q: 0 })
+    }
+
+    /// The step of every send: the message takes the station's number and a room, and a multicast
+    /// goes on the line to every station.
+    #[inline(always)]
+    fn post(&mut self, station: StationNo, number: u16, set: u64, text: &[u8]) -> Step {
         let room = Room(self.rooms.trailing_ones() as u8);
         self.station[station.at()].sent = number + 1;
         self.rooms |= room.alone();
@@ -124,7 +175,7 @@ impl Floor {
         };
         held.text[..text.len()].copy_from_slice(text);
         let w = self.put_on_all_lines(station, Record::Multicast(room));
-        Ok(Step { a: station.0 as u16, b: number, p: 0, w, q: 0 })
+        Step { a: station.0 as u16, b: number, p: 0, w, q: 0 }
     }
 
     /// The head record of a line is handled at its end.
@@ -246,6 +297,12 @@ impl Floor {
         if set & !self.entered != 0 {
             return Err(Refusal::NamedNeverEntered);
         }
+        self.check_post(station, text)
+    }
+
+    /// The last checks of every send, of text, number and room.
+    #[inline(always)]
+    fn check_post(&self, station: StationNo, text: &[u8]) -> Result<u16, Refusal> {
         // "A send with length 0 is now turned away"; "24 empty text, after 12 and before 13".
         if text.is_empty() {
             return Err(Refusal::EmptyText);

@@ -3,7 +3,7 @@
 //! kit's parts, which are shorter, are not made here.
 
 use crate::floor::{
-    line, CartNo, Floor, Place, Record, Room, StationNo, CARTS, HELD, STATIONS, TEXT,
+    line, CartNo, Floor, Place, Record, Room, StationNo, CARTS, GROUPS, HELD, STATIONS, TEXT,
 };
 
 /// Rows of the pool of records.
@@ -11,6 +11,9 @@ pub const ROWS: usize = 3_136;
 
 /// Words of a row of the stations' table: row 0 is the floor's own, row 1 + t station t's.
 pub const STATION_ROW: usize = 116;
+
+/// Where the groups begin in the floor's own row, with a word each.
+pub const GROUP_WORDS: usize = 3;
 
 /// Where the rooms begin in a station's row, with three words each; and which rooms' copies and ack
 /// lists count there, and which rooms' queue entries. A room that does not has none, whatever its
@@ -55,6 +58,7 @@ impl Floor {
     fn station_words(&self) -> Vec<u64> {
         let mut words = vec![0; STATION_ROW * (1 + STATIONS)];
         words[..3].copy_from_slice(&[self.started as u64, self.stations as u64, self.carts as u64]);
+        words[GROUP_WORDS..][..GROUPS].copy_from_slice(&self.groups);
         for (row, station) in words.chunks_exact_mut(STATION_ROW).skip(1).zip(&self.station) {
             row[0] = station.sent as u64;
             row[17] = station.local;
@@ -186,6 +190,7 @@ impl Floor {
         floor.started = words.stations[0] == 1;
         floor.stations = words.stations[1] as u8;
         floor.carts = words.stations[2] as u8;
+        floor.groups.copy_from_slice(&words.stations[GROUP_WORDS..][..GROUPS]);
         floor.read_carts(&words.carts);
         floor.read_messages(&words.messages, &words.texts);
         floor.read_stations(words);
@@ -287,6 +292,9 @@ impl Floor {
         }
         if self.unsteady != other.unsteady {
             return Some(format!("not steady: {:x}, {:x}", self.unsteady, other.unsteady));
+        }
+        if self.groups != other.groups {
+            return Some(format!("groups: {:x?}, {:x?}", self.groups, other.groups));
         }
         for c in 0..CARTS {
             let (a, b) = (&self.cart[c], &other.cart[c]);

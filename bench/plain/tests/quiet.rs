@@ -13,7 +13,7 @@ use numbers::Numbers;
 use plain::floor::{carts_of, TEXT};
 use plain::frames::{Event, Reader, Taken};
 use plain::run::{closing, run, run_on};
-use plain::{CartNo, Floor, Limits, StationNo};
+use plain::{CartNo, Floor, GroupNo, Limits, StationNo};
 
 /// "That count is at most 5,248 = 32 × (16 + 16 + 64 + 64) + 2 × 64", and in the kit "at most 208".
 fn most_steps(limits: Limits) -> u32 {
@@ -33,8 +33,24 @@ struct Lists {
 impl Lists {
     fn send(&mut self, floor: &mut Floor, station: StationNo, set: u64, text: &[u8]) -> bool {
         let Ok(step) = floor.send(station, set, text) else { return false };
+        self.sent(station, set, step.b, text)
+    }
+
+    /// "The sent list counts group sends by their members at sending."
+    fn send_to_group(
+        &mut self,
+        floor: &mut Floor,
+        at: StationNo,
+        to: GroupNo,
+        text: &[u8],
+    ) -> bool {
+        let Ok(step) = floor.send_to_group(at, to, text) else { return false };
+        self.sent(at, floor.group(to), step.b, text)
+    }
+
+    fn sent(&mut self, station: StationNo, set: u64, number: u16, text: &[u8]) -> bool {
         for cart in carts_of(set) {
-            self.sent.entry((station.0, cart.0)).or_default().push((step.b, text.into()));
+            self.sent.entry((station.0, cart.0)).or_default().push((number, text.into()));
         }
         true
     }
@@ -81,7 +97,7 @@ fn event(floor: &mut Floor, lists: &mut Lists, numbers: &mut Numbers, flags: boo
     let (n, k) = (floor.stations() as u64, floor.carts() as u64);
     let (s, t) = (StationNo(numbers.below(n) as u8), StationNo(numbers.below(n) as u8));
     let cart = CartNo(numbers.below(k) as u8);
-    let _ = match numbers.below(12) {
+    let _ = match numbers.below(14) {
         0 => floor.enter(s, cart).is_ok(),
         1..=3 => {
             let text = vec![numbers.next() as u8; 1 + numbers.below(TEXT as u64) as usize];
@@ -93,6 +109,14 @@ fn event(floor: &mut Floor, lists: &mut Lists, numbers: &mut Numbers, flags: boo
             // The head's carts are hard to meet by chance.
             let head = floor.head(s).and_then(|queued| carts_of(queued).last());
             lists.radio(floor, s, head.unwrap_or(cart), &mut [0; TEXT])
+        }
+        8 => {
+            let set = floor.entered() & numbers.next();
+            floor.set_group(GroupNo(numbers.below(4) as u8), set).is_ok()
+        }
+        9 => {
+            let text = [numbers.next() as u8; 3];
+            lists.send_to_group(floor, s, GroupNo(numbers.below(4) as u8), &text)
         }
         7 if flags => floor.set_steady(cart, numbers.below(3) > 0).is_ok(),
         _ => floor.wire(s, t).is_ok(),
@@ -173,6 +197,10 @@ fn on_floors_of_the_stored_runs() {
                 Event::Start { stations, carts } => floor.start(stations, carts).is_ok(),
                 Event::Enter { station, cart } => floor.enter(station, cart).is_ok(),
                 Event::Send { station, set, text } => lists.send(&mut floor, station, set, text),
+                Event::Group { group, set } => floor.set_group(group, set).is_ok(),
+                Event::GroupSend { station, group, text } => {
+                    lists.send_to_group(&mut floor, station, group, text)
+                }
                 Event::Wire { from, to } => floor.wire(from, to).is_ok(),
                 Event::Move { cart, to } => floor.move_cart(cart, to).is_ok(),
                 Event::Steady { cart, steady } => floor.set_steady(cart, steady).is_ok(),

@@ -5,7 +5,7 @@ mod numbers;
 
 use numbers::Numbers;
 use plain::words::{Words, ROWS};
-use plain::{CartNo, Floor, StationNo};
+use plain::{CartNo, Floor, GroupNo, StationNo};
 
 fn words(floor: &Floor) -> Words {
     floor.words(|k| k * 1_237 % ROWS)
@@ -22,11 +22,14 @@ fn on_many_floors(look: impl Fn(&Floor)) {
             let (s, t) = (StationNo(numbers.below(n) as u8), StationNo(numbers.below(n) as u8));
             let cart = CartNo(numbers.below(k) as u8);
             // A refused event is none.
-            let _ = match numbers.below(8) {
+            let group = GroupNo(numbers.below(16) as u8);
+            let _ = match numbers.below(10) {
                 0 => floor.enter(s, cart),
                 1 => floor.send(s, floor.entered() & numbers.below(1 << 50), &[event as u8; 7]),
                 2 => floor.move_cart(cart, t),
                 3 => floor.radio(s, cart, &mut [0; 32]).map(|(step, _)| step),
+                4 => floor.set_group(group, floor.entered() & numbers.next()),
+                5 => floor.send_to_group(s, group, &[event as u8; 9]),
                 _ => floor.wire(s, t),
             };
             if event % 50 == 0 {

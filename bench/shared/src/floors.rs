@@ -1,10 +1,11 @@
 //! Floors that events reach, made with the plain peer: full-size ones of 16 stations, 64 carts and 32 held messages, and random ones.
 
 use crate::numbers::Numbers;
-use plain::{CartNo, Floor, StationNo};
+use plain::{CartNo, Floor, GroupNo, StationNo};
 
 const CARTS: u8 = 64;
 const HELD: u8 = 32;
+const GROUPS: u8 = 16;
 
 fn started(stations: u8, carts: u8) -> Floor {
     let mut floor = Floor::new();
@@ -39,6 +40,15 @@ pub fn some_text(numbers: &mut Numbers) -> Vec<u8> {
     (0..1 + numbers.below(32)).map(|_| numbers.next() as u8).collect()
 }
 
+/// Defines all groups, with any carts that have entered.
+fn define_groups(floor: &mut Floor) {
+    let mut numbers = Numbers(0x6709);
+    for group in 0..GROUPS {
+        let set = floor.entered() & numbers.next();
+        floor.set_group(GroupNo(group), set).expect("its members have entered");
+    }
+}
+
 /// Full size with few records, and with so many held messages: all are buffered everywhere, some carts have theirs, and the last hand-overs
 /// and moves are on the lines.
 pub fn few(held: u8) -> Floor {
@@ -47,6 +57,7 @@ pub fn few(held: u8) -> Floor {
     for c in 0..CARTS {
         floor.enter(StationNo(c % 16), CartNo(c)).expect("it has not entered");
     }
+    define_groups(&mut floor);
     for m in 0..held {
         let set = numbers.next() | 1 << (m + 7);
         floor.send(StationNo(m % 16), set, &some_text(&mut numbers)).expect("there is room");
@@ -84,6 +95,7 @@ pub fn many() -> Floor {
     for c in 0..CARTS {
         floor.enter(StationNo(GATE), CartNo(c)).expect("it has not entered");
     }
+    define_groups(&mut floor);
     for m in 0..HELD {
         floor.send(StationNo(m % 8), u64::MAX, &some_text(&mut numbers)).expect("there is room");
     }
@@ -115,7 +127,8 @@ pub fn random(seed: u64) -> Floor {
         let (s, t) = (StationNo(numbers.below(n) as u8), StationNo(numbers.below(n) as u8));
         let cart = CartNo(numbers.below(k) as u8);
         // A refused event is none.
-        let _ = match numbers.below(12) {
+        let group = GroupNo(numbers.below(GROUPS as u64) as u8);
+        let _ = match numbers.below(13) {
             0 => floor.enter(s, cart),
             1 => {
                 let set = floor.entered() & numbers.next() & numbers.next();
@@ -123,6 +136,8 @@ pub fn random(seed: u64) -> Floor {
             }
             2 => floor.move_cart(cart, t),
             3..=5 => floor.radio(s, cart, &mut [0; 32]).map(|(step, _)| step),
+            6 if numbers.below(3) == 0 => floor.set_group(group, floor.entered() & numbers.next()),
+            6 => floor.send_to_group(s, group, &some_text(&mut numbers)),
             _ => floor.wire(s, t),
         };
     }

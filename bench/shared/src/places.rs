@@ -1,7 +1,8 @@
 //! Places in the lent words of a floor: how long its parts are, where its records may lie, and some place that means something.
 
 use crate::numbers::Numbers;
-use plain::words::ROWS;
+use plain::floor::GROUPS;
+use plain::words::{GROUP_WORDS, ROWS};
 
 /// How many words the stations, carts, messages and lines have, and how many octets the texts.
 pub const LENGTHS: [usize; 5] = [1_972, 1_216, 192, 11_250, 1_024];
@@ -18,6 +19,11 @@ pub fn scattered(k: usize) -> usize {
 
 fn one_of(numbers: &mut Numbers, all: &[usize]) -> Option<usize> {
     (!all.is_empty()).then(|| all[numbers.below(all.len() as u64) as usize])
+}
+
+/// The word of some group's members, in the stations' part.
+pub fn group_word(numbers: &mut Numbers) -> usize {
+    GROUP_WORDS + numbers.below(GROUPS as u64) as usize
 }
 
 /// A row that some record lies in.

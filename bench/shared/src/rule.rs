@@ -4,6 +4,7 @@
 
 const STATIONS: usize = 16;
 const CARTS: usize = 64;
+const GROUPS: usize = 16;
 const ROOMS: usize = 32;
 const ROWS: usize = 3_136;
 const TEXTS: usize = 1_024;
@@ -21,6 +22,7 @@ pub enum Fault {
     PlaceWords,
     Cart,
     LocalMask,
+    Group,
     RoomSets,
     TextLength,
     Number,
@@ -50,6 +52,9 @@ use Fault::*;
 /// Which rooms' copies and ack lists count at a station, and which rooms' queue entries.
 const COPIES: usize = 114;
 const ENTRIES: usize = 115;
+
+/// Where the groups begin in the floor's own row, with a word each for their members.
+const GROUP_WORDS: usize = 3;
 
 /// The first word of a cart's row is the kind of its place, and so much more if the cart is not steady.
 const UNSTEADY: u64 = 4;
@@ -86,7 +91,8 @@ struct Floor<'a> {
     all_carts: u64,
     sent: [u64; STATIONS],
     rooms: [Room; ROOMS],
-    /// Carts leaving or travelling.
+    /// Carts that have entered, and of these the ones leaving or travelling.
+    entered: u64,
     movers: u64,
 }
 
@@ -130,10 +136,12 @@ pub fn check(
         all_carts: 0,
         sent: [0; STATIONS],
         rooms: [Room::default(); ROOMS],
+        entered: 0,
         movers: 0,
     };
     floor.head()?;
     floor.carts()?;
+    floor.groups()?;
     floor.rooms()?;
     floor.entries()?;
     floor.lines()
@@ -195,7 +203,7 @@ impl Floor<'_> {
         ensure(self.sent[self.n..].iter().all(|&sent| sent == 0), Station)
     }
 
-    /// Places and next numbers; from the places the local carts and those on their way.
+    /// Places and next numbers; from the places the local carts, those that have entered and those on their way.
     fn carts(&mut self) -> Result<(), Fault> {
         let mut local = [0; STATIONS];
         for (c, row) in self.carts.iter().enumerate() {
@@ -210,6 +218,7 @@ impl Floor<'_> {
             ensure(kind != 1 || t == 0, PlaceWords)?;
             ensure(s < self.n && t < self.n && c < self.k, Cart)?;
             ensure(next.iter().zip(&self.sent).fold(true, |ok, (x, y)| ok & (x <= y)), Cart)?;
+            self.entered |= 1 << c;
             if kind != 3 {
                 local[s & 15] |= 1 << c;
             }
@@ -218,6 +227,12 @@ impl Floor<'_> {
             }
         }
         ensure((0..STATIONS).all(|t| self.stations[1 + t][17] == local[t]), LocalMask)
+    }
+
+    /// Members are carts of the floor that have entered.
+    fn groups(&self) -> Result<(), Fault> {
+        let groups = &self.stations[0][GROUP_WORDS..][..GROUPS];
+        ensure(groups.iter().all(|&members| within(members, self.entered)), Group)
     }
 
     fn rooms(&mut self) -> Result<(), Fault> {

@@ -1,8 +1,8 @@
 //! Streams for comparing two programs: clean, wild, damaged and senseless.
 
-use plain::floor::TEXT;
-use plain::frames::{put, Event, Reader, Taken, FRAME};
-use plain::{CartNo, StationNo};
+use plain::floor::{GROUPS, TEXT};
+use plain::frames::{put, Event, Reader, Taken, FRAME, KINDS};
+use plain::{CartNo, GroupNo, StationNo};
 
 use crate::generate::{self, Wishes};
 use crate::random::Random;
@@ -30,7 +30,7 @@ fn senseless(random: &mut Random) -> Vec<u8> {
     let mut octets: Vec<u8> = (0..length).map(|_| random.octets() as u8).collect();
     if let Some(first) = octets.first_mut() {
         if random.once_in(2) {
-            *first = (random.below(7) as u8) << 4 | (*first & 15);
+            *first = (random.below(KINDS) as u8) << 4 | (*first & 15);
         }
     }
     octets
@@ -48,6 +48,8 @@ fn size(random: &mut Random) -> (u8, u8) {
 /// A stream of the generator.
 fn busy(random: &mut Random, most: usize) -> Vec<u8> {
     let (stations, carts) = size(random);
+    let kit = random.once_in(4);
+    let (stations, carts) = if kit { (stations.min(4), carts.min(8)) } else { (stations, carts) };
     let crowded = random.once_in(4);
     let wishes = Wishes {
         stations,
@@ -55,7 +57,8 @@ fn busy(random: &mut Random, most: usize) -> Vec<u8> {
         held: 1 + random.below(40),
         lines: 1 + random.below(if crowded { 600 } else { 60 }),
         bad: [0, 2, 20, 60][random.below(4)],
-        kit: false,
+        groups: [0, 10, 60][random.below(3)],
+        kit,
     };
     let count = 1 + random.below(most);
     generate::stream(random.octets(), count, wishes).0
@@ -75,7 +78,8 @@ fn wild(random: &mut Random) -> Vec<u8> {
         let (one, two) = (CartNo(cart()), CartNo(cart()));
         let text = random.octets().to_be_bytes().repeat(TEXT / 8);
         let text = &text[..random.below(TEXT + 1)];
-        let event = match random.below(21) {
+        let group = GroupNo(random.below(if beyond { GROUPS } else { 3 }) as u8);
+        let event = match random.below(23) {
             _ if index == 0 && !late => Event::Start { stations, carts },
             0 if random.once_in(10) => Event::Start { stations: station.0 + 1, carts: one.0 + 1 },
             0 | 1 => Event::Enter { station, cart: one },
@@ -86,6 +90,9 @@ fn wild(random: &mut Random) -> Vec<u8> {
             6..=11 => Event::Radio { station, cart: one },
             // A third of the flags are not steady, so that most carts are.
             12 => Event::Steady { cart: one, steady: !random.once_in(3) },
+            13 if random.once_in(8) => Event::Group { group, set: random.octets() },
+            13 => Event::Group { group, set: one.alone() | two.alone() },
+            14 => Event::GroupSend { station, group, text },
             _ => Event::Wire { from: station, to },
         };
         put(&event, &mut octets);

@@ -5,9 +5,9 @@
 //! local cart, and goes when that cart has received the message or has left. So carts roll away
 //! whatever waits for them, and once in a while lists go in a deregister step.
 
-use plain::floor::{carts_of, LAST_NUMBER, TEXT};
+use plain::floor::{carts_of, GROUPS, LAST_NUMBER, TEXT};
 use plain::frames::{put, Event};
-use plain::{CartNo, Floor, Limits, Place, Refusal, StationNo, Step};
+use plain::{CartNo, Floor, GroupNo, Limits, Place, Refusal, StationNo, Step};
 
 use crate::random::Random;
 
@@ -26,6 +26,9 @@ pub struct Wishes {
     pub lines: usize,
     /// Percent of random and refused events.
     pub bad: usize,
+    /// Percent of sends that are sends to groups, or that define one. At 0 a stream has no frame
+    /// of kinds 7 and 8.
+    pub groups: usize,
     /// Whether the floor is the demonstration kit's, with its limits.
     pub kit: bool,
 }
@@ -40,7 +43,7 @@ impl Wishes {
 
 impl Default for Wishes {
     fn default() -> Self {
-        Wishes { stations: 16, carts: 64, held: 8, lines: 40, bad: 2, kit: false }
+        Wishes { stations: 16, carts: 64, held: 8, lines: 40, bad: 2, groups: 0, kit: false }
     }
 }
 
@@ -94,7 +97,7 @@ impl Generator {
             self.on_lines += step.w as usize;
             match event {
                 Event::Wire { .. } => self.on_lines -= 1,
-                Event::Send { .. } => self.counts.sends += 1,
+                Event::Send { .. } | Event::GroupSend { .. } => self.counts.sends += 1,
                 Event::Radio { .. } => self.counts.receipts += 1,
                 _ => (),
             }
@@ -197,13 +200,36 @@ impl Generator {
     }
 
     fn send<'t>(&mut self, station: StationNo, text: &'t mut [u8; TEXT]) -> Event<'t> {
+        if self.wishes.groups > 0 && self.random.percent(self.wishes.groups) {
+            return self.group_event(station, text);
+        }
+        Event::Send { station, set: self.some_set(), text: self.text(text) }
+    }
+
+    /// Carts that have entered.
+    fn some_set(&mut self) -> u64 {
         let entered = self.floor.entered();
-        let set = match self.random.below(16) {
+        match self.random.below(16) {
             0 => entered,
             1 => entered & self.random.octets() | 1 << self.random.bit_of(entered),
             _ => (0..1 + self.random.below(5)).fold(0, |s, _| s | 1 << self.random.bit_of(entered)),
-        };
-        Event::Send { station, set, text: self.text(text) }
+        }
+    }
+
+    /// A send to a group that is defined. Once in four times, and where it is not, its members are
+    /// set, seldom to none.
+    fn group_event<'t>(&mut self, station: StationNo, text: &'t mut [u8; TEXT]) -> Event<'t> {
+        let group = self.some_group();
+        match self.random.below(64) {
+            0 => Event::Group { group, set: 0 },
+            1..=16 => Event::Group { group, set: self.some_set() },
+            _ if self.floor.group(group) == 0 => Event::Group { group, set: self.some_set() },
+            _ => Event::GroupSend { station, group, text: self.text(text) },
+        }
+    }
+
+    fn some_group(&mut self) -> GroupNo {
+        GroupNo(self.random.below(GROUPS) as u8)
     }
 
     /// A text that a send may have.
@@ -277,6 +303,9 @@ impl Generator {
 
     /// An event that is likely to be refused by the floor, never by the frame.
     fn bad<'t>(&mut self, text: &'t mut [u8; TEXT]) -> Event<'t> {
+        if self.wishes.groups > 0 && self.random.once_in(8) {
+            return self.bad_group(text);
+        }
         let (stations, carts) = (self.floor.stations(), self.floor.carts());
         let (station, entered) = (self.station(), self.floor.entered());
         let some = match entered {
@@ -312,6 +341,24 @@ impl Generator {
             }
             12 if entered != 0 => self.radio_unsteady().unwrap_or_else(|| self.flag()),
             _ => self.wild(text),
+        }
+    }
+
+    /// A group with any carts or none, or a send to any group from any station.
+    fn bad_group<'t>(&mut self, text: &'t mut [u8; TEXT]) -> Event<'t> {
+        let group = self.some_group();
+        match self.random.below(5) {
+            0 => Event::Group { group, set: 0 },
+            1 => Event::Group { group, set: self.random.octets() & self.random.octets() },
+            2 => {
+                let cart = CartNo(self.random.below(self.floor.carts() as usize) as u8);
+                Event::Group { group, set: cart.alone() }
+            }
+            3 => Event::GroupSend { station: self.near_station(), group, text: &[] },
+            _ => {
+                let station = self.near_station();
+                Event::GroupSend { station, group, text: self.any_text(text) }
+            }
         }
     }
 
@@ -360,6 +407,8 @@ pub fn give(floor: &mut Floor, event: &Event) -> Result<Step, Refusal> {
         }
         Event::Move { cart, to } => floor.move_cart(cart, to),
         Event::Steady { cart, steady } => floor.set_steady(cart, steady),
+        Event::Group { group, set } => floor.set_group(group, set),
+        Event::GroupSend { station, group, text } => floor.send_to_group(station, group, text),
     }
 }
 

@@ -10,13 +10,14 @@ use plain::Limits;
 
 const USAGE: &str = "\
 frames gen SEED COUNT [--kit] [--stations N] [--carts N] [--held H] [--lines L] [--bad PERCENT]
+        [--groups PERCENT]
     writes a random stream of COUNT frames that keeps a floor busy; --kit: one of the
-    demonstration kit
+    demonstration kit; --groups: so many of its sends have to do with groups
 frames script < TEXT > FRAMES
     writes the frames of a script, one event on a line: start STATIONS CARTS,
     enter STATION CART, send STATION CARTS TEXT, wire FROM TO, radio STATION CART,
-    move CART TO, steady CART FLAG, octets HEXADECIMAL; CARTS as 0,3 or -, TEXT in
-    hexadecimal or -, FLAG 1 or 0
+    move CART TO, steady CART FLAG, group GROUP CARTS, gsend STATION GROUP TEXT,
+    octets HEXADECIMAL; CARTS as 0,3 or -, TEXT in hexadecimal or -, FLAG 1 or 0
 frames show < FRAMES > TEXT
     writes the script of a stream
 frames case NAME > FRAMES
@@ -87,6 +88,7 @@ fn wishes_of(words: &[&str]) -> Result<Wishes, String> {
             ["--carts", n] => wishes.carts = number("--carts", n, 1, most(carts))? as u8,
             ["--held", n] => wishes.held = number("--held", n, 1, most(held))? as usize,
             ["--lines", n] => wishes.lines = number("--lines", n, 1, 3136)? as usize,
+            ["--groups", n] => wishes.groups = number("--groups", n, 0, 100)? as usize,
             ["--bad", n] => wishes.bad = number("--bad", n, 0, 100)? as usize,
             _ => return Err(format!("{}: not understood\n{USAGE}", pair[0])),
         }

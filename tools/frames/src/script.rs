@@ -9,6 +9,8 @@
 //! radio 0 0          station, cart
 //! move 0 1           cart, to
 //! steady 0 1         cart, 1 for steady or 0 for not
+//! group 3 0,1        group, carts (- undefines it)
+//! gsend 1 3 A1B2     station, group, text: a send to the members of the group
 //! octets F0FF        octets as they stand, for what is no frame
 //! ```
 //!
@@ -19,7 +21,7 @@ use std::fmt::Write;
 
 use plain::floor::{carts_of, TEXT};
 use plain::frames::{put, Event, Reader, Taken};
-use plain::{CartNo, StationNo};
+use plain::{CartNo, GroupNo, StationNo};
 
 /// What is wrong with a script, and on which line, counted from 1.
 #[derive(Clone, Debug, PartialEq, Eq)]
@@ -56,10 +58,7 @@ fn one_line(words: &[&str], out: &mut Vec<u8>) -> Result<(), String> {
         },
         ["enter", at, which] => Event::Enter { station: station(at)?, cart: cart(which)? },
         ["send", at, carts, octets] => {
-            text = hexadecimal(octets)?;
-            if text.len() > TEXT {
-                return Err(format!("a text of {} octets, longer than {TEXT}", text.len()));
-            }
+            text = text_of(octets)?;
             Event::Send { station: station(at)?, set: set(carts)?, text: &text }
         }
         ["wire", from, to] => Event::Wire { from: station(from)?, to: station(to)? },
@@ -68,23 +67,38 @@ fn one_line(words: &[&str], out: &mut Vec<u8>) -> Result<(), String> {
         ["steady", which, flag] => {
             Event::Steady { cart: cart(which)?, steady: number("flag", flag, 0, 1)? == 1 }
         }
+        ["group", which, carts] => Event::Group { group: group(which)?, set: set(carts)? },
+        ["gsend", at, to, octets] => {
+            text = text_of(octets)?;
+            Event::GroupSend { station: station(at)?, group: group(to)?, text: &text }
+        }
         ["octets", octets] => {
             out.extend(hexadecimal(octets)?);
             return Ok(());
         }
-        ["start", ..] => return Err("wanted: start STATIONS CARTS".into()),
-        ["enter", ..] => return Err("wanted: enter STATION CART".into()),
-        ["send", ..] => return Err("wanted: send STATION CARTS TEXT".into()),
-        ["wire", ..] => return Err("wanted: wire FROM TO".into()),
-        ["radio", ..] => return Err("wanted: radio STATION CART".into()),
-        ["move", ..] => return Err("wanted: move CART TO".into()),
-        ["steady", ..] => return Err("wanted: steady CART FLAG".into()),
-        ["octets", ..] => return Err("wanted: octets HEXADECIMAL".into()),
-        [word, ..] => return Err(format!("no event is called {word:?}")),
+        [word, ..] => return Err(wanted(word)),
         [] => return Ok(()),
     };
     put(&event, out);
     Ok(())
+}
+
+/// What is wrong with a line that is no event: the words that do not fit, or the event's name.
+fn wanted(word: &str) -> String {
+    let words = match word {
+        "start" => "start STATIONS CARTS",
+        "enter" => "enter STATION CART",
+        "send" => "send STATION CARTS TEXT",
+        "wire" => "wire FROM TO",
+        "radio" => "radio STATION CART",
+        "move" => "move CART TO",
+        "steady" => "steady CART FLAG",
+        "octets" => "octets HEXADECIMAL",
+        "group" => "group GROUP CARTS",
+        "gsend" => "gsend STATION GROUP TEXT",
+        _ => return format!("no event is called {word:?}"),
+    };
+    format!("wanted: {words}")
 }
 
 fn number(what: &str, word: &str, least: u8, most: u8) -> Result<u8, String> {
@@ -100,6 +114,18 @@ fn station(word: &str) -> Result<StationNo, String> {
 
 fn cart(word: &str) -> Result<CartNo, String> {
     number("cart", word, 0, 63).map(CartNo)
+}
+
+fn group(word: &str) -> Result<GroupNo, String> {
+    number("group", word, 0, 15).map(GroupNo)
+}
+
+fn text_of(word: &str) -> Result<Vec<u8>, String> {
+    let text = hexadecimal(word)?;
+    if text.len() > TEXT {
+        return Err(format!("a text of {} octets, longer than {TEXT}", text.len()));
+    }
+    Ok(text)
 }
 
 fn set(word: &str) -> Result<u64, String> {
@@ -156,15 +182,25 @@ pub fn show_event(event: &Event) -> String {
         Event::Start { stations, carts } => format!("start {stations} {carts}"),
         Event::Enter { station, cart } => format!("enter {} {}", station.0, cart.0),
         Event::Send { station, set, text } => {
-            let carts: Vec<String> = carts_of(set).map(|cart| cart.0.to_string()).collect();
-            let carts = if set == 0 { "-".into() } else { carts.join(",") };
-            format!("send {} {carts} {}", station.0, show_octets(text))
+            format!("send {} {} {}", station.0, show_set(set), show_octets(text))
         }
         Event::Wire { from, to } => format!("wire {} {}", from.0, to.0),
         Event::Radio { station, cart } => format!("radio {} {}", station.0, cart.0),
         Event::Move { cart, to } => format!("move {} {}", cart.0, to.0),
         Event::Steady { cart, steady } => format!("steady {} {}", cart.0, steady as u8),
+        Event::Group { group, set } => format!("group {} {}", group.0, show_set(set)),
+        Event::GroupSend { station, group, text } => {
+            format!("gsend {} {} {}", station.0, group.0, show_octets(text))
+        }
     }
+}
+
+fn show_set(set: u64) -> String {
+    let carts: Vec<String> = carts_of(set).map(|cart| cart.0.to_string()).collect();
+    if carts.is_empty() {
+        return "-".into();
+    }
+    carts.join(",")
 }
 
 fn show_octets(octets: &[u8]) -> String {
@@ -207,6 +243,17 @@ mod tests {
         assert_eq!(script(text).unwrap()[..3], [0x60, 0xFC, 0]);
         assert_eq!(mistake("steady 0 2"), "line 1: flag: \"2\" is not a number from 0 to 1");
         assert_eq!(mistake("steady 0"), "line 1: wanted: steady CART FLAG");
+    }
+
+    #[test]
+    fn groups() {
+        let text = "group 15 0,63\ngroup 0 -\ngsend 2 15 A1\ngsend 0 0 -\n";
+        assert_eq!(show(&script(text).unwrap()), text);
+        assert_eq!(script("group 3 1").unwrap()[..3], [0x70, 0, 0xC0]);
+        assert_eq!(mistake("group 16 -"), "line 1: group: \"16\" is not a number from 0 to 15");
+        assert_eq!(mistake("gsend 0 0"), "line 1: wanted: gsend STATION GROUP TEXT");
+        let long = format!("gsend 0 1 {}", "00".repeat(33));
+        assert_eq!(mistake(&long), "line 1: a text of 33 octets, longer than 32");
     }
 
     #[test]

@@ -66,6 +66,13 @@ fn the_stored_random_run_of_a_full_floor() {
 }
 
 #[test]
+fn the_stored_random_run_with_groups() {
+    let wishes = Wishes { stations: 3, carts: 12, groups: 80, bad: 8, ..Wishes::default() };
+    let (octets, _) = stream(9, 1_500, wishes);
+    assert!(stored("random_groups") == Some(octets));
+}
+
+#[test]
 fn show_then_script_is_the_identity_on_generated_streams() {
     for seed in 0..20 {
         let carts = 1 + 3 * seed as u8;
@@ -85,7 +92,7 @@ fn show_then_script_is_the_identity_on_damaged_streams() {
 }
 
 /// The last refusal that an event can have.
-const LAST_REFUSAL: usize = 25;
+const LAST_REFUSAL: usize = 26;
 
 /// Gives a stream to a floor; answers the accepted and the refused events, the latter by number,
 /// and the most messages held in the last tenth.
@@ -140,6 +147,22 @@ fn streams_of_the_kit_keep_to_its_limits() {
     let (octets, _) = stream(12, 20_000, wishes);
     let (accepted, _, held) = give_all_to(Floor::kit(), &octets, 20_000);
     assert_eq!((accepted, held), (20_000, 8));
+}
+
+#[test]
+fn streams_with_groups() {
+    for (stations, carts) in [(16, 64), (2, 3), (1, 1)] {
+        let wishes = Wishes { stations, carts, groups: 40, bad: 0, ..Wishes::default() };
+        let (octets, _) = stream(13, 20_000, wishes);
+        assert_eq!(give_all(&octets, 20_000).0, 20_000);
+        let shown = show(&octets);
+        let count = |word| shown.lines().filter(|line| line.starts_with(word)).count();
+        let (defined, sends) = (count("group "), count("gsend "));
+        assert!(defined > 10 && sends > 20, "{defined} groups, {sends} sends to them");
+        let (octets, _) = stream(13, 20_000, Wishes { bad: 10, ..wishes });
+        let refused = give_all(&octets, 20_000).1;
+        assert!(refused[26] > 0, "{stations} stations, {carts} carts: no 26");
+    }
 }
 
 #[test]

@@ -291,6 +291,9 @@ fn nothing_before_a_start() {
     assert_eq!(refusal(f.radio(s(99), c(99), &mut [])), 5);
     assert_eq!(refusal(f.move_cart(c(99), s(99))), 5);
     assert_eq!(refusal(f.set_steady(c(99), true)), 5);
+    assert_eq!(refusal(f.set_group(GroupNo(99), u64::MAX)), 5);
+    assert_eq!(refusal(f.send_to_group(s(99), GroupNo(99), &[0; 33])), 4);
+    assert_eq!(refusal(f.send_to_group(s(99), GroupNo(99), &[])), 5);
 }
 
 #[test]
@@ -429,6 +432,61 @@ fn a_cart_that_is_not_steady_receives_nothing() {
     assert_eq!(refusal(f.hand(0, 0)), 25);
     assert_eq!(answer(f.set_steady(c(0), true)), (0, 1, 0, 0));
     assert_eq!(answer(f.hand(0, 0)), (0, 0, 0, 1));
+}
+
+#[test]
+fn groups_are_defined_and_undefined() {
+    let mut f = floor(1, 3);
+    f.enter(s(0), c(0)).unwrap();
+    f.enter(s(0), c(2)).unwrap();
+    for group in 0..16 {
+        assert_eq!(f.group(GroupNo(group)), 0);
+    }
+    assert_eq!(refusal(f.set_group(GroupNo(16), 0b1010)), 9);
+    assert_eq!(refusal(f.set_group(GroupNo(16), 0b0010)), 12);
+    assert_eq!(refusal(f.set_group(GroupNo(16), 0b0101)), 26);
+    assert_eq!(answer(f.set_group(GroupNo(15), 0b0101)), (15, 2, 0, 0));
+    // What is refused leaves the group as it was, and an empty set is no refusal.
+    assert_eq!(refusal(f.set_group(GroupNo(15), 0b0111)), 12);
+    assert_eq!(f.group(GroupNo(15)), 0b0101);
+    assert_eq!(answer(f.set_group(GroupNo(15), 0)), (15, 0, 0, 0));
+    assert_eq!(answer(f.set_group(GroupNo(15), 0)), (15, 0, 0, 0));
+    assert_eq!(refusal(f.send_to_group(s(0), GroupNo(15), ONE)), 26);
+}
+
+#[test]
+fn a_send_to_a_group_takes_the_members_as_they_are() {
+    let mut f = floor(1, 2);
+    f.enter(s(0), c(0)).unwrap();
+    f.enter(s(0), c(1)).unwrap();
+    f.set_group(GroupNo(3), 0b01).unwrap();
+    assert_eq!(answer(f.send(s(0), 0b10, ONE)), (0, 0, 0, 1));
+    assert_eq!(answer(f.send_to_group(s(0), GroupNo(3), ONE)), (0, 1, 0, 1));
+    // A later change touches no message already sent.
+    f.set_group(GroupNo(3), 0b10).unwrap();
+    f.wire(s(0), s(0)).unwrap();
+    f.wire(s(0), s(0)).unwrap();
+    assert_eq!(answer(f.hand(0, 1)), (0, 0, 1, 1));
+    assert_eq!(answer(f.hand(0, 0)), (0, 1, 0, 1));
+}
+
+#[test]
+fn the_checks_of_a_send_to_a_group() {
+    let mut f = floor(1, 1);
+    f.enter(s(0), c(0)).unwrap();
+    assert_eq!(refusal(f.send_to_group(s(1), GroupNo(99), &[])), 8);
+    assert_eq!(refusal(f.send_to_group(s(0), GroupNo(16), &[])), 26);
+    assert_eq!(refusal(f.send_to_group(s(0), GroupNo(2), &[])), 26);
+    f.set_group(GroupNo(2), 1).unwrap();
+    assert_eq!(refusal(f.send_to_group(s(0), GroupNo(2), &[0; 33])), 4);
+    for number in 0..32 {
+        assert_eq!(answer(f.send_to_group(s(0), GroupNo(2), &[7; 32])), (0, number, 0, 1));
+    }
+    assert_eq!(refusal(f.send_to_group(s(0), GroupNo(2), &[])), 24);
+    assert_eq!(refusal(f.send_to_group(s(0), GroupNo(2), ONE)), 14);
+    f.station[0].sent = LAST_NUMBER + 1;
+    assert_eq!(refusal(f.send_to_group(s(0), GroupNo(2), &[])), 24);
+    assert_eq!(refusal(f.send_to_group(s(0), GroupNo(2), ONE)), 13);
 }
 
 #[test]
@@ -591,6 +649,7 @@ mod as_worded {
         /// 0 outside, 1 at, 2 leaving, 3 travelling
         places: Vec<(u8, u8)>,
         steady: Vec<bool>,
+        groups: Vec<Option<u64>>,
         held: Vec<(Message, Vec<u8>, Vec<u8>, usize)>,
         lines: Vec<Vec<Travelling>>,
         pub sum: u64,
@@ -603,6 +662,7 @@ mod as_worded {
                 rows: vec![None; carts as usize],
                 places: vec![(0, 0); carts as usize],
                 steady: vec![true; carts as usize],
+                groups: vec![None; 16],
                 held: Vec::new(),
                 lines: vec![Vec::new(); 256],
                 sum: 0,
@@ -719,6 +779,27 @@ mod as_worded {
             self.held.push((message, carts.clone(), Vec::new(), self.posts.len()));
             let w = self.all(station, Travelling::Multicast(message, carts));
             Ok([station as u32, message.number as u32, 0, w as u32, 0])
+        }
+
+        pub fn group(&mut self, group: u8, set: u64) -> Result<[u32; 5], u8> {
+            let carts: Vec<u8> = (0..64).filter(|c| set >> c & 1 == 1).collect();
+            carts.iter().try_for_each(|c| self.cart(*c))?;
+            if carts.iter().any(|c| self.places[*c as usize].0 == 0) {
+                return Err(12);
+            }
+            *self.groups.get_mut(group as usize).ok_or(26)? = (set != 0).then_some(set);
+            Ok([group as u32, carts.len() as u32, 0, 0, 0])
+        }
+
+        pub fn send_to_group(
+            &mut self,
+            station: u8,
+            group: u8,
+            text: &[u8],
+        ) -> Result<[u32; 5], u8> {
+            self.station(station)?;
+            let set = self.groups.get(group as usize).copied().flatten().ok_or(26)?;
+            self.send(station, set, text)
         }
 
         pub fn wire(&mut self, from: u8, to: u8) -> Result<[u32; 5], u8> {
@@ -877,7 +958,7 @@ fn the_same_as_the_worded_steps() {
                 let station = below(stations as u64 + beyond) as u8;
                 let other = below(stations as u64 + beyond) as u8;
                 let cart = below(carts as u64 + beyond) as u8;
-                let (ours, theirs) = match below(21) {
+                let (ours, theirs) = match below(23) {
                     0 => (floor.enter(s(station), c(cart)), worded.enter(station, cart)),
                     1 | 2 => {
                         let mut half = || below(1 << 32);
@@ -897,6 +978,19 @@ fn the_same_as_the_worded_steps() {
                     10 => {
                         let steady = below(3) > 0;
                         (floor.set_steady(c(cart), steady), worded.set_steady(cart, steady))
+                    }
+                    11 => {
+                        // One number beyond the groups.
+                        let group = below(17) as u8;
+                        let set = if below(3) == 0 { 0 } else { floor.entered & below(1 << 40) };
+                        let set = set | (below(20) == 0) as u64;
+                        (floor.set_group(GroupNo(group), set), worded.group(group, set))
+                    }
+                    12 => {
+                        let group = below(17) as u8;
+                        let text = if below(30) == 0 { &[] } else { ONE };
+                        let ours = floor.send_to_group(s(station), GroupNo(group), text);
+                        (ours, worded.send_to_group(station, group, text))
                     }
                     _ => (floor.wire(s(station), s(other)), worded.wire(station, other)),
                 };
