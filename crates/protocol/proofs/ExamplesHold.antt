@@ -1,7 +1,7 @@
 use mathlib.Core.Path.{ap, ap₂, refl, _∙_, _≡_}
 use mathlib.Core.Bool.{true}
 use mathlib.Core.List.{List, [], map, _∷_}
-use Prim.Native.Nat.{suc}
+use Prim.Native.Nat.{_<_, suc, ℕ}
 use native.Mathlib.Omega.{arith}
 use lib.Dec.{eqb}
 use lib.ListN.{drop, length, replicate, take}
@@ -9,7 +9,7 @@ use borrow.Author.Tests.{ne-eqb}
 use Rattle.protocol.specs.Folds.{count, every, first, listOf, sum}
 use Rattle.protocol.specs.CartSets.{has, minus, setOf, union, with, without}
 use Rattle.protocol.specs.Floor.{Floor, Limits, kit, limits, limitsOf, unstarted}
-use Rattle.protocol.specs.Events.{Answer, Event}
+use Rattle.protocol.specs.Events.{Answer, Event, Report, accepted, enter}
 use Rattle.protocol.specs.Groups.{membersOf, onGroup}
 use Rattle.protocol.specs.Order.{placeIn}
 use Rattle.protocol.specs.Handoff.{arrive, bufferedFor, catchUp, catchUpEach, catchUpStop, climb, deepest, largestPlace, onEnter, onFlag, onMove, onRegister, passedOver, placeGiven, roomOf, struck}
@@ -20,13 +20,14 @@ use Rattle.protocol.specs.Claims.{test}
 use Rattle.protocol.specs.Form.{passesForm}
 use Rattle.protocol.specs.Blank.{BlankBeyond}
 use Rattle.protocol.specs.Refusals.{neverEntered, refusal, refusalIf}
-use Rattle.protocol.specs.Step.{accept, answers, floorAfter, step}
+use Rattle.protocol.specs.Step.{accept, answer, answers, floorAfter, step}
 use Rattle.protocol.specs.Quiet.{buffersAfter, busyFrom, busyTo, dispatched, firstCart, firstStation, nextEvent, quietAfter, quietCall, quietEvents}
 use Rattle.protocol.specs.Frames.{bigEndian, fieldsOf, unlisted, eventOf, fieldsRefusal, frameRefusal, frameOf}
 use Rattle.protocol.specs.Printed.{decimal, decimalDigits, hexadecimal, restOf, lineOf, printedRun}
-use Rattle.protocol.specs.Examples.{Given, Row, Shown, after, answered, events, examples, form, frames, framesOn, heldOn, holds, holdsNoText, nearTheLast, outcome, passes, printed, rollsAway}
+use Rattle.protocol.specs.Examples.{Given, Row, Shown, after, allSent, answered, events, examples, form, frames, framesOn, heldOn, holds, holdsNoText, nearTheLast, outcome, passes, printed, rollsAway}
 use Rattle.protocol.proofs.Tests.{and-false}
 use Rattle.protocol.proofs.Ready.{Ready, quick-answers, quick-floor, quick-lines, quickAnswer, quickAnswers, quickFloor, quickLines, quickStep, ready-run, ready-unstarted}
+use Rattle.protocol.proofs.SumSteps.{enter-over-all}
 use Rattle.protocol.proofs.QuietCall.{call-runs, else-runs}
 
 -- The starred examples, by computation.
@@ -65,17 +66,21 @@ quick-table : (rows : List Row) → AllReady rows → map (λ r. outcome (r .wit
 quick-table [] R = refl
 quick-table (r ∷ rows) R = ap₂ (λ (x : Shown) (l : List Shown). x ∷ l) (quick-outcome (r .within) (r .given) (R .0)) (quick-table rows (R .1))
 
-near-the-last-passes : passesForm limits nearTheLast ≡ true
+kit-near-the-last-passes : passesForm (limitsOf kit) (nearTheLast 65534) ≡ true
 unfolding passesForm test every has count sum roomOf first listOf
-near-the-last-passes = refl
+kit-near-the-last-passes = refl
 
-near-the-last-blank : BlankBeyond limits nearTheLast
-near-the-last-blank =
+floor-near-the-last-passes : passesForm limits (nearTheLast 4294967294) ≡ true
+unfolding passesForm test every has count sum roomOf first listOf
+floor-near-the-last-passes = refl
+
+near-the-last-blank : (M : Limits) (last : ℕ) → 0 < M .stations → 0 < M .carts → BlankBeyond M (nearTheLast last)
+near-the-last-blank M last n k =
     record {
       sent = λ s h. rw (ne-eqb s 0 (omega arith));
-      expected = λ t s lt h. rw (ne-eqb s 0 (omega arith), and-false (eqb t 0));
+      expected = λ t s lt h. rw (ne-eqb s 0 (let w = M .fits in omega arith), and-false (eqb t 0));
       place = λ c h. rw (ne-eqb c 0 (omega arith));
-      next = record { below = λ c s h. rw (ne-eqb c 0 (omega arith)); right = λ c s h. rw (ne-eqb s 0 (omega arith), and-false (eqb c 0)) };
+      next = record { below = λ c s h. rw (ne-eqb c 0 (omega arith)); right = λ c s h. rw (ne-eqb s 0 (let w = M .fits in omega arith), and-false (eqb c 0)) };
       queue = record { below = λ m t h. refl; right = λ m t h. refl };
       lines = record { below = λ i j h. refl; right = λ i j h. refl };
     }
@@ -99,8 +104,11 @@ computed : map (λ r. quickOutcome (r .within) (r .given)) examples ≡ map (λ 
 unfolding quickOutcome quickLines quickAnswers quickFloor quickStep quickAnswer refusalIf accept frameOf frameRefusal fieldsRefusal fieldsOf bigEndian unlisted eventOf restOf lineOf decimal decimalDigits hexadecimal onEnter onFlag onGroup membersOf onSend onWire onRadio onMove handle onMulticast multicastByRow onAckList onDelete onDeregister bufferedRooms inOrder insert isComplete testEach listsSent leave onRegister arrive passedOver deepest largestPlace placeGiven placeOfNew placeIn catchUpEach catchUp catchUpStop climb bufferedFor roomOf freeRoom struck withMessage buffer receive sendAcks allAcked handOver queueHead headAmong neverEntered passesForm test every count sum first listOf has union minus with without setOf
 computed = refl
 
-near-the-last : Ready limits nearTheLast
-near-the-last s = (near-the-last-blank, near-the-last-passes)
+kit-near-the-last : Ready (limitsOf kit) (nearTheLast 65534)
+kit-near-the-last s = (near-the-last-blank (limitsOf kit) 65534 (omega arith) (omega arith), kit-near-the-last-passes)
+
+floor-near-the-last : Ready limits (nearTheLast 4294967294)
+floor-near-the-last s = (near-the-last-blank limits 4294967294 (omega arith) (omega arith), floor-near-the-last-passes)
 
 no-text : Ready limits holdsNoText
 no-text s = (no-text-blank, no-text-passes)
@@ -108,7 +116,7 @@ no-text s = (no-text-blank, no-text-passes)
 -- THE TABLE
 pub table-holds : map (λ r. outcome (r .within) (r .given)) examples ≡ map (λ r. r .shown) examples
 table-holds =
-    quick-table examples (tt, (u, (u, (u, (u, (u, (tt, (near-the-last, (u, (u, (u, (u, (tt, (no-text, (no-text, (no-text, (u, (tt, (k, (k, (k, (tt, (tt, tt)))))))))))))))))))))))
+    quick-table examples (tt, (u, (u, (u, (u, (u, (tt, (kit-near-the-last, (tt, (floor-near-the-last, (u, (u, (u, (u, (tt, (no-text, (no-text, (no-text, (u, (tt, (k, (k, (k, (tt, (tt, tt)))))))))))))))))))))))))
     ∙ computed
   where
     u : Ready limits unstarted
@@ -116,6 +124,25 @@ table-holds =
 
     k : Ready (limitsOf kit) unstarted
     k = from-unstarted
+
+-- THE MOST THAT A STEP PASSES OVER
+all-sent-passes : passesForm limits allSent ≡ true
+unfolding passesForm test every has count sum roomOf first listOf
+all-sent-passes = refl
+
+all-sent-enters : refusal limits allSent (enter 0 0) ≡ 0
+unfolding refusal refusalIf
+all-sent-enters = rw all-sent-passes
+
+all-sent-sum : sum 16 (λ s. allSent .expected 0 s) ≡ 68719476720
+unfolding sum
+all-sent-sum = refl
+
+pub most-passed : (passesForm limits allSent ≡ true)
+    × ((l : Report) × (answer limits allSent (enter 0 0) ≡ accepted l) × (l .p ≡ 68719476720))
+unfolding answer accept onEnter
+most-passed =
+    (all-sent-passes, (accept limits allSent (enter 0 0) .report, rw all-sent-enters, enter-over-all limits allSent 0 0 (λ m l. refl) ∙ all-sent-sum))
 
 -- THE CART THAT ROLLS AWAY
 rolls-away : heldOn limits (quickFloor limits unstarted rollsAway) ≡ 0

@@ -7,7 +7,7 @@ use Prim.Native.Nat.{_+_, _/_, _<_, suc, zero, ℕ, _≤_}
 use native.Mathlib.Omega.{arith}
 use lib.Dec.{eqb, leb, ltb}
 use lib.ListN.{length}
-use borrow.Author.Tests.{eqb-true, le-ltb, lt-leb, ne-eqb, not-true}
+use borrow.Author.Tests.{eqb-true, le-ltb, lt-leb, lt-ltb, ne-eqb, not-true}
 use Rattle.protocol.specs.Folds.{isEmpty, update}
 use Rattle.protocol.specs.CartSets.{has, union}
 use Rattle.protocol.specs.Floor.{Floor, Limits, Place, ackList, at, entered, isAt, isHeld, isLocal, register, setGroups, setPlace, setTexts}
@@ -239,6 +239,13 @@ unfolding refusalIf
 too-large-is-7 M F broken n k lengths fresh (inl l) = rw (lengths, fresh, lt-leb n (M .stations) l, and-false (ltb 0 n))
 too-large-is-7 M F broken n k lengths fresh (inr l) =
     rw (lengths, fresh, lt-leb k (M .carts) l, and-false (ltb 0 k), and-false (ltb 0 n && leb n (M .stations)))
+
+-- "13 now speaks of the caller's last number; its place is unchanged": after 24 and before 14, whatever is held
+pub used-up-is-13 : (M : Limits) (F : Floor) (s set : ℕ) (text : List ℕ) → length text ≤ M .text → noStation F s ≡ false → strangers F set ≡ false
+    → eqb set 0 ≡ false → neverEntered F set ≡ false → isEmpty text ≡ false → M .last < F .sent s → refusalIf M F false (send s set text) ≡ 13
+unfolding refusalIf
+used-up-is-13 M F s set text a4 a8 a9 a11 a12 a24 a13 =
+    rw (le-ltb (M .text) (length text) a4, a8, a9, a11, a12, a24, lt-ltb (M .last) (F .sent s) a13)
 
 -- as many messages held as the caller may hold
 pub none-free-is-14 : (M : Limits) (F : Floor) (s set : ℕ) (text : List ℕ) → length text ≤ M .text → noStation F s ≡ false → strangers F set ≡ false

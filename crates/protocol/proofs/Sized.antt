@@ -43,7 +43,7 @@ pub record CountsFit (M : Limits) (n k : ℕ) : Type 0 where
   pub some-carts : 0 < k
   pub carts : k ≤ M .carts
 
--- "last number 65,534": what was sent
+-- what was sent: no more than up to the last number
 abbrev pub NumbersFit : Limits → (ℕ → ℕ) → Type 0
 NumbersFit M sent = (s : ℕ) → sent s ≤ suc (M .last)
 

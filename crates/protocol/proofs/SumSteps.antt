@@ -1,19 +1,19 @@
 -- The sum rule: next numbers rise by receipts and by what p counts.
 use mathlib.Core.Path.{ap, refl, _∙_, _≡_}
-use mathlib.Core.Bool.{_&&_, Bool, cond, not}
+use mathlib.Core.Bool.{_&&_, Bool, cond, false, not}
 use Prim.Native.Nat.{_+_, _-_, _<_, suc, zero, ℕ, _≤_}
 use native.Mathlib.Omega.{arith}
 use lib.Dec.{eqb, ltb}
 use borrow.Author.Tests.{eqb-false, eqb-true, lt-ltb, ne-eqb}
 use Rattle.protocol.specs.Folds.{count, sum, update2}
 use Rattle.protocol.specs.CartSets.{has}
-use Rattle.protocol.specs.Floor.{Floor, Limits}
+use Rattle.protocol.specs.Floor.{Floor, Limits, isHeld}
 use Rattle.protocol.specs.Handoff.{arrive, catchUpStop, passedOver, struck}
 use Rattle.protocol.specs.Wired.{buffer, passesOver}
 use Rattle.protocol.specs.Wireless.{allAcked, handOver, receive, sendAcks, sendAcksIfAll}
 use Rattle.protocol.specs.SumRule.{total}
-use Rattle.protocol.proofs.Tests.{and-left, and-right, by-test, eqb-self, on-cond, update2-at}
-use Rattle.protocol.proofs.CatchUp.{arrive-at-once, catch-up-ascent, catchUpAtOnce, docked, one-at-once}
+use Rattle.protocol.proofs.Tests.{and-left, and-right, by-option, by-test, clash, eqb-self, on-cond, update2-at}
+use Rattle.protocol.proofs.CatchUp.{arrive-at-once, catch-up-ascent, catchUpAtOnce, docked, one-at-once, stops-at}
 use Rattle.protocol.proofs.Counting.{sum-add, sum-ext, sum-mono, sum-nil, sum-zero}
 
 -- one place alone adds something
@@ -68,6 +68,22 @@ module _ (M : Limits) (F : Floor) (t c : ℕ) (row : ℕ → ℕ) where
   unfolding passedOver
   passed-over-is = sum-ext (F .stations) (λ s. arrive M F t c row .next c s - row s) (λ s. upto s - row s) (λ s l. rw (arrive-next c s, eqb-self c, lt-ltb s (F .stations) l))
 
+  -- where no message is held, nothing stops the cart below the expected numbers
+  stops-nowhere : ((m : ℕ) → m < M .held → isHeld F m ≡ false) → (s : ℕ) → upto s ≡ row s + (F .expected t s - row s)
+  unfolding upto struck
+  stops-nowhere none-held s =
+      let a = catch-up-ascent M (docked F t c row) t c s in
+      let e : docked F t c row .next c s ≡ row s = rw (eqb-self c) in
+      by-option (catchUpStop M (docked F t c row) t c s .found)
+      (λ q. let z = a .end q in omega arith)
+      (λ m q. let h = stops-at M (docked F t c row) t c s (upto s) m (a .stop m q) .held in
+      clash (isHeld F m) (ap not (h .some)) (none-held m (h .slot)))
+
+  passed-over-all : ((m : ℕ) → m < M .held → isHeld F m ≡ false) → passedOver M F t c row ≡ sum (F .stations) (λ s. F .expected t s - row s)
+  passed-over-all none-held =
+      passed-over-is
+      ∙ sum-ext (F .stations) (λ s. upto s - row s) (λ s. F .expected t s - row s) (λ s l. let z = stops-nowhere none-held s in omega arith)
+
   -- the sum of all next numbers rises by p
   pub arrive-sum : c < F .carts → ((s : ℕ) → row s ≡ F .next c s) → total (arrive M F t c row) ≡ total F + passedOver M F t c row
   unfolding total struck upto
@@ -90,6 +106,12 @@ module _ (M : Limits) (F : Floor) (t c : ℕ) (row : ℕ → ℕ) where
   arrive-bound =
       rw passed-over-is
       (sum-mono (F .stations) (λ s. upto s - row s) (λ s. F .expected t s - row s) (λ s ls. let a = rises s .1 in omega arith))
+
+-- a cart that enters where no message is held passes over all that its station expects
+pub enter-over-all : (M : Limits) (F : Floor) (t c : ℕ) → ((m : ℕ) → m < M .held → isHeld F m ≡ false)
+    → passedOver M F t c (λ s. 0) ≡ sum (F .stations) (λ s. F .expected t s)
+enter-over-all M F t c none-held =
+    passed-over-all M F t c (λ s. 0) none-held ∙ sum-ext (F .stations) (λ s. F .expected t s - 0) (λ s. F .expected t s) (λ s l. omega arith)
 
 -- multicast: p counts the carts that are passed over, by any row
 pub multicast-sum : (M : Limits) (F : Floor) (local m s t n : ℕ) → s < F .stations

@@ -11,7 +11,7 @@ use lib.ListN.{drop, getD, length, replicate, take}
 use borrow.Author.Tests.{le-leb, ne-eqb, not-true}
 use Rattle.protocol.specs.Folds.{count, isEmpty, sum, update}
 use Rattle.protocol.specs.CartSets.{has}
-use Rattle.protocol.specs.Floor.{Floor, Limits, Place, Record, ackList, at, behead, delete, entered, isAt, isBuffered, isHeld, isLocal, justStarted, kit, limits, limitsOf, mostRecords, multicast, onLines, onTheLines, register, setGroups, setPlace, setSteady, setTexts, stationOf, unstarted}
+use Rattle.protocol.specs.Floor.{Floor, Limits, Place, Product, Record, ackList, at, behead, delete, entered, isAt, isBuffered, isHeld, isLocal, justStarted, kit, limits, limitsOf, mostRecords, multicast, onLines, onTheLines, register, setGroups, setPlace, setSteady, setTexts, stationOf, unstarted}
 use Rattle.protocol.specs.Events.{Event, Report, accepted, bufferAfter, enter, flag, group, move, radio, refused, send, sendGroup, start, wire}
 use Rattle.protocol.specs.Groups.{membersOf, onGroup}
 use Rattle.protocol.specs.Order.{placeIn}
@@ -29,16 +29,16 @@ use Rattle.protocol.specs.TwoLists.{TwoListRule, bothEmpty, listsAfter, 
 use Rattle.protocol.specs.SumRule.{gains, total}
 use Rattle.protocol.specs.Frames.{Fields, fieldsRefusal}
 use Rattle.protocol.specs.Ranges.{InRange, NumbersBelow, Wide}
-use Rattle.protocol.specs.Examples.{examples, heldOn, outcome, rollsAway}
+use Rattle.protocol.specs.Examples.{allSent, examples, heldOn, outcome, rollsAway}
 use Rattle.protocol.proofs.Tests.{by-eq, clash, on-cond, or-right}
 use Rattle.protocol.proofs.InOrder.{deregister-counts, none-stays, tested-once}
-use Rattle.protocol.proofs.Readings.{above-15-is-26, arrive-keeps-flags, deregister-keeps-flags, emptied-is-undefined, form-without-texts, group-alone, move-keeps-flags, never-entered-is-12, never-in-is-18, no-cart-is-9, no-station-is-8, no-text-is-24, none-free-is-14, not-entered-is-12, not-here-is-16, other-flag-is-3, places-not-asked, register-is-last, register-keeps-flags, row-kept, row-of-local, strangers-are-9, too-large-is-7, undefined-is-26, unsteady-is-25}
+use Rattle.protocol.proofs.Readings.{above-15-is-26, arrive-keeps-flags, deregister-keeps-flags, emptied-is-undefined, form-without-texts, group-alone, move-keeps-flags, never-entered-is-12, never-in-is-18, no-cart-is-9, no-station-is-8, no-text-is-24, none-free-is-14, not-entered-is-12, not-here-is-16, other-flag-is-3, places-not-asked, register-is-last, register-keeps-flags, row-kept, row-of-local, strangers-are-9, too-large-is-7, undefined-is-26, unsteady-is-25, used-up-is-13}
 use Rattle.protocol.proofs.Accepted.{MayWire, accepted-passes, accepted-report, may-move, may-radio, may-send, may-wire, passed-check, printed-as-the-send, sent-as-the-send}
 use Rattle.protocol.proofs.Demand3.{nothing, rule-after, started-ok}
 use Rattle.protocol.proofs.Counting.{sum-ext, sum-term}
 use Rattle.protocol.proofs.HandoffSteps.{carried}
 use Rattle.protocol.proofs.FloorLaws.{at-home}
-use Rattle.protocol.proofs.SumSteps.{arrive-bound}
+use Rattle.protocol.proofs.SumSteps.{arrive-bound, enter-over-all}
 use Rattle.protocol.proofs.SumRun.{started-total, sums}
 use Rattle.protocol.proofs.FormFacts.{past, some-history}
 use Rattle.protocol.proofs.ClaimLaws.{reflect}
@@ -48,7 +48,7 @@ use Rattle.protocol.proofs.FormTest.{clauses-of, form-of, sized-of}
 use Rattle.protocol.proofs.FormRule.{form-bound, form-kept, form-started}
 use Rattle.protocol.proofs.Ready.{ready-run, ready-unstarted, right-size, started-after, unstarted-fails}
 use Rattle.protocol.proofs.Width.{numbers-below}
-use Rattle.protocol.proofs.ExamplesHold.{closed, rolled-away, table-holds}
+use Rattle.protocol.proofs.ExamplesHold.{closed, most-passed, rolled-away, table-holds}
 use Rattle.protocol.proofs.InRange.{in-range, step-most}
 use Rattle.protocol.proofs.QueueOrder.{head-first, tested-in-order}
 use Rattle.protocol.proofs.Places.{head-place, place-is-position, places-most}
@@ -163,25 +163,45 @@ passed-of-width w M F e l wide B h a =
     let same : M .stations * suc (M .last) ≡ M .stations * (2 ^ w - 1) = ap (λ (x : ℕ). M .stations * x) last in
     omega arith
 
--- "last number 65,534": the floor's numbers are of 16 bits, and the kit's
-floor-wide : Wide 16 limits
+-- NUMBERS THAT OUTLAST THE INSTRUMENT: "Facts about numbers are to be stated for a width and cited at 16 for the kit and 32 for the floor"
+floor-wide : Wide 32 limits
 floor-wide = refl
 
 kit-wide : Wide 16 (limitsOf kit)
 kit-wide = refl
 
-pub floor-numbers : (F : Floor) → BlankBeyond limits F → passesForm limits F ≡ true → NumbersBelow 65536 limits F
-floor-numbers F B h = numbers-of-width 16 limits F floor-wide B h
+pub floor-numbers : (F : Floor) → BlankBeyond limits F → passesForm limits F ≡ true → NumbersBelow 4294967296 limits F
+floor-numbers F B h = numbers-of-width 32 limits F floor-wide B h
 
 pub kit-numbers : (F : Floor) → BlankBeyond (limitsOf kit) F → passesForm (limitsOf kit) F ≡ true → NumbersBelow 65536 (limitsOf kit) F
 kit-numbers F B h = numbers-of-width 16 (limitsOf kit) F kit-wide B h
 
--- p: for the floor at most 16 × 65,535, for the kit at most 4 × 65,535
-pub floor-passed : (F : Floor) (e : Event) (l : Report) → BlankBeyond limits F → passesForm limits F ≡ true → answer limits F e ≡ accepted l → l .p ≤ 1048560
-floor-passed F e l B h a = passed-of-width 16 limits F e l floor-wide B h a
+-- so "32 bits wide in every record that carries them" is enough for each product
+pub product-numbers : (P : Product) (F : Floor) → BlankBeyond (limitsOf P) F → passesForm (limitsOf P) F ≡ true
+    → NumbersBelow 4294967296 (limitsOf P) F
+product-numbers P F B h =
+    let M = limitsOf P in
+    numbers-below 4294967296 M F (let z = P .last-fit in omega arith) (form-of M F B (clauses-of M F h)) (numbers-in-range M F B h)
+
+-- p: for the floor at most 16 × 4,294,967,295, which needs 36 bits, for the kit at most 4 × 65,535
+pub floor-passed : (F : Floor) (e : Event) (l : Report) → BlankBeyond limits F → passesForm limits F ≡ true → answer limits F e ≡ accepted l
+    → l .p ≤ 68719476720
+floor-passed F e l B h a = passed-of-width 32 limits F e l floor-wide B h a
 
 pub kit-passed : (F : Floor) (e : Event) (l : Report) → BlankBeyond (limitsOf kit) F → passesForm (limitsOf kit) F ≡ true → answer (limitsOf kit) F e ≡ accepted l → l .p ≤ 262140
 kit-passed F e l B h a = passed-of-width 16 (limitsOf kit) F e l kit-wide B h a
+
+-- that much is passed over: where no message is held, a cart that enters passes over all that its station expects
+pub enter-passes-all : (M : Limits) (F : Floor) (t c : ℕ) (l : Report) → answer M F (enter t c) ≡ accepted l
+    → ((m : ℕ) → m < M .held → isHeld F m ≡ false)
+    → l .p ≡ sum (F .stations) (λ s. F .expected t s)
+unfolding accept onEnter
+enter-passes-all M F t c l a none-held =
+    ap (λ (r : Report). r .p) (sym (accepted-report M F (enter t c) l a)) ∙ enter-over-all M F t c none-held
+
+pub floor-passed-reached : (passesForm limits allSent ≡ true)
+    × ((l : Report) × (answer limits allSent (enter 0 0) ≡ accepted l) × (l .p ≡ 68719476720))
+floor-passed-reached = most-passed
 
 -- THE RECORD BOUND: "No event may be refused for want of room on a line": on every floor that passes, reached or not
 pub record-bound : (M : Limits) (F : Floor) → BlankBeyond M F → passesForm M F ≡ true → onTheLines (F .stations) (F .lines) ≤ mostRecords M
@@ -639,6 +659,13 @@ pub size-by-limits : (M : Limits) (F : Floor) (n k : ℕ) → F .lengthsRight �
     → answer M F (start n k) ≡ refused 7
 unfolding answer refusal
 size-by-limits M F n k lengths fresh above = rw (too-large-is-7 M F (not (passesForm M F)) n k lengths fresh above)
+
+-- 13, by the caller's last number: "its place is unchanged", so on a floor that passes it is met after all but 14, whatever is held
+pub number-by-limits : (M : Limits) (F : Floor) (s set : ℕ) (text : List ℕ) → passesForm M F ≡ true → length text ≤ M .text → noStation F s ≡ false
+    → strangers F set ≡ false → eqb set 0 ≡ false → neverEntered F set ≡ false → isEmpty text ≡ false → M .last < F .sent s
+    → answer M F (send s set text) ≡ refused 13
+number-by-limits M F s set text h a4 a8 a9 a11 a12 a24 a13 =
+    refused-with M F (send s set text) 13 (omega arith) h (used-up-is-13 M F s set text a4 a8 a9 a11 a12 a24 a13)
 
 -- 14, by the messages that the caller may hold: on a floor that passes, a send that passes all other checks finds that many held
 pub full-by-limits : (M : Limits) (F : Floor) (s set : ℕ) (text : List ℕ) → passesForm M F ≡ true → length text ≤ M .text → noStation F s ≡ false

@@ -5,9 +5,9 @@ use mathlib.Core.List.{List, [], _∷_, _++_}
 use Prim.Native.Nat.{ℕ, zero, suc}
 use Prim.Native.Char.{code}
 use Prim.Native.String.{String, [] as endOfText, _∷_ as _then_}
-use lib.Dec.{eqb}
+use lib.Dec.{eqb, ltb}
 use lib.ListN.{length, drop, replicate}
-use Rattle.protocol.specs.Floor.{Limits, limitsOf, limits, kit, outside, at, Floor, justStarted, unstarted}
+use Rattle.protocol.specs.Floor.{Limits, limitsOf, limits, kit, outside, at, Floor, justStarted, onStations, unstarted}
 use Rattle.protocol.specs.Events.{Event, start, enter, send, wire, radio, move, Answer, refused, accepted}
 use Rattle.protocol.specs.Form.{passesForm}
 use Rattle.protocol.specs.Step.{floorAfter, answers}
@@ -110,9 +110,10 @@ K4 one other =
 abbrev pub K5 : Row
 K5 = ask (start 1 1 ∷ enter 0 0 ∷ send 0 1 (replicate 32 7) ∷ send 0 1 (replicate 33 7) ∷ []) 2 (yes 2 0 0 0 1 0 [] ∷ refused 4 ∷ [])
 
--- "from a floor written out by the definitions": one station that has sent 65,534 messages, and one cart there that has passed them all
-abbrev pub nearTheLast : Floor
-nearTheLast =
+-- "from a floor written out by the definitions": one station that has sent so many messages that the next is the last, and one cart there that
+-- has passed them all
+abbrev pub nearTheLast : ℕ → Floor
+nearTheLast last =
     record {
       lengthsRight = true;
       wordsRight = true;
@@ -120,10 +121,10 @@ nearTheLast =
       stations = 1;
       carts = 1;
       groups = λ g. 0;
-      sent = λ s. cond (eqb s 0) 65534 0;
-      expected = λ t s. cond (eqb t 0 && eqb s 0) 65534 0;
+      sent = λ s. cond (eqb s 0) last 0;
+      expected = λ t s. cond (eqb t 0 && eqb s 0) last 0;
       place = λ c. cond (eqb c 0) (at 0) outside;
-      next = λ c s. cond (eqb c 0 && eqb s 0) 65534 0;
+      next = λ c s. cond (eqb c 0 && eqb s 0) last 0;
       steady = λ c. true;
       initiator = λ m. 0;
       number = λ m. 0;
@@ -137,13 +138,15 @@ nearTheLast =
       lines = λ i j. [];
     }
 
--- it "passes the form rule"
-abbrev pub K6form : Row
-K6form = record { within = limits; given = form nearTheLast; shown = passes true }
+-- it "passes the form rule", within the limits of which that is the last number
+abbrev pub K6form : Limits → ℕ → Row
+K6form M last = record { within = M; given = form (nearTheLast last); shown = passes true }
 
--- "K6. Number 65,534 accepted, the next send is 13"
-abbrev pub K6 : Row
-K6 = record { within = limits; given = events nearTheLast (send0 ∷ send0 ∷ []) 0; shown = answered (yes 2 0 65534 0 1 0 [] ∷ refused 13 ∷ []) }
+-- "K6. Number 65,534 accepted, the next send is 13"; "K6 is kept for the kit and gains a twin for the floor, set up by the definitions and not by a
+-- run", of number 4,294,967,294
+abbrev pub K6 : Limits → ℕ → Row
+K6 M last =
+    record { within = M; given = events (nearTheLast last) (send0 ∷ send0 ∷ []) 0; shown = answered (yes 2 0 last 0 1 0 [] ∷ refused 13 ∷ []) }
 
 -- 32 messages held, by one station, for one cart
 abbrev pub full : List Event
@@ -261,10 +264,16 @@ kitFull = askWithin (limitsOf kit) (start 1 1 ∷ enter 0 0 ∷ times 9 send0) 9
 abbrev pub startedWithin : Limits → Bool → Row
 startedWithin M isRight = record { within = M; given = form (justStarted 5 8); shown = passes isRight }
 
+-- THE MOST THAT A STEP PASSES OVER: the floor's last numbers are used by all 16 stations, every station has handled all, no message is held, and no
+-- cart has entered
+abbrev pub allSent : Floor
+allSent = onStations (justStarted 16 64) (λ s. cond (ltb s 16) 4294967295 0) (λ t s. cond (ltb t 16 && ltb s 16) 4294967295 0)
+
 -- THE TABLE: "The starred examples are gathered as rows of a single proved table over the written steps"
 abbrev pub examples : List Row
 examples =
-    K1 ∷ K2 ∷ K3 ∷ K4 (wire 0 0) (wire 1 0) ∷ K4 (wire 1 0) (wire 0 0) ∷ K5 ∷ K6form ∷ K6 ∷ K7 ∷ K8 ∷ K9 ∷ K10
+    K1 ∷ K2 ∷ K3 ∷ K4 (wire 0 0) (wire 1 0) ∷ K4 (wire 1 0) (wire 0 0) ∷ K5
+    ∷ K6form (limitsOf kit) 65534 ∷ K6 (limitsOf kit) 65534 ∷ K6form limits 4294967294 ∷ K6 limits 4294967294 ∷ K7 ∷ K8 ∷ K9 ∷ K10
     ∷ noTextForm ∷ noText ∷ noTextHeld ∷ noTextGone ∷ rising ∷ groupChanged
     ∷ kitLargest ∷ kitTooLarge ∷ kitFull ∷ startedWithin (limitsOf kit) false ∷ startedWithin limits true ∷ []
 

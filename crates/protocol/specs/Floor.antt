@@ -34,14 +34,14 @@ abbrev pub limitsOf : Product → Limits
 limitsOf P =
     record { stations = P .stations; carts = P .carts; held = P .held; last = P .last; text = 32; columns = 16; fits = P .stations-fit }
 
--- "Stations 1 to 16", "Carts 1 to 64", "At most 32 held messages, text 0 to 32 octets", "last number 65,534"
+-- "Stations 1 to 16", "Carts 1 to 64", "At most 32 held messages, text 0 to 32 octets"; "the last number being 4,294,967,294"
 abbrev pub wholeFloor : Product
-wholeFloor = record { stations = 16; carts = 64; held = 32; last = 65534; stations-fit = omega arith; carts-fit = omega arith; held-fit = omega arith; last-fit = omega arith }
+wholeFloor = record { stations = 16; carts = 64; held = 32; last = 4294967294; stations-fit = omega arith; carts-fit = omega arith; held-fit = omega arith; last-fit = omega arith }
 
 abbrev pub limits : Limits
 limits = limitsOf wholeFloor
 
--- the demonstration kit: "at most 4 stations, 8 carts and 8 held messages"
+-- the demonstration kit: "at most 4 stations, 8 carts and 8 held messages"; "The kit stays at 65,534"
 abbrev pub kit : Product
 kit = record { stations = 4; carts = 8; held = 8; last = 65534; stations-fit = omega arith; carts-fit = omega arith; held-fit = omega arith; last-fit = omega arith }
 

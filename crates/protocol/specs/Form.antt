@@ -122,7 +122,7 @@ module _ (M : Limits) (F : Floor) where
       both (is (F .started)) (both (is (F .lengthsRight)) (both (is (F .wordsRight))
       (both (both (lt 0 (F .stations)) (le (F .stations) (M .stations))) (both (lt 0 (F .carts)) (le (F .carts) (M .carts))))))
 
-  -- EACH STATION s: "last number 65,534"; a station beyond the floor has sent nothing
+  -- EACH STATION s: it has sent no more than up to the last number; a station beyond the floor has sent nothing
   abbrev pub stationRule : ℕ → Claim
   stationRule s = both (le (F .sent s) (suc (M .last))) (when (le (F .stations) s) (eq (F .sent s) 0))
 

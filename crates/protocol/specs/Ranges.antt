@@ -42,7 +42,8 @@ pub record InRange (M : Limits) (F : Floor) : Type 0 where
   pub queue : (m t : ℕ) → m < M .held → t < M .stations → F .queue m t < 2 ^ F .carts
   pub records : (i j : ℕ) → All (RecordInRange (M .last) (F .carts)) (F .lines i j)
 
--- A WIDTH: numbers of w bits, of which the greatest stands only for one past the last message number
+-- A WIDTH: "Facts about numbers are to be stated for a width". Numbers of w bits, of which the greatest stands only for one past the last message
+-- number
 abbrev pub Wide : ℕ → Limits → Type 0
 Wide w M = suc (suc (M .last)) ≡ 2 ^ w
 

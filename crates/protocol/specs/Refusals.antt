@@ -54,7 +54,7 @@ module _ (M : Limits) (F : Floor) where
   abbrev pub bufferShort : ℕ → ℕ → Bool
   bufferShort t buffer = byOption (queueHead M F t) false (λ m. ltb buffer (length (F .text m)))
 
-  -- the last checks of a send, of whatever kind: "24, 13, 14"
+  -- the last checks of a send, of whatever kind: "24, 13, 14". "13 now speaks of the caller's last number; its place is unchanged"
   abbrev pub lastOfSend : ℕ → List ℕ → ℕ
   lastOfSend s text =
       check 24 (isEmpty text)
