@@ -29,7 +29,7 @@ use Rattle.lines.specs.Form.{form}
 use Rattle.lines.specs.Lines.{used}
 use Rattle.lines.specs.Words.{capacity}
 use Rattle.view.specs.View.{Lent, lent, floorIn, textsIn}
-use Rattle.view.proofs.Standing.{Standing, standing, few-stations, few-carts}
+use Rattle.view.proofs.Standing.{Standing, standing, few-stations, few-carts, held-number}
 use Rattle.queue.specs.Rooms.{tablesFloor, roomCount, HasRooms, QueueRooms, roomCode, roomIn}
 use Rattle.queue.specs.Keys.{Keyed}
 use Rattle.queue.proofs.Codes.{Below, room-in, no-room-in, decoded, code-fits}
@@ -97,12 +97,11 @@ module _ (L : Lent) (t : ℕ) where
         let F = floorIn L in
         let pos : 0 < F .queue m t = by-lt 0 (F .queue m t) (λ p. p) (λ z. absurd (entry (omega arith))) in
         let member = some-member (F .carts) (F .queue m t) (X .sized .copies .queue m t (entry-low m h entry) low) pos in
-        let kept = X .facts .kept m (X .facts .queues m t (member .0) (member .2) .held) in
+        let held = X .facts .queues m t (member .0) (member .2) .held in
+        let kept = X .facts .kept m held in
         let below = X .facts .senders (F .initiator m) (omega arith) in
         let few = few-stations L X in
-        let last = X .sized .numbers (F .initiator m) in
-        let most = L .product .last-fit in
-        (omega arith, omega arith)
+        (held-number L X m held, omega arith)
 
 -- a refusal of the first four checks is one of the whole table
 first-four : (a b d f : Bool) (rest r : ℕ) → r ≡ check 8 a (check 9 b (check 16 d (check 25 f 0))) → (r ≡ 0 → ⊥) → r ≡ check 8 a (check 9 b (check 16 d (check 25 f rest)))

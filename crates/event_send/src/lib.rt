@@ -57,7 +57,7 @@ fn text_refusal(text: &[u8]) -> u64
     if text.len() == 0 { 24 } else { 0 }
 }
 
-// "the station has used number 65,534", 13, or "32 messages held", 14, or 0; m is the first free room.
+// "13 now speaks of the caller's last number": the station has used it; or 14, as many messages held as may be; or 0. m is the first free room.
 fn room_refusal(stations: &[u64], station: Station, m: usize, last: u64) -> u64
     requires { ⌜ HasStation (now stations) (station .0) ⌝ }
     ensures { λ r. ⌜ ((P : Product) (C M W T : List ℕ) → P .last ≡ last → m ≡ firstFree (P .held) M → r ≡ roomChecks (limitsOf P) (floorIn (lent P (now (stations .entry)) C M W T)) (station .0)) ⌝ }

@@ -18,7 +18,6 @@ use Rattle.protocol.proofs.Counting.{sum-ext}
 use Rattle.protocol.proofs.Places.{given-at-once}
 use Rattle.sets.proofs.Walk.{nothing-between}
 use Rattle.protocol.proofs.Updates.{counts-up-le}
-use Rattle.protocol.proofs.InRange.{in-range}
 use Rattle.protocol.proofs.CatchUp.{catch-up-ascent, stop-same, stops-at, foundIs, found-is, docked, stopAt, arrive-at-once}
 use Rattle.protocol.specs.Form.{multicastNumbers}
 use Rattle.stations.specs.View.{Stations, HasStation, headIn, stationsIn, namingIn}
@@ -29,7 +28,7 @@ use Rattle.messages.specs.View.{Rooms, roomsIn}
 use Rattle.view.specs.View.{Lent, lent, textsIn, floorOf, floorIn}
 use Rattle.view.proofs.Room.{sum-less}
 use Rattle.view.proofs.Laid.{Laid, local-stays, local-joins, laid-carts}
-use Rattle.view.proofs.Standing.{Standing, few-stations, few-carts}
+use Rattle.view.proofs.Standing.{Standing, few-stations, few-carts, numbers-of-32-bits}
 use Rattle.queue.specs.Rooms.{tablesFloor, roomCount, HasRooms}
 use Rattle.catchup.specs.Arrival.{stopIn, occurs, deepestTo}
 use Rattle.catchup.proofs.NamingLaws.{naming-inside, naming-covers}
@@ -45,9 +44,9 @@ expects-none L X t lt s l =
     let a = counts-up-le (F .expected t s) (multicastNumbers (F .lines s t)) (F .sent s) (X .facts .run s t lt) in
     by-eq (F .sent s) 0 (λ e. omega arith) (λ e. absurd (let b = X .facts .senders s (omega arith) in omega arith))
 
--- no number that a station expects is past 65,535
+-- no number that a station expects is past the last of 32 bits
 pub expected-fits : (L : Lent) → Standing L → (t : ℕ) → t < floorIn L .stations → (s : ℕ) → s < 16 → stationsIn (L .stations) .expected t s ≤ 4294967295
-expected-fits L X t lt s h = let a = in-range (limitsOf (L .product)) (floorIn L) (X .facts) (X .sized) .expected t s lt in let b = L .product .last-fit in omega arith
+expected-fits L X t lt s h = let a = numbers-of-32-bits L X .expected t s lt in omega arith
 
 -- the parts have a row for each station and cart of the floor, and for each room whose copy names a cart
 pub parts-ready : (L : Lent) → Standing L → (t c : ℕ) → t < floorIn L .stations → c < floorIn L .carts → HasStation (L .stations) t × HasRow (L .carts) c × HasRooms (L .messages) × (t < 16) × (c < 64)

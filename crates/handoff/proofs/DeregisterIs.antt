@@ -42,7 +42,7 @@ use Rattle.view.proofs.Laid.{Laid, words-right, local-stays, local-leaves, laid
 use Rattle.view.proofs.Registers.{NoRegister, none-unless-travelling, none-beheaded, carry-view, carried-row}
 use Rattle.view.proofs.RecordWords.{register-is, register-right}
 use Rattle.view.proofs.Room.{put-counts}
-use Rattle.view.proofs.Standing.{Standing, few-stations, few-carts, used-popped, fits-after, one-line-counts}
+use Rattle.view.proofs.Standing.{Standing, few-stations, few-carts, held-number, used-popped, fits-after, one-line-counts}
 use Rattle.queue.specs.Rooms.{tablesFloor}
 use Rattle.queue.proofs.AckLaws.{acked-by-masks}
 use Rattle.handoff.specs.Forwarded.{HeldRooms, goes, orderedRooms, emptied, PushedEach}
@@ -96,9 +96,7 @@ module _ (L : Lent) (X : Standing L) (c i t : ℕ) (rest : List Record) (may : M
   sent-by : (m : ℕ) → eqb (F .waiting m) 0 ≡ false → (F .initiator m < F .stations) × (F .number m < 4294967296)
   sent-by m some =
       let a = X .facts .kept m (held-there m some) in
-      let b = L .product .last-fit in
-      let d = X .sized .numbers (F .initiator m) in
-      (X .facts .senders (F .initiator m) (omega arith), omega arith)
+      (X .facts .senders (F .initiator m) (omega arith), held-number L X m (held-there m some))
 
   pub held-rooms : HeldRooms (L .messages)
   held-rooms =

@@ -18,7 +18,7 @@ pub struct Bounds {
     pub last: u64,
 }
 
-// The floor: "Stations 1 to 16", "Carts 1 to 64", "At most 32 held messages", "last number 65,534".
+// The floor: "Stations 1 to 16", "Carts 1 to 64", "At most 32 held messages", "the last number being 4,294,967,294".
 pub fn floor_bounds() -> Bounds
     ensures { λ r. ⌜ Fits r × NumbersOf wholeFloor r ⌝ }
 {
@@ -26,11 +26,11 @@ pub fn floor_bounds() -> Bounds
         stations: 16,
         carts: 64,
         held: 32,
-        last: 65534,
+        last: 4294967294,
     }
 }
 
-// The demonstration kit: "at most 4 stations, 8 carts and 8 held messages"; the last number is the floor's.
+// The demonstration kit: "at most 4 stations, 8 carts and 8 held messages"; "The kit stays at 65,534".
 pub fn kit_bounds() -> Bounds
     ensures { λ r. ⌜ Fits r × NumbersOf kit r ⌝ }
 {

@@ -2,10 +2,11 @@
 use mathlib.Core.Path.{_≡_, refl, sym, ap, _∙_}
 use mathlib.Core.Bool.{Bool, true, false, cond, not}
 use mathlib.Core.Option.{Option, none, some}
-use Prim.Native.Nat.{ℕ, zero, suc, _+_, _<_, _≤_}
+use Prim.Native.Nat.{ℕ, zero, suc, _+_, _*_, _^_, _<_, _≤_}
 use native.Mathlib.Numerals.{add-one}
 use native.Mathlib.Omega.{arith}
 use lib.Dec.{eqb, ltb}
+use lib.Pow.{pow-add}
 use borrow.Author.Tests.{lt-ltb, le-ltb, eq-eqb, ne-eqb, eqb-false, not-true}
 use Rattle.protocol.specs.Floor.{Floor}
 use Rattle.protocol.specs.Wireless.{standsBefore}
@@ -14,6 +15,19 @@ use Rattle.queue.specs.declared.Best.{Best}
 use Rattle.queue.specs.Rooms.{roomCode}
 use Rattle.queue.specs.Keys.{InKey, keyOf, Keyed, hasEntry, firstWith, firstAmong, firstOf, bestWith}
 use Rattle.queue.proofs.HeadLaws.{first-out}
+
+-- A KEY HOLDS A NUMBER: one of w bits, beside the 4 of its initiator
+pub key-of-width : (w number initiator : ℕ) → number < 2 ^ w → initiator < 16 → keyOf number initiator < 2 ^ (w + 4)
+key-of-width w number initiator n s =
+    let e : 2 ^ (w + 4) ≡ 2 ^ w * 16 = pow-add 2 w 4 in
+    omega arith
+
+-- 36 bits for the floor's, 20 for the kit's
+pub floor-key : (number initiator : ℕ) → InKey number initiator → keyOf number initiator < 2 ^ 36
+floor-key number initiator k = key-of-width 32 number initiator (k .0) (k .1)
+
+pub kit-key : (number initiator : ℕ) → number < 65536 → initiator < 16 → keyOf number initiator < 2 ^ 20
+kit-key number initiator n s = key-of-width 16 number initiator n s
 
 -- OF TWO ROOMS, the one with the smaller key
 module _ (best : Best) (m key h : ℕ) where
@@ -93,7 +107,7 @@ module _ (F : Floor) where
 
     -- picked
     looked : (m : ℕ) (o : Option ℕ) → HasKey m → pick m ≡ true → OfKey o → firstOf (bestOf o) m (keyIn m) ≡ bestOf (firstWith F pick m o)
-    looked m none h e _ = rw (e, lt-ltb (keyIn m) 18446744073709551615 (omega arith))
+    looked m none h e _ = rw (e, lt-ltb (keyIn m) 18446744073709551615 (let k = floor-key (F .number m) (F .initiator m) h in omega arith))
     looked m (some k) h e g = rw (e, key-order m k h g) (chosen (standsBefore F m k) m k)
 
     best-more : (m : ℕ) (o : Option ℕ) → m < 32 → OfKey o → bestWith F pick m (bestOf o) ≡ bestOf (firstWith F pick m o)

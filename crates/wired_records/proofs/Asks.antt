@@ -20,11 +20,10 @@ use Rattle.lines.specs.Words.{capacity}
 use Rattle.lines.specs.Post.{Popped}
 use Rattle.view.specs.Records.{kindOf, indexOf, numberOf}
 use Rattle.view.specs.View.{Lent, lent, floorIn}
-use Rattle.view.proofs.Standing.{Standing, few-stations}
+use Rattle.view.proofs.Standing.{Standing, few-stations, numbers-of-32-bits}
 use Rattle.wired_records.proofs.Head.{InRoom, from-below, to-below, multicast-room, ack-list-room, delete-room, number-below}
 use Rattle.wired_records.proofs.AckListIs.{room-for-deletes}
 use Rattle.wired_records.proofs.MulticastSets.{local-entered}
-use Rattle.wired_records.proofs.MulticastIs.{expected-below}
 
 module _ {P : Product} (S C M W W₁ T : List ℕ) (X : Standing (lent P S C M W T)) (i j : ℕ) (from : i < headIn S .stations) (to : j < headIn S .stations)
     (said : word.Record) (rest : List word.Record) (top : recordsOn W (i * 16 + j) ≡ said ∷ rest) (popped : Popped W W₁ (i * 16 + j)) where
@@ -64,7 +63,7 @@ module _ {P : Product} (S C M W W₁ T : List ℕ) (X : Standing (lent P S C M W
       let room = multicast-room L X i j from to said rest top k in
       let words = X .lengths .stations in
       let below = to-below L X i j from to in
-      ((omega arith, from-below L X i j from to, expected-below L X j i to), (local-rows, has-room i room, room .below, number-below L X i n m room, has-rooms))
+      ((omega arith, from-below L X i j from to, numbers-of-32-bits L X .expected j i to), (local-rows, has-room i room, room .below, number-below L X i n m room, has-rooms))
 
   pub delete-asks : kindOf (said .0) ≡ 3 → HasRoom M m × (j < 16)
   delete-asks k = (has-room i (delete-room L X i j from to said rest top k), to-below L X i j from to)

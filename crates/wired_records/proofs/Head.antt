@@ -22,7 +22,7 @@ use Rattle.lines.specs.Lines.{recordsOn, registersIn}
 use Rattle.view.specs.Records.{kindOf, indexOf, numberOf, recordIn, isIn, roomRight}
 use Rattle.view.specs.View.{Lent, everyWord, floorIn}
 use Rattle.view.proofs.LinesView.{head-view}
-use Rattle.view.proofs.Standing.{Standing, few-stations}
+use Rattle.view.proofs.Standing.{Standing, few-stations, held-number}
 use Rattle.wired_records.proofs.LaidAgain.{room-says, taken-below}
 
 -- the message n of s is held, in room m
@@ -101,6 +101,6 @@ module _ (L : Lent) (X : Standing L) (i j : ℕ) (from : i < floorIn L .stations
     unfolding roomRight
     delete-room k = in-room i (rw k at head-right)
 
--- a held message's number is one of 32 bits
+-- the number of a message in a room is one of 32 bits
 pub number-below : (L : Lent) → Standing L → (s n m : ℕ) → InRoom (limitsOf (L .product)) (floorIn L) s n m → n < 4294967296
-number-below L X s n m h = let a = X .facts .kept m (h .held) in let b = X .sized .numbers (floorIn L .initiator m) in let d = h .number in let k = L .product .last-fit in omega arith
+number-below L X s n m h = let a = held-number L X m (h .held) in let d = h .number in omega arith

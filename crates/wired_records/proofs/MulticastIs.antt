@@ -10,13 +10,11 @@ use Rattle.protocol.specs.Folds.{count}
 use Rattle.protocol.specs.CartSets.{minus, setOf}
 use Rattle.protocol.specs.Floor.{Floor, Carts, localTo, Record, behead, limitsOf, Product}
 use Rattle.protocol.specs.Events.{Done, done}
-use Rattle.protocol.specs.Form.{multicastNumbers}
 use Rattle.protocol.specs.Order.{placeIn}
 use Rattle.protocol.specs.Handoff.{roomOf}
 use Rattle.protocol.specs.Wired.{handle, localRow, multicastByRow, placeOfNew, onMulticast, onWire, buffer, raiseExpected, passesOver, isQueued, isStruck}
 use borrow.Author.Tests.{ne-eqb}
 use Rattle.protocol.proofs.Accepted.{unlined}
-use Rattle.protocol.proofs.Updates.{counts-up-le}
 use Rattle.stations.specs.View.{Stations, headIn, stationsIn, withExpected, withCopy, withQueue}
 use Rattle.carts.specs.View.{cartsIn}
 use Rattle.messages.specs.View.{roomsIn}
@@ -34,15 +32,6 @@ use Rattle.view.proofs.Standing.{Standing}
 use Rattle.wired_records.specs.Handled.{Buffered}
 use Rattle.wired_records.proofs.Head.{InRoom, from-below, to-below, wire-is, says-multicast, multicast-room}
 use Rattle.wired_records.proofs.MulticastSets.{row-made, row-small, over-has, over-count, queue-same, copy-same}
-
--- the number that a station expects is no more than 65,535
-pub expected-below : (L : Lent) → Standing L → (t s : ℕ) → t < floorIn L .stations → floorIn L .expected t s < 4294967296
-expected-below L X t s l =
-    let F = floorIn L in
-    let a = counts-up-le (F .expected t s) (multicastNumbers (F .lines s t)) (F .sent s) (X .facts .run s t l) in
-    let b = X .sized .numbers s in
-    let k = L .product .last-fit in
-    omega arith
 
 module _ {P : Product} (S S′ C C′ M W W₁ T : List ℕ) (X : Standing (lent P S C M W T)) (i j : ℕ)
     (from : i < headIn S .stations) (to : j < headIn S .stations) (said : word.Record) (rest : List word.Record)

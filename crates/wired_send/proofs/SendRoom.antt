@@ -17,7 +17,7 @@ use Rattle.protocol.proofs.Accepted.{MaySend}
 use Rattle.lines.specs.Lines.{used}
 use Rattle.lines.specs.Words.{capacity}
 use Rattle.view.specs.View.{Lent, floorIn}
-use Rattle.view.proofs.Standing.{Standing, room-after, few-stations}
+use Rattle.view.proofs.Standing.{Standing, room-after, few-stations, numbers-of-32-bits}
 use Rattle.wired_lines.proofs.EveryView.{every-counts}
 
 module _ (M : Limits) (F : Floor) (s set : ℕ) (text : List ℕ) (m : ℕ) (passes : passesForm M F ≡ true) (found : freeRoom M F ≡ some m) (may : MaySend M F s set text m) where
@@ -55,11 +55,9 @@ module _ (L : Lent) (s set : ℕ) (text : List ℕ) (m : ℕ) (X : Standing L) (
   send-numbers =
       let a = few-stations L X in
       let b = may .station in
-      let d = may .number in
       let e = may .room in
       let f = L .product .held-fit in
-      let g = L .product .last-fit in
-      (omega arith, omega arith, a, omega arith)
+      (omega arith, omega arith, a, numbers-of-32-bits L X .sent s)
 
   -- room for as many records as there are stations
   pub send-room : used (L .lines) + F .stations ≤ capacity (L .lines)

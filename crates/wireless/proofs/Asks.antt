@@ -27,7 +27,7 @@ use Rattle.lines.specs.Form.{form}
 use Rattle.lines.specs.Lines.{used}
 use Rattle.lines.specs.Words.{capacity}
 use Rattle.view.specs.View.{Lent, floorIn}
-use Rattle.view.proofs.Standing.{Standing, few-stations, few-carts, room-after, one-line-counts}
+use Rattle.view.proofs.Standing.{Standing, few-stations, few-carts, held-number, room-after, one-line-counts}
 use Rattle.queue.specs.Rooms.{roomCount, HasRooms}
 use Rattle.queue.proofs.AckLaws.{acked-by-masks}
 use Rattle.wireless.specs.Handed.{tookFrom, holdNone}
@@ -94,15 +94,12 @@ module _ (L : Lent) (X : Standing L) (t c m : ℕ) (may : MayRadio (limitsOf (L 
 
   pub radio-numbers : (m < L .product .held) × (t < 16) × (c < 64) × (s < 16) × (n < 4294967296)
   radio-numbers =
-      let a = X .facts .kept m (is-queued .held) in
       let b = s-on-floor in
       let d = few-stations L X in
       let e = few-carts L X in
-      let k = L .product .last-fit in
-      let f = X .sized .numbers s in
       let g = may .station in
       let h = may .cart in
-      (is-queued .held .slot, omega arith, omega arith, omega arith, omega arith)
+      (is-queued .held .slot, omega arith, omega arith, omega arith, held-number L X m (is-queued .held))
 
   -- the code's test is the written one
   all-is : holdNone (tookFrom (stationsIn (L .stations)) m t c) m t ≡ allAcked R m t
