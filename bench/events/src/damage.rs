@@ -121,7 +121,9 @@ fn many_numbers(numbers: &mut Numbers, w: &mut Words) {
     if (0..n).any(|t| w.stations[row(t) + 1 + s] != w.stations[row(s)]) {
         return;
     }
-    let sent = [65_535, 65_534, 65_535, 65_533, 40_000][numbers.below(5) as usize];
+    // Around the floor's last number, and the kit's, which is none for the floor.
+    let most = [4_294_967_295, 4_294_967_294, 4_294_967_293, 65_535, 40_000];
+    let sent = most[numbers.below(5) as usize];
     w.stations[row(s)] = sent;
     (0..n).for_each(|t| w.stations[row(t) + 1 + s] = sent);
 }

@@ -8,6 +8,8 @@ mod behind;
 mod choose;
 mod damage;
 mod event;
+#[cfg(test)]
+mod last_numbers;
 mod proved;
 mod reach;
 #[cfg(test)]

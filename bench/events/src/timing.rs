@@ -11,7 +11,7 @@ use shared::numbers::Numbers;
 use std::hint::black_box;
 use std::time::Instant;
 
-/// Rounds of each cycle; the numbers rise by one in each, and by 32 where a round fills the floor: there are 65,535.
+/// Rounds of each cycle; the numbers rise by one in each, and by 32 where a round fills the floor.
 const ROUNDS: usize = 2_000;
 /// Messages that stay on the floor all the time; the carts they name are all at one station, which the cycle of messages leaves alone.
 const STAY: u64 = 8;

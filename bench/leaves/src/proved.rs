@@ -69,7 +69,7 @@ impl Lines {
     }
 }
 
-/// The three tables, of their right lengths, with numbers of at most 65,535.
+/// The three tables, of their right lengths, with numbers of at most 4,294,967,295.
 pub struct Tables {
     pub stations: Vec<u64>,
     pub carts: Vec<u64>,

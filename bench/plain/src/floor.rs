@@ -21,22 +21,28 @@ pub struct Limits {
     pub carts: u8,
     /// Messages held at a time, on the whole floor.
     pub held: u8,
+    /// The last number that a station gives to a message. Numbers have 32 bits in every record, and
+    /// next and expected numbers reach one more than the last.
+    pub last_number: u32,
 }
 
 impl Limits {
     /// The floor of document 01.
-    pub const FLOOR: Limits =
-        Limits { stations: STATIONS as u8, carts: CARTS as u8, held: HELD as u8 };
-    /// "Sales carries a small kit: at most 4 stations, 8 carts and 8 held messages."
-    pub const KIT: Limits = Limits { stations: 4, carts: 8, held: 8 };
+    pub const FLOOR: Limits = Limits {
+        stations: STATIONS as u8,
+        carts: CARTS as u8,
+        held: HELD as u8,
+        last_number: 4_294_967_294,
+    };
+    /// "Sales carries a small kit: at most 4 stations, 8 carts and 8 held messages." Its numbers are
+    /// those of 16 bits: "the kit stays at 65,534".
+    pub const KIT: Limits = Limits { stations: 4, carts: 8, held: 8, last_number: 65_534 };
 }
 
 /// "Sixteen groups, none defined at a start."
 pub const GROUPS: usize = 16;
 /// Longest text, in octets.
 pub const TEXT: usize = 32;
-/// The last number that a station gives to a message.
-pub const LAST_NUMBER: u16 = 65_534;
 
 /// Room for a line's first records. A longer line grows once and keeps its length.
 const LINE_ROOM: usize = 4;
@@ -55,7 +61,7 @@ pub struct GroupNo(pub u8);
 
 /// A message's number, given by its initiator.
 #[derive(Clone, Copy, Debug, PartialEq, Eq, PartialOrd, Ord)]
-pub struct MessageNo(pub u16);
+pub struct MessageNo(pub u32);
 
 /// The room of a held message.
 #[derive(Clone, Copy, Debug, PartialEq, Eq)]
@@ -151,7 +157,7 @@ pub enum Place {
 /// them between its deregister and its register, so the register need not carry the row.
 #[derive(Clone, Copy)]
 pub(crate) struct Cart {
-    pub next: [u16; STATIONS],
+    pub next: [u32; STATIONS],
     pub place: Place,
 }
 
@@ -241,7 +247,7 @@ impl Queue {
 #[derive(Clone)]
 pub(crate) struct Station {
     /// The expected number of each initiator.
-    pub expected: [u16; STATIONS],
+    pub expected: [u32; STATIONS],
     /// Carts at this station or leaving it.
     pub local: u64,
     /// Rooms of the messages buffered here.
@@ -250,7 +256,7 @@ pub(crate) struct Station {
     /// Rooms of the messages whose ack list here is not empty.
     pub acked: u32,
     /// The number of its next own message.
-    pub sent: u16,
+    pub sent: u32,
     pub buffered: [Buffered; HELD],
 }
 
@@ -262,13 +268,19 @@ pub(crate) struct Held {
     /// Carts that the initiator knows to have it.
     pub acknowledged: u64,
     /// Its place in a queue: smaller number first, then higher initiator.
-    pub order: u32,
-    pub number: u16,
+    pub order: u64,
+    pub number: u32,
     pub initiator: StationNo,
     /// Stations that have not handled the delete.
     pub undeleted: u8,
     pub length: u8,
     pub text: [u8; TEXT],
+}
+
+/// What a message is ordered by in a queue.
+#[inline(always)]
+pub(crate) fn order(number: u32, initiator: StationNo) -> u64 {
+    (number as u64) << 4 | (STATIONS - 1 - initiator.at()) as u64
 }
 
 /// What travels on a line.
@@ -410,7 +422,7 @@ impl Floor {
     }
 
     /// The next number of a cart for an initiator.
-    pub fn next(&self, cart: CartNo, initiator: StationNo) -> u16 {
+    pub fn next(&self, cart: CartNo, initiator: StationNo) -> u32 {
         self.cart[cart.at()].next[initiator.at()]
     }
 
@@ -425,7 +437,7 @@ impl Floor {
     }
 
     /// How many messages a station has sent, which is the number of its next one.
-    pub fn sent(&self, station: StationNo) -> u16 {
+    pub fn sent(&self, station: StationNo) -> u32 {
         self.station[station.at()].sent
     }
 

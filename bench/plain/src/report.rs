@@ -5,9 +5,9 @@ use std::io::Write;
 use crate::floor::TEXT;
 use crate::steps::{Refusal, Step};
 
-/// No line is longer: 20 digits of index, 10 of p, 64 of text and 25 octets of other fields and
-/// blanks. A remainder by it changes no place in a line; it lets the compiler see that the place
-/// is in range.
+/// No line is longer: 20 digits of index, 10 of a message's number, 11 of p, 64 of text and 20
+/// octets of other fields and blanks. A remainder by it changes no place in a line; it lets the
+/// compiler see that the place is in range.
 const LONGEST: usize = 128;
 /// Room for one line. Fields are copied in whole words, which may reach beyond the line's end.
 const LINE: usize = LONGEST + 2 * TEXT;
@@ -127,7 +127,7 @@ impl Report {
     pub fn refused(&mut self, refusal: Refusal) {
         self.line(|line| {
             line.put(b"no ");
-            line.number(refusal.number() as u32);
+            line.number(refusal.number() as u64);
             line.end_of_line();
         });
     }
@@ -138,7 +138,7 @@ impl Report {
         let octets = self.lines[self.end..].first_chunk_mut().expect("room for a line");
         let mut line = Line { octets, at: 0 };
         if self.printed_length == 0 {
-            line.number(self.rest as u32);
+            line.number(self.rest as u64);
         } else {
             line.put(&self.printed);
             line.at = self.printed_length;
@@ -186,15 +186,15 @@ impl Line<'_> {
     #[inline(always)]
     fn step(&mut self, kind: u8, step: &Step) {
         self.put(&[kind + b'0', b' ']);
-        self.number(step.a as u32);
-        self.number(step.b as u32);
+        self.number(step.a as u64);
+        self.number(step.b as u64);
         self.number(step.p);
-        self.number(step.w as u32);
-        self.number(step.q as u32);
+        self.number(step.w as u64);
+        self.number(step.q as u64);
     }
 
     #[inline(always)]
-    fn number(&mut self, n: u32) {
+    fn number(&mut self, n: u64) {
         if n < 1000 {
             let start = self.at;
             self.put(&SMALL[n as usize]);
@@ -204,7 +204,7 @@ impl Line<'_> {
         }
     }
 
-    fn large(&mut self, n: u32) {
+    fn large(&mut self, n: u64) {
         let (high, low) = (n / 1000, n % 1000);
         self.number(high);
         self.at -= 1;
@@ -241,7 +241,9 @@ mod tests {
     #[test]
     fn numbers_of_every_length() {
         let mut octets = [0; LINE];
-        for n in (0..1100).chain([9_999, 10_000, 65_534, 65_535, 999_999, 1_000_000, 1_048_560]) {
+        let large = [9_999, 10_000, 65_534, 65_535, 999_999, 1_000_000, 1_048_560];
+        let larger = [4_294_967_294, 4_294_967_295, 68_719_476_720];
+        for n in (0..1100).chain(large).chain(larger) {
             let mut line = Line { octets: &mut octets, at: 0 };
             line.number(n);
             let at = line.at;
@@ -267,10 +269,12 @@ mod tests {
         report.thousands = u64::MAX / 1000 - 1;
         report.next_thousand();
         report.rest = 614;
-        let step = Step { a: u16::MAX, b: u16::MAX, p: u32::MAX, w: u8::MAX, q: u8::MAX };
+        let p = 16 * u32::MAX as u64;
+        let step = Step { a: u16::MAX, b: u32::MAX, p, w: u8::MAX, q: u8::MAX };
         report.received(4, &step, &[0xAB; TEXT], TEXT);
         let text = "ab".repeat(32);
-        let wanted = format!("18446744073709551614 4 65535 65535 4294967295 255 255 {text}\n");
+        let wanted =
+            format!("18446744073709551614 4 65535 4294967295 68719476720 255 255 {text}\n");
         assert_eq!(report.lines(), wanted.as_bytes());
         assert!(report.is_full());
         report.clear();

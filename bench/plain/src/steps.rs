@@ -2,17 +2,17 @@
 //! the answer, and changes nothing before the last check has passed.
 
 use crate::floor::{
-    carts_of, line, rooms_of, stations_of, CartNo, Floor, GroupNo, Held, Place, Record, Room,
-    StationNo, LAST_NUMBER, STATIONS, TEXT,
+    carts_of, line, order, rooms_of, stations_of, CartNo, Floor, GroupNo, Held, Place, Record,
+    Room, StationNo, STATIONS, TEXT,
 };
 
 /// What an accepted event answers.
 #[derive(Clone, Copy, Debug, PartialEq, Eq)]
 pub struct Step {
     pub a: u16,
-    pub b: u16,
+    pub b: u32,
     /// Numbers passed over: raised without a receipt.
-    pub p: u32,
+    pub p: u64,
     /// Records put on lines.
     pub w: u8,
     /// "The largest place given in that step, 0 if no cart was queued."
@@ -85,7 +85,7 @@ impl Floor {
         self.started = true;
         self.stations = stations;
         self.carts = carts;
-        Ok(Step { a: stations as u16, b: carts as u16, p: 0, w: 0, q: 0 })
+        Ok(Step { a: stations as u16, b: carts as u32, p: 0, w: 0, q: 0 })
     }
 
     /// A cart comes onto the floor at a station.
@@ -101,7 +101,7 @@ impl Floor {
         // "A cart counts as steady from its entry until told".
         self.unsteady &= !cart.alone();
         let (p, q) = self.register(station, cart);
-        Ok(Step { a: station.0 as u16, b: cart.0 as u16, p, w: 0, q })
+        Ok(Step { a: station.0 as u16, b: cart.0 as u32, p, w: 0, q })
     }
 
     /// A station initiates a message to a set of carts.
@@ -151,13 +151,13 @@ impl Floor {
             return Err(Refusal::NoSuchGroup);
         };
         *members = set;
-        Ok(Step { a: group.0 as u16, b: set.count_ones() as u16, p: 0, w: 0, q: 0 })
+        Ok(Step { a: group.0 as u16, b: set.count_ones(), p: 0, w: 0, q: 0 })
     }
 
     /// The step of every send: the message takes the station's number and a room, and a multicast
     /// goes on the line to every station.
     #[inline(always)]
-    fn post(&mut self, station: StationNo, number: u16, set: u64, text: &[u8]) -> Step {
+    fn post(&mut self, station: StationNo, number: u32, set: u64, text: &[u8]) -> Step {
         let room = Room(self.rooms.trailing_ones() as u8);
         self.station[station.at()].sent = number + 1;
         self.rooms |= room.alone();
@@ -166,7 +166,7 @@ impl Floor {
         *held = Held {
             set,
             acknowledged: 0,
-            order: ((number as u32) << 4) | (STATIONS as u32 - 1 - station.at() as u32),
+            order: order(number, station),
             number,
             initiator: station,
             undeleted: self.stations,
@@ -202,11 +202,11 @@ impl Floor {
             }
             Record::Deregister(cart) => {
                 let w = self.deregister(from, to, cart);
-                (DEREGISTER, cart.0 as u16, 0, w, 0)
+                (DEREGISTER, cart.0 as u32, 0, w, 0)
             }
             Record::Register(cart) => {
                 let (p, q) = self.register(to, cart);
-                (REGISTER, cart.0 as u16, p, 0, q)
+                (REGISTER, cart.0 as u32, p, 0, q)
             }
         };
         Ok(Step { a, b, p, w, q })
@@ -261,7 +261,7 @@ impl Floor {
         };
         self.cart[cart.at()].place = Place::Leaving(old);
         self.lines[line(to, old)].push_back(Record::Deregister(cart));
-        Ok(Step { a: cart.0 as u16, b: to.0 as u16, p: 0, w: 1, q: 0 })
+        Ok(Step { a: cart.0 as u16, b: to.0 as u32, p: 0, w: 1, q: 0 })
     }
 
     /// A cart's vacuum is steady, or is not. It "prints cart and flag with p = 0 and w = 0".
@@ -277,12 +277,12 @@ impl Floor {
         } else {
             self.unsteady |= cart.alone();
         }
-        Ok(Step { a: cart.0 as u16, b: steady as u16, p: 0, w: 0, q: 0 })
+        Ok(Step { a: cart.0 as u16, b: steady as u32, p: 0, w: 0, q: 0 })
     }
 
     /// The checks of a send, in their order; the number that the message will have.
     #[inline(always)]
-    fn check_send(&self, station: StationNo, set: u64, text: &[u8]) -> Result<u16, Refusal> {
+    fn check_send(&self, station: StationNo, set: u64, text: &[u8]) -> Result<u32, Refusal> {
         if text.len() > TEXT {
             return Err(Refusal::LongText);
         }
@@ -302,13 +302,13 @@ impl Floor {
 
     /// The last checks of every send, of text, number and room.
     #[inline(always)]
-    fn check_post(&self, station: StationNo, text: &[u8]) -> Result<u16, Refusal> {
+    fn check_post(&self, station: StationNo, text: &[u8]) -> Result<u32, Refusal> {
         // "A send with length 0 is now turned away"; "24 empty text, after 12 and before 13".
         if text.is_empty() {
             return Err(Refusal::EmptyText);
         }
         let number = self.station[station.at()].sent;
-        if number > LAST_NUMBER {
+        if number > self.limits.last_number {
             return Err(Refusal::NumbersUsedUp);
         }
         if self.rooms.count_ones() >= self.limits.held as u32 {
@@ -371,7 +371,7 @@ impl Floor {
     /// A multicast "shall find out once for each cart whether it is local, before it goes over
     /// queue and copy. The answers make a row, yes exactly for the local carts".
     #[inline(always)]
-    fn multicast(&mut self, at: StationNo, room: Room) -> (u32, u8) {
+    fn multicast(&mut self, at: StationNo, room: Room) -> (u64, u8) {
         let row = self.station[at.at()].local;
         self.multicast_by(row, at, room)
     }
@@ -380,7 +380,7 @@ impl Floor {
     /// message is buffered, and each cart of the row is queued for it, passes it over, or is struck
     /// from the copy since it has it from another station.
     #[inline(always)]
-    fn multicast_by(&mut self, row: u64, at: StationNo, room: Room) -> (u32, u8) {
+    fn multicast_by(&mut self, row: u64, at: StationNo, room: Room) -> (u64, u8) {
         let Held { initiator, number, set, .. } = self.held[room.at()];
         let here = &mut self.station[at.at()];
         here.expected[initiator.at()] = number + 1;
@@ -392,9 +392,9 @@ impl Floor {
             let named = set & cart.alone();
             if *next == number {
                 queued |= named;
-                let passed = (named == 0) as u16;
+                let passed = (named == 0) as u32;
                 *next += passed;
-                p += passed as u32;
+                p += passed as u64;
             } else if *next > number {
                 copy &= !named;
             }
@@ -488,7 +488,7 @@ impl Floor {
     /// with every initiator at once. Where a buffered copy names the cart, its number is where
     /// catch-up stops; else it runs to the expected number.
     #[inline(always)]
-    fn register(&mut self, at: StationNo, cart: CartNo) -> (u32, u8) {
+    fn register(&mut self, at: StationNo, cart: CartNo) -> (u64, u8) {
         let here = &mut self.station[at.at()];
         let row = &mut self.cart[cart.at()].next;
         let mut stop = here.expected;
@@ -512,7 +512,7 @@ impl Floor {
         for (next, stop) in row.iter_mut().zip(stop) {
             let passed = stop.saturating_sub(*next);
             *next += passed;
-            p += passed as u32;
+            p += passed as u64;
         }
         here.local |= cart.alone();
         self.cart[cart.at()].place = Place::At(at);
@@ -527,7 +527,7 @@ impl Floor {
     /// Catch-up with one initiator: to the first buffered message whose copy names the cart, for
     /// which it is then queued, or else to the expected number. Answers how far, and the place.
     #[inline(always)]
-    fn catch_up(&mut self, at: StationNo, cart: CartNo, initiator: StationNo) -> (u32, u8) {
+    fn catch_up(&mut self, at: StationNo, cart: CartNo, initiator: StationNo) -> (u64, u8) {
         let here = &self.station[at.at()];
         let next = self.cart[cart.at()].next[initiator.at()];
         let mut stop = here.expected[initiator.at()];
@@ -545,7 +545,7 @@ impl Floor {
         }
         self.cart[cart.at()].next[initiator.at()] = stop;
         let q = found.map_or(0, |room| self.enqueue(at, room, cart.alone()));
-        ((stop - next) as u32, q)
+        ((stop - next) as u64, q)
     }
 
     /// Puts carts in a message's queue entry, and "answers the entry's place, 1 for the head, as it

@@ -3,7 +3,7 @@
 //! kit's parts, which are shorter, are not made here.
 
 use crate::floor::{
-    line, CartNo, Floor, Place, Record, Room, StationNo, CARTS, GROUPS, HELD, STATIONS, TEXT,
+    line, order, CartNo, Floor, Place, Record, Room, StationNo, CARTS, GROUPS, HELD, STATIONS, TEXT,
 };
 
 /// Rows of the pool of records.
@@ -207,7 +207,7 @@ impl Floor {
                 2 => Place::Leaving(station),
                 _ => Place::Travelling,
             };
-            cart.next = std::array::from_fn(|s| row[3 + s] as u16);
+            cart.next = std::array::from_fn(|s| row[3 + s] as u32);
             if cart.place != Place::Outside {
                 self.entered |= 1 << c;
             }
@@ -222,8 +222,8 @@ impl Floor {
             }
             let initiator = StationNo(row[0] as u8);
             held.initiator = initiator;
-            held.number = row[1] as u16;
-            held.order = (row[1] as u32) << 4 | (STATIONS as u32 - 1 - row[0] as u32);
+            held.number = row[1] as u32;
+            held.order = order(held.number, initiator);
             held.set = row[2];
             held.acknowledged = row[3];
             held.undeleted = row[4].count_ones() as u8;
@@ -240,8 +240,8 @@ impl Floor {
         for (t, (row, station)) in
             rows.zip(&mut self.station).take(self.stations as usize).enumerate()
         {
-            station.sent = row[0] as u16;
-            station.expected = std::array::from_fn(|s| row[1 + s] as u16);
+            station.sent = row[0] as u32;
+            station.expected = std::array::from_fn(|s| row[1 + s] as u32);
             station.local = row[17];
             for (m, held) in self.held.iter().enumerate() {
                 if self.rooms & (1 << m) == 0 {

@@ -22,7 +22,7 @@ fn most_steps(limits: Limits) -> u32 {
 }
 
 /// For each station and cart, the numbers and texts that were sent, and those that were received.
-type List = BTreeMap<(u8, u8), Vec<(u16, Vec<u8>)>>;
+type List = BTreeMap<(u8, u8), Vec<(u32, Vec<u8>)>>;
 
 #[derive(Clone, Default)]
 struct Lists {
@@ -48,7 +48,7 @@ impl Lists {
         self.sent(at, floor.group(to), step.b, text)
     }
 
-    fn sent(&mut self, station: StationNo, set: u64, number: u16, text: &[u8]) -> bool {
+    fn sent(&mut self, station: StationNo, set: u64, number: u32, text: &[u8]) -> bool {
         for cart in carts_of(set) {
             self.sent.entry((station.0, cart.0)).or_default().push((number, text.into()));
         }

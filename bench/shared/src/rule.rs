@@ -9,8 +9,8 @@ const ROOMS: usize = 32;
 const ROWS: usize = 3_136;
 const TEXTS: usize = 1_024;
 const TEXT: u64 = 32;
-/// "last number 65,534", so no station has sent more than this.
-const MOST_SENT: u64 = 65_535;
+/// "the last number being 4,294,967,294", so no station has sent more than this.
+const MOST_SENT: u64 = 4_294_967_295;
 
 /// The clause that a floor breaks.
 #[derive(Clone, Copy, PartialEq, Eq, PartialOrd, Ord, Debug)]
@@ -236,7 +236,7 @@ impl Floor<'_> {
     }
 
     fn rooms(&mut self) -> Result<(), Fault> {
-        let mut names = [0u32; ROOMS];
+        let mut names = [0; ROOMS];
         let mut held = 0;
         for (room, row) in self.rooms.iter_mut().zip(self.messages) {
             let [initiator, number, named, acked, waiting, length] = *row;
@@ -249,7 +249,7 @@ impl Floor<'_> {
                 continue;
             }
             ensure(initiator < 16 && number < self.sent[initiator as usize & 15], Number)?;
-            let name = (initiator as u32) << 16 | number as u32;
+            let name = initiator << 32 | number;
             ensure(!names[..held].contains(&name), SameName)?;
             names[held] = name;
             held += 1;

@@ -12,7 +12,7 @@ pub const CASES: [(&str, &str); 4] = [
     ("most_records_3x2", "the most records that a run has on lines, three stations and two carts"),
     ("most_records_16x64", "the same on the full floor: 2,592"),
     ("held_and_drained", "32 held, a send is refused with 14, then none held; twice"),
-    ("late_60000", "a cart that enters after 60,000 numbers"),
+    ("late_66000", "a cart that enters after 66,000 numbers, more than 16 bits count"),
 ];
 
 /// The frames of a run that has a name.
@@ -21,7 +21,7 @@ pub fn case(name: &str) -> Option<Vec<u8>> {
         "most_records_3x2" => most_records(3, 2),
         "most_records_16x64" => most_records(16, 64),
         "held_and_drained" => held_and_drained(),
-        "late_60000" => late(60_000),
+        "late_66000" => late(66_000),
         _ => return None,
     })
 }
@@ -143,7 +143,7 @@ fn held_and_drained() -> Vec<u8> {
 
 /// One station sends message after message to cart 0, each handed over and deleted before the next.
 /// Then cart 1 enters, and every number is passed over for it.
-fn late(numbers: u16) -> Vec<u8> {
+fn late(numbers: u32) -> Vec<u8> {
     let mut beside = Beside::new(1, 2);
     let (station, cart) = (StationNo(0), CartNo(0));
     beside.accepted(Event::Enter { station, cart });

@@ -5,7 +5,7 @@
 //! local cart, and goes when that cart has received the message or has left. So carts roll away
 //! whatever waits for them, and once in a while lists go in a deregister step.
 
-use plain::floor::{carts_of, GROUPS, LAST_NUMBER, TEXT};
+use plain::floor::{carts_of, GROUPS, TEXT};
 use plain::frames::{put, Event};
 use plain::{CartNo, Floor, GroupNo, Limits, Place, Refusal, StationNo, Step};
 
@@ -196,7 +196,7 @@ impl Generator {
         let wanted = self.wishes.held / 4 + self.random.below(self.wishes.held + 1);
         let station = self.station();
         let room = self.floor.held() < wanted.clamp(1, self.floor.limits().held as usize);
-        (room && self.floor.sent(station) <= LAST_NUMBER).then_some(station)
+        (room && self.floor.sent(station) <= self.floor.limits().last_number).then_some(station)
     }
 
     fn send<'t>(&mut self, station: StationNo, text: &'t mut [u8; TEXT]) -> Event<'t> {

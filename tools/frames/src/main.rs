@@ -78,7 +78,7 @@ fn wishes_of(words: &[&str]) -> Result<Wishes, String> {
         ["--kit", ref words @ ..] => (Wishes::of_kit(), words),
         _ => (Wishes::default(), words),
     };
-    let Limits { stations, carts, held } = if wishes.kit { Limits::KIT } else { Limits::FLOOR };
+    let Limits { stations, carts, held, .. } = if wishes.kit { Limits::KIT } else { Limits::FLOOR };
     let most = |n: u8| n as u64;
     for pair in words.chunks(2) {
         match *pair {

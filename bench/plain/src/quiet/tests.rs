@@ -147,7 +147,7 @@ fn a_cart_that_is_not_steady_waits_and_others_do_not() {
 /// A full floor of a product with all messages sent and every cart leaving; the steps until it is
 /// quiet.
 fn most_steps(mut f: Floor) -> u32 {
-    let Limits { stations, carts, held } = f.limits();
+    let Limits { stations, carts, held, .. } = f.limits();
     f.start(stations, carts).unwrap();
     for cart in 0..carts {
         f.enter(s(cart % stations), c(cart)).unwrap();

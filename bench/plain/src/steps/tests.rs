@@ -10,7 +10,7 @@ fn floor(stations: u8, carts: u8) -> Floor {
 const ONE: &[u8] = &[0x0A];
 
 /// a, b, p and w of an accepted event.
-fn answer(step: Result<Step, Refusal>) -> (u16, u16, u32, u8) {
+fn answer(step: Result<Step, Refusal>) -> (u16, u32, u64, u8) {
     let Step { a, b, p, w, .. } = step.unwrap();
     (a, b, p, w)
 }
@@ -147,24 +147,67 @@ fn k5_the_longest_text() {
     assert_eq!(text, [7; 32]);
 }
 
-#[test]
-fn k6_the_last_number() {
-    let mut f = floor(2, 1);
+/// As if so many messages of station 1 had come and gone, on a floor of two stations and one cart.
+fn after_numbers(mut f: Floor, numbers: u32) -> Floor {
+    f.start(2, 1).unwrap();
     f.enter(s(0), c(0)).unwrap();
-    // As if 65,534 messages of station 1 had come and gone.
-    f.station[1].sent = LAST_NUMBER;
-    f.station[0].expected[1] = LAST_NUMBER;
-    f.station[1].expected[1] = LAST_NUMBER;
-    f.cart[0].next[1] = LAST_NUMBER;
-    assert_eq!(answer(f.send(s(1), 1, ONE)), (1, 65_534, 0, 2));
+    f.station[1].sent = numbers;
+    f.station[0].expected[1] = numbers;
+    f.station[1].expected[1] = numbers;
+    f.cart[0].next[1] = numbers;
+    f
+}
+
+/// K6, by the last number of a product.
+fn the_last_number(mut f: Floor, last: u32) {
+    assert_eq!(answer(f.send(s(1), 1, ONE)), (1, last, 0, 2));
     assert_eq!(refusal(f.send(s(1), 1, ONE)), 13);
-    assert_eq!(answer(f.wire(s(1), s(0))), (1, 65_534, 0, 0));
-    assert_eq!(answer(f.hand(0, 0)), (1, 65_534, 0, 1));
-    assert_eq!(f.next(c(0), s(1)), 65_535);
-    assert_eq!(answer(f.wire(s(1), s(1))), (1, 65_534, 0, 0));
-    assert_eq!(answer(f.wire(s(0), s(1))), (2, 65_534, 0, 2));
+    assert_eq!(answer(f.wire(s(1), s(0))), (1, last, 0, 0));
+    assert_eq!(answer(f.hand(0, 0)), (1, last, 0, 1));
+    assert_eq!(f.next(c(0), s(1)), last + 1);
+    assert_eq!(answer(f.wire(s(1), s(1))), (1, last, 0, 0));
+    assert_eq!(answer(f.wire(s(0), s(1))), (2, last, 0, 2));
     assert_eq!(refusal(f.send(s(1), 1, ONE)), 13);
     assert_eq!(refusal(f.send(s(1), 0, &[])), 11);
+}
+
+#[test]
+fn k6_the_last_number() {
+    the_last_number(after_numbers(Floor::kit(), 65_534), 65_534);
+}
+
+#[test]
+fn the_twin_of_k6() {
+    the_last_number(after_numbers(Floor::new(), 4_294_967_294), 4_294_967_294);
+    // What is the kit's last number is none for the floor.
+    let mut f = after_numbers(Floor::new(), 65_534);
+    for number in [65_534, 65_535, 65_536] {
+        assert_eq!(answer(f.send(s(1), 1, ONE)), (1, number, 0, 2));
+        assert_eq!(answer(f.wire(s(1), s(0))), (1, number, 0, 0));
+        assert_eq!(answer(f.hand(0, 0)), (1, number, 0, 1));
+    }
+}
+
+#[test]
+fn numbers_of_32_bits_stand_in_their_order() {
+    let mut f = after_numbers(Floor::new(), 4_294_967_290);
+    f.send(s(1), 1, ONE).unwrap();
+    f.send(s(0), 1, ONE).unwrap();
+    assert_eq!(place(f.wire(s(1), s(0))), 1);
+    // Station 0's number 0 goes before it.
+    assert_eq!(place(f.wire(s(0), s(0))), 1);
+    assert_eq!(answer(f.hand(0, 0)), (0, 0, 0, 1));
+    assert_eq!(answer(f.hand(0, 0)), (1, 4_294_967_290, 0, 1));
+}
+
+#[test]
+fn the_most_that_one_step_passes_over() {
+    let mut f = floor(16, 1);
+    for station in &mut f.station {
+        station.sent = u32::MAX;
+        station.expected = [u32::MAX; STATIONS];
+    }
+    assert_eq!(answer(f.enter(s(7), c(0))), (7, 0, 68_719_476_720, 0));
 }
 
 #[test]
@@ -179,7 +222,7 @@ fn an_empty_text_is_turned_away() {
         assert_eq!(answer(f.send(s(0), 0b01, ONE)), (0, number, 0, 1));
         assert_eq!(refusal(f.send(s(0), 0b01, &[])), 24);
     }
-    f.station[0].sent = LAST_NUMBER + 1;
+    f.station[0].sent = f.limits.last_number + 1;
     assert_eq!(refusal(f.send(s(0), 0b01, &[])), 24);
     assert_eq!(refusal(f.send(s(0), 0b01, ONE)), 13);
 }
@@ -484,7 +527,7 @@ fn the_checks_of_a_send_to_a_group() {
     }
     assert_eq!(refusal(f.send_to_group(s(0), GroupNo(2), &[])), 24);
     assert_eq!(refusal(f.send_to_group(s(0), GroupNo(2), ONE)), 14);
-    f.station[0].sent = LAST_NUMBER + 1;
+    f.station[0].sent = f.limits.last_number + 1;
     assert_eq!(refusal(f.send_to_group(s(0), GroupNo(2), &[])), 24);
     assert_eq!(refusal(f.send_to_group(s(0), GroupNo(2), ONE)), 13);
 }
@@ -622,7 +665,7 @@ mod as_worded {
     #[derive(Clone, Copy, PartialEq)]
     struct Message {
         initiator: u8,
-        number: u16,
+        number: u32,
     }
 
     #[derive(Clone)]
@@ -631,21 +674,21 @@ mod as_worded {
         AckList(Message, Vec<u8>),
         Delete(Message),
         Deregister(u8),
-        Register(u8, [u16; 16]),
+        Register(u8, [u32; 16]),
     }
 
     #[derive(Clone, Default)]
     struct Post {
         local: Vec<u8>,
-        expected: [u16; 16],
-        sent: u16,
+        expected: [u32; 16],
+        sent: u32,
         buffer: Vec<(Message, Vec<u8>, Vec<u8>)>,
         queue: Vec<(Message, Vec<u8>)>,
     }
 
     pub struct Worded {
         posts: Vec<Post>,
-        rows: Vec<Option<[u16; 16]>>,
+        rows: Vec<Option<[u32; 16]>>,
         /// 0 outside, 1 at, 2 leaving, 3 travelling
         places: Vec<(u8, u8)>,
         steady: Vec<bool>,
@@ -697,7 +740,7 @@ mod as_worded {
             station: u8,
             cart: u8,
             initiator: u8,
-            row: &mut [u16; 16],
+            row: &mut [u32; 16],
         ) -> (u32, u32) {
             let (mut p, mut q) = (0, 0);
             let next = &mut row[initiator as usize];
@@ -714,7 +757,7 @@ mod as_worded {
             (p, q)
         }
 
-        fn register(&mut self, station: u8, cart: u8, mut row: [u16; 16]) -> (u32, u32) {
+        fn register(&mut self, station: u8, cart: u8, mut row: [u32; 16]) -> (u32, u32) {
             for (message, copy, _) in &mut self.posts[station as usize].buffer {
                 if message.number < row[message.initiator as usize] {
                     copy.retain(|c| *c != cart);
@@ -778,7 +821,7 @@ mod as_worded {
             self.posts[station as usize].sent += 1;
             self.held.push((message, carts.clone(), Vec::new(), self.posts.len()));
             let w = self.all(station, Travelling::Multicast(message, carts));
-            Ok([station as u32, message.number as u32, 0, w as u32, 0])
+            Ok([station as u32, message.number, 0, w as u32, 0])
         }
 
         pub fn group(&mut self, group: u8, set: u64) -> Result<[u32; 5], u8> {
@@ -827,7 +870,7 @@ mod as_worded {
                         }
                     }
                     self.posts[to as usize].buffer.push((message, copy, Vec::new()));
-                    Ok([1, message.number as u32, p, 0, q])
+                    Ok([1, message.number, p, 0, q])
                 }
                 Travelling::AckList(message, carts) => {
                     let at = self.held.iter().position(|h| h.0 == message).unwrap();
@@ -835,7 +878,7 @@ mod as_worded {
                     held.2.extend(carts);
                     let whole = held.1.iter().all(|c| held.2.contains(c));
                     let w = if whole { self.all(to, Travelling::Delete(message)) } else { 0 };
-                    Ok([2, message.number as u32, 0, w as u32, 0])
+                    Ok([2, message.number, 0, w as u32, 0])
                 }
                 Travelling::Delete(message) => {
                     self.posts[to as usize].buffer.retain(|(m, _, _)| *m != message);
@@ -844,7 +887,7 @@ mod as_worded {
                     if self.held[at].3 == 0 {
                         self.held.remove(at);
                     }
-                    Ok([3, message.number as u32, 0, 0, 0])
+                    Ok([3, message.number, 0, 0, 0])
                 }
                 Travelling::Deregister(cart) => {
                     let here = &mut self.posts[to as usize];
@@ -910,7 +953,7 @@ mod as_worded {
             let (p, q) = self.catch_up(station, cart, message.initiator, &mut row);
             self.rows[cart as usize] = Some(row);
             self.sum += 1;
-            Ok([i as u32, message.number as u32, p, w, q])
+            Ok([i as u32, message.number, p, w, q])
         }
 
         pub fn set_steady(&mut self, cart: u8, steady: bool) -> Result<[u32; 5], u8> {
@@ -995,7 +1038,7 @@ fn the_same_as_the_worded_steps() {
                     _ => (floor.wire(s(station), s(other)), worded.wire(station, other)),
                 };
                 let ours = ours.map_err(Refusal::number);
-                let ours = ours.map(|t| [t.a as u32, t.b as u32, t.p, t.w as u32, t.q as u32]);
+                let ours = ours.map(|t| [t.a as u32, t.b, t.p as u32, t.w as u32, t.q as u32]);
                 assert_eq!(ours, theirs);
                 if let Ok([_, _, p, _, _]) = ours {
                     worded.sum += p as u64;
