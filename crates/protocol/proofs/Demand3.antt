@@ -39,7 +39,8 @@ pub record Same (G : History) (L : Lists) : Type 0 where
   pub sent : (s c : ℕ) → L .sent s c ≡ naming c 0 (G .sends s)
   pub received : L .received ≡ G .received
 
-naming-more : (c k : ℕ) (h : List Entry) (e : Entry) → naming c k (h ++ (e ∷ [])) ≡ naming c k h ++ cond (has (e .set) c) (item (k + length h) (e .text) ∷ []) []
+pub naming-more : (c k : ℕ) (h : List Entry) (e : Entry)
+    → naming c k (h ++ (e ∷ [])) ≡ naming c k h ++ cond (has (e .set) c) (item (k + length h) (e .text) ∷ []) []
 naming-more c k [] e = let z : k + 0 ≡ k = omega arith in rw z
 naming-more c k (x ∷ h) e =
     let z : k + suc (length h) ≡ suc k + length h = omega arith in
@@ -74,7 +75,7 @@ same-note G L (group g set) a S = S
 same-note G L (sendGroup s g text) a S = S
 
 -- the entries from a number on
-naming-append : (c k : ℕ) (h g : List Entry) → naming c k (h ++ g) ≡ naming c k h ++ naming c (k + length h) g
+pub naming-append : (c k : ℕ) (h g : List Entry) → naming c k (h ++ g) ≡ naming c k h ++ naming c (k + length h) g
 naming-append c k [] g = let z : k + 0 ≡ k = omega arith in rw z
 naming-append c k (x ∷ h) g =
     let z : k + suc (length h) ≡ suc k + length h = omega arith in

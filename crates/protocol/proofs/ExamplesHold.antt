@@ -22,9 +22,10 @@ use Rattle.protocol.specs.Blank.{BlankBeyond}
 use Rattle.protocol.specs.Refusals.{neverEntered, refusal, refusalIf}
 use Rattle.protocol.specs.Step.{accept, answer, answers, floorAfter, step}
 use Rattle.protocol.specs.Quiet.{buffersAfter, busyFrom, busyTo, dispatched, firstCart, firstStation, nextEvent, quietAfter, quietCall, quietEvents}
+use Rattle.protocol.specs.PlainLists.{appended, beheaded, entries, exchanges, exchangesFrom, plainAnswer, plainPasses, plainRefusal, plainRun, plainStep}
 use Rattle.protocol.specs.Frames.{bigEndian, fieldsOf, unlisted, eventOf, fieldsRefusal, frameRefusal, frameOf}
 use Rattle.protocol.specs.Printed.{decimal, decimalDigits, hexadecimal, restOf, lineOf, printedRun}
-use Rattle.protocol.specs.Examples.{Given, Row, Shown, after, allSent, answered, events, examples, form, frames, framesOn, heldOn, holds, holdsNoText, nearTheLast, outcome, passes, printed, rollsAway}
+use Rattle.protocol.specs.Examples.{Given, K1frames, Row, Shown, after, allSent, answered, events, examples, form, frames, framesOn, heldOn, holds, holdsNoText, nearTheLast, octetsOf, outcome, passes, printed, rollsAway}
 use Rattle.protocol.proofs.Tests.{and-false}
 use Rattle.protocol.proofs.Ready.{Ready, quick-answers, quick-floor, quick-lines, quickAnswer, quickAnswers, quickFloor, quickLines, quickStep, ready-run, ready-unstarted}
 use Rattle.protocol.proofs.SumSteps.{enter-over-all}
@@ -190,3 +191,8 @@ closed =
             ∙ closing-writes,
       ),
     )
+
+-- THE PROGRAM OF THE PLAIN LISTS, on the frames of K1
+pub lists-of-K1 : plainRun limits K1frames ≡ octetsOf "9 1 0\n"
+unfolding plainRun exchanges exchangesFrom plainAnswer plainStep plainRefusal plainPasses appended beheaded entries step answer refusal passesForm test refusalIf accept frameOf frameRefusal fieldsRefusal fieldsOf bigEndian unlisted eventOf decimal decimalDigits onEnter onFlag onGroup membersOf onSend onWire onRadio onMove handle onMulticast multicastByRow onAckList onDelete onDeregister bufferedRooms inOrder insert isComplete testEach listsSent leave onRegister arrive passedOver deepest largestPlace placeGiven placeOfNew placeIn catchUpEach catchUp catchUpStop climb bufferedFor roomOf freeRoom struck withMessage buffer receive sendAcks allAcked handOver queueHead headAmong neverEntered every count sum first listOf has union minus with without setOf
+lists-of-K1 = refl

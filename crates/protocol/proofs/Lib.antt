@@ -45,4 +45,7 @@ pub mod Places
 pub mod Found
 pub mod Texts
 pub mod Dispatch
+pub mod PlainLaws
+pub mod PlainRun
+pub mod PlainLines
 pub mod Theorems

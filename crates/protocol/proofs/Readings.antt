@@ -22,6 +22,8 @@ use Rattle.protocol.specs.Claims.{True}
 use Rattle.protocol.specs.Form.{formRule}
 use Rattle.protocol.specs.Refusals.{neverEntered, noCart, noGroup, noStation, refusalIf, strangers, undefined}
 use Rattle.protocol.specs.Frames.{Fields, fieldsRefusal, unlisted}
+use Rattle.protocol.specs.TwoLists.{Item, item}
+use Rattle.protocol.specs.PlainLists.{Plain, appended, beheaded}
 use Rattle.protocol.proofs.Tests.{and-false, and-left, and-right, by-lt, by-option, by-test, clash, eqb-self, first-nowhere, on-cond, on-option, or-false, or-right}
 use Rattle.protocol.proofs.SetLaws.{has-setOf, has-with, has-without}
 
@@ -255,3 +257,21 @@ unfolding refusalIf freeRoom
 none-free-is-14 M F s set text a4 a8 a9 a11 a12 a24 a13 full =
     let taken : freeRoom M F ≡ none = first-nowhere (M .held) (λ m. eqb (F .waiting m) 0) (λ m l. not-true (eqb (F .waiting m) 0) (full m l)) in
     rw (le-ltb (M .text) (length text) a4, a8, a9, a11, a12, a24, le-ltb (M .last) (F .sent s) a13, taken)
+
+-- A LIST KEPT BY HAND
+
+-- "A send appends its text, under the lists' own count of that station's sends, to the lists of the named carts"
+pub put-at-the-end : (P : Plain) (s set : ℕ) (text : List ℕ) (c : ℕ) → has set c ≡ true
+    → appended P s set text .list s c ≡ P .list s c ++ (item (P .count s) text ∷ [])
+unfolding appended
+put-at-the-end P s set text c e = rw (eqb-self s, e)
+
+pub others-as-they-were : (P : Plain) (s set : ℕ) (text : List ℕ) (u c : ℕ) → eqb u s && has set c ≡ false
+    → appended P s set text .list u c ≡ P .list u c
+unfolding appended
+others-as-they-were P s set text u c e = rw e
+
+-- "takes the head"
+pub rest-stays : (P : Plain) (s c : ℕ) (x : Item) (rest : List Item) → P .list s c ≡ x ∷ rest → beheaded P s c .list s c ≡ rest
+unfolding beheaded
+rest-stays P s c x rest q = rw (eqb-self s, eqb-self c, q)

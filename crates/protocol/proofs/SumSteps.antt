@@ -25,7 +25,7 @@ sum-at (suc n) i a h =
     (λ e. let y = eqb-true n i e in let z = sum-nil n (λ k. cond (eqb k i) a 0) (λ k l. rw (ne-eqb k i (omega arith))) in rw e (omega arith))
     (λ e. let y : n ≡ i → ⊥ = eqb-false n i e in let z = sum-at n i a (omega arith) in rw e (omega arith))
 
-sum-count : (n : ℕ) (f : ℕ → Bool) → sum n (λ k. cond (f k) 1 0) ≡ count n f
+pub sum-count : (n : ℕ) (f : ℕ → Bool) → sum n (λ k. cond (f k) 1 0) ≡ count n f
 unfolding sum count
 sum-count zero f = refl
 sum-count (suc n) f = let z = sum-count n f in omega arith

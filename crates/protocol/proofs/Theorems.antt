@@ -25,14 +25,15 @@ use Rattle.protocol.specs.Refusals.{neverEntered, noCart, noGroup, noSta
 use Rattle.protocol.specs.Step.{accept, answer, answers, floorAfter, step}
 use Rattle.protocol.specs.Quiet.{AllSteady, IsWork, Works, buffersAfter, dispatched, mostSteps, nextEvent, quietAfter, quietCall, quietEvents, quietFloor, quietSteps, turnedAway, wouldReceive}
 use Rattle.protocol.specs.Potential.{potential}
-use Rattle.protocol.specs.TwoLists.{TwoListRule, bothEmpty, listsAfter, owes}
+use Rattle.protocol.specs.TwoLists.{Item, TwoListRule, bothEmpty, item, listsAfter, owes}
 use Rattle.protocol.specs.SumRule.{gains, total}
+use Rattle.protocol.specs.PlainLists.{NeverRefused, Plain, PlainCall, appended, beheaded, callOf, entries, exchanges, plainAfter, plainAfterCalls, plainAnswer, plainPasses, plainRefusal, plainRefused, plainRun, plainStart, plainStarted, plainStep, plainTake, plainTook, plainUnstarted, receiptLinesFrom}
 use Rattle.protocol.specs.Frames.{Fields, fieldsRefusal}
 use Rattle.protocol.specs.Ranges.{InRange, NumbersBelow, Wide}
-use Rattle.protocol.specs.Examples.{allSent, examples, heldOn, outcome, rollsAway}
+use Rattle.protocol.specs.Examples.{K1frames, allSent, examples, heldOn, octetsOf, outcome, rollsAway}
 use Rattle.protocol.proofs.Tests.{by-eq, clash, on-cond, or-right}
 use Rattle.protocol.proofs.InOrder.{deregister-counts, none-stays, tested-once}
-use Rattle.protocol.proofs.Readings.{above-15-is-26, arrive-keeps-flags, deregister-keeps-flags, emptied-is-undefined, form-without-texts, group-alone, move-keeps-flags, never-entered-is-12, never-in-is-18, no-cart-is-9, no-station-is-8, no-text-is-24, none-free-is-14, not-entered-is-12, not-here-is-16, other-flag-is-3, places-not-asked, register-is-last, register-keeps-flags, row-kept, row-of-local, strangers-are-9, too-large-is-7, undefined-is-26, unsteady-is-25, used-up-is-13}
+use Rattle.protocol.proofs.Readings.{above-15-is-26, arrive-keeps-flags, deregister-keeps-flags, emptied-is-undefined, form-without-texts, group-alone, move-keeps-flags, never-entered-is-12, never-in-is-18, no-cart-is-9, no-station-is-8, no-text-is-24, none-free-is-14, not-entered-is-12, not-here-is-16, other-flag-is-3, others-as-they-were, places-not-asked, put-at-the-end, register-is-last, register-keeps-flags, rest-stays, row-kept, row-of-local, strangers-are-9, too-large-is-7, undefined-is-26, unsteady-is-25, used-up-is-13}
 use Rattle.protocol.proofs.Accepted.{MayWire, accepted-passes, accepted-report, may-move, may-radio, may-send, may-wire, passed-check, printed-as-the-send, sent-as-the-send}
 use Rattle.protocol.proofs.Demand3.{nothing, rule-after, started-ok}
 use Rattle.protocol.proofs.Counting.{sum-ext, sum-term}
@@ -48,7 +49,7 @@ use Rattle.protocol.proofs.FormTest.{clauses-of, form-of, sized-of}
 use Rattle.protocol.proofs.FormRule.{form-bound, form-kept, form-started}
 use Rattle.protocol.proofs.Ready.{ready-run, ready-unstarted, right-size, started-after, unstarted-fails}
 use Rattle.protocol.proofs.Width.{numbers-below}
-use Rattle.protocol.proofs.ExamplesHold.{closed, most-passed, rolled-away, table-holds}
+use Rattle.protocol.proofs.ExamplesHold.{closed, lists-of-K1, most-passed, rolled-away, table-holds}
 use Rattle.protocol.proofs.InRange.{in-range, step-most}
 use Rattle.protocol.proofs.QueueOrder.{head-first, tested-in-order}
 use Rattle.protocol.proofs.Places.{head-place, place-is-position, places-most}
@@ -56,6 +57,9 @@ use Rattle.protocol.proofs.NextEvent.{FirstLine, LowestCart, Quiet, nex
 use Rattle.protocol.proofs.QuietRun.{accepted-falls, all-work, no-more, potential-most, steps-bounded, stops}
 use Rattle.protocol.proofs.LiveRun.{floor-after-more, historyAfter, none-owed, quiet-holds, reached-run, reached-start}
 use Rattle.protocol.proofs.QuietCall.{broken-is-5, call-refused, call-runs, else-runs, radio-any-buffer, refused-call-keeps, run-leaves-length, short-is-21, wire-leaves-buffer}
+use Rattle.protocol.proofs.PlainLaws.{entries-more, plain-form-after, plain-form-kept, refused-call-alone, start-alike}
+use Rattle.protocol.proofs.PlainRun.{beside-run, beside-start, few-beside, goes, met-passes}
+use Rattle.protocol.proofs.PlainLines.{before, head-answered, through}
 use Rattle.protocol.proofs.Found.{ack-list-room, delete-room, multicast-room}
 use Rattle.protocol.proofs.Texts.{texts-after}
 
@@ -673,6 +677,101 @@ pub full-by-limits : (M : Limits) (F : Floor) (s set : ℕ) (text : List ℕ) �
     → ((m : ℕ) → m < M .held → isHeld F m ≡ true) → answer M F (send s set text) ≡ refused 14
 full-by-limits M F s set text h a4 a8 a9 a11 a12 a24 a13 full =
     refused-with M F (send s set text) 14 (omega arith) h (none-free-is-14 M F s set text a4 a8 a9 a11 a12 a24 a13 full)
+
+-- A LIST KEPT BY HAND: "For every run from a floor just started, with lists started alike and given exactly the accepted sends (set or members) and
+-- radio steps in their order" (`plainAfter`)
+
+-- "A start sets them up empty, checked as the floor's": where the floor's is accepted, so is theirs, if they have the right lengths and are not started
+pub plain-started-alike : (M : Limits) (F : Floor) (n k : ℕ) (l : Report) → answer M F (start n k) ≡ accepted l
+    → (P : Plain) → P .lengthsRight ≡ true → P .started ≡ false → plainStep M P (plainStart n k) ≡ plainStarted n k
+plain-started-alike M F n k l a P lengths fresh = start-alike M P n k (start-afresh M F n k l a .1) lengths fresh
+
+-- "A send appends its text, under the lists' own count of that station's sends, to the lists of the named carts"; it leaves the others
+pub plain-send-appends : (P : Plain) (s set : ℕ) (text : List ℕ) (u c : ℕ)
+    → (has set c ≡ true → appended P s set text .list s c ≡ P .list s c ++ (item (P .count s) text ∷ []))
+    × (eqb u s && has set c ≡ false → appended P s set text .list u c ≡ P .list u c)
+plain-send-appends P s set text u c = (put-at-the-end P s set text c, others-as-they-were P s set text u c)
+
+-- "takes the head": what was behind it stays
+pub plain-take-takes-head : (P : Plain) (s c : ℕ) (x : Item) (rest : List Item) → P .list s c ≡ x ∷ rest → beheaded P s c .list s c ≡ rest
+plain-take-takes-head P s c x rest q = rest-stays P s c x rest q
+
+-- "each accepted radio step of the controller hands over the head of the plain list for that initiator and cart, number and text"
+pub plain-hands-over : (M : Limits) (F : Floor) (n k : ℕ) (l : Report) → answer M F (start n k) ≡ accepted l
+    → (es : List Event) (t c buffer : ℕ) (r : Report)
+    → answer M (floorAfter M (step M F (start n k)) es) (radio t c buffer) ≡ accepted r
+    → plainAnswer M (plainAfter M (step M F (start n k)) (plainStarted n k) es) (plainTake (r .a) c) ≡ plainTook (r .b) (r .text)
+plain-hands-over M F n k l a es t c buffer r =
+    from-start (λ X. answer M (floorAfter M X es) (radio t c buffer) ≡ accepted r
+    → plainAnswer M (plainAfter M X (plainStarted n k) es) (plainTake (r .a) c) ≡ plainTook (r .b) (r .text)) M F n k l a
+    (λ fit q. let X = justStarted n k in
+    let P = plainAfter M X (plainStarted n k) es in
+    let b = beside-run M X nothing (plainStarted n k) es (beside-start M n k fit) in
+    let m = goes M (floorAfter M X es) (b .0) P (b .1) (radio t c buffer) .met in
+    head-answered M P (r .a) c r (rw q at m))
+
+-- no call that they are given is refused
+pub plain-never-refuses : (M : Limits) (F : Floor) (n k : ℕ) (l : Report) → answer M F (start n k) ≡ accepted l
+    → (es : List Event) (e : Event) (call : PlainCall)
+    → callOf M (floorAfter M (step M F (start n k)) es) e ≡ some call
+    → plainRefusal M (plainAfter M (step M F (start n k)) (plainStarted n k) es) call ≡ 0
+plain-never-refuses M F n k l a es e call =
+    from-start (λ X. callOf M (floorAfter M X es) e ≡ some call → plainRefusal M (plainAfter M X (plainStarted n k) es) call ≡ 0) M F n k l a
+    (λ fit q. let X = justStarted n k in
+    let P = plainAfter M X (plainStarted n k) es in
+    let b = beside-run M X nothing (plainStarted n k) es (beside-start M n k fit) in
+    met-passes M P (callOf M (floorAfter M X es) e) (answer M (floorAfter M X es) e) call (goes M (floorAfter M X es) (b .0) P (b .1) e .met) q)
+
+-- "It holds at most 2,048 = 32 × 64 entries": after every list of events, one that ends in a send among them
+pub plain-few : (M : Limits) (F : Floor) (n k : ℕ) (l : Report) → answer M F (start n k) ≡ accepted l → (es : List Event)
+    → entries (plainAfter M (step M F (start n k)) (plainStarted n k) es) ≤ M .held * M .carts
+plain-few M F n k l a es =
+    from-start (λ X. entries (plainAfter M X (plainStarted n k) es) ≤ M .held * M .carts) M F n k l a
+    (λ fit. let b = beside-run M (justStarted n k) nothing (plainStarted n k) es (beside-start M n k fit) in
+    few-beside M (floorAfter M (justStarted n k) es) (b .0) (plainAfter M (justStarted n k) (plainStarted n k) es) (b .1))
+
+pub floor-plain-few : (F : Floor) (n k : ℕ) (l : Report) → answer limits F (start n k) ≡ accepted l → (es : List Event)
+    → entries (plainAfter limits (step limits F (start n k)) (plainStarted n k) es) ≤ 2048
+floor-plain-few F n k l a es = plain-few limits F n k l a es
+
+pub kit-plain-few : (F : Floor) (n k : ℕ) (l : Report) → answer (limitsOf kit) F (start n k) ≡ accepted l → (es : List Event)
+    → entries (plainAfter (limitsOf kit) (step (limitsOf kit) F (start n k)) (plainStarted n k) es) ≤ 64
+kit-plain-few F n k l a es = plain-few (limitsOf kit) F n k l a es
+
+-- "30 a send whose entries would make more than 2,048": the number that the check goes by is that of the entries afterwards
+pub plain-send-adds : (P : Plain) (s set : ℕ) (text : List ℕ) → s < P .stations
+    → entries (appended P s set text) ≡ entries P + count (P .carts) (has set)
+plain-send-adds P s set text l = entries-more P s set text l
+
+-- "their own written form rule": lists that are started pass it, after whatever calls
+pub plain-form-reached : (M : Limits) (P : Plain) (n k : ℕ) → plainRefusal M P (plainStart n k) ≡ 0 → (calls : List PlainCall)
+    → plainPasses M (plainAfterCalls M (plainStep M P (plainStart n k)) calls) ≡ true
+plain-form-reached M P n k z calls = plain-form-after M P n k z calls
+
+-- and every call keeps it, on all lists that pass, reached or not
+pub plain-form-closed : (M : Limits) (P : Plain) (call : PlainCall) → plainPasses M P ≡ true → plainPasses M (plainStep M P call) ≡ true
+plain-form-closed M P call h = plain-form-kept M P call h
+
+-- a refused call changes nothing, and gives its number alone
+pub plain-refusal-changes-nothing : (M : Limits) (P : Plain) (call : PlainCall) → 0 < plainRefusal M P call
+    → (plainStep M P call ≡ P) × (plainAnswer M P call ≡ plainRefused (plainRefusal M P call))
+plain-refusal-changes-nothing M P call h = refused-call-alone M P call h
+
+-- "all shown never to occur in that program": for whatever octets, from an unstarted floor and unstarted lists, which it starts by itself, the lists
+-- refuse none of its calls, its starts among them
+pub plain-program-never-refused : (M : Limits) (l : List ℕ) → NeverRefused (exchanges M l)
+unfolding exchanges
+plain-program-never-refused M l = through M (suc (length l)) unstarted plainUnstarted 0 l (before refl refl) .not-refused
+
+-- "prints for each accepted radio step the index and the list head's initiator and number, and nothing else": what it prints of the lists is
+-- what the controller answers
+pub plain-prints : (M : Limits) (l : List ℕ) → plainRun M l ≡ receiptLinesFrom M (suc (length l)) unstarted 0 l
+unfolding plainRun exchanges
+plain-prints M l = through M (suc (length l)) unstarted plainUnstarted 0 l (before refl refl) .lines
+
+-- K1's frames have one accepted radio step, of index 9: number 0 of station 1
+pub lists-print-K1 : plainRun limits K1frames ≡ octetsOf "9 1 0\n"
+lists-print-K1 = lists-of-K1
 
 -- THE EXAMPLES: "The starred examples are gathered as rows of a single proved table over the written steps", each row within its own limits
 pub examples-hold : map (λ r. outcome (r .within) (r .given)) examples ≡ map (λ r. r .shown) examples

@@ -63,14 +63,18 @@ yes kind a b p w q text = accepted (record { kind = kind; a = a; b = b; p = p; w
 
 -- "K1. Two stations, one cart. Frames: start; enter 0 at 0; send from 1 to {0}, text A1; wire 1→1; move 0 to 1; wire 1→0; radio 0, cart 0;
 -- wire 1→0; wire 0→1; radio 1, cart 0; wire 1→1; wire 1→0; wire 1→1. The send is 21 00 01, twelve zero octets, 01 A1; the move begins 50 00 40."
+abbrev pub K1frames : List ℕ
+K1frames =
+    frame 0x01 0x00 0x00 0 ++ frame 0x10 0x00 0x00 0 ++ frame 0x21 0x00 0x01 1 ++ (0xa1 ∷ []) ++ frame 0x31 0x00 0x40 0 ++ frame 0x50 0x00 0x40 0
+    ++ frame 0x31 0x00 0x00 0 ++ frame 0x40 0x00 0x00 0 ++ frame 0x31 0x00 0x00 0 ++ frame 0x30 0x00 0x40 0 ++ frame 0x41 0x00 0x00 0
+    ++ frame 0x31 0x00 0x40 0 ++ frame 0x31 0x00 0x00 0 ++ frame 0x31 0x00 0x40 0
+
 -- "In K1, lines 5 and 8 have q = 1 and the other accepted lines 0."
 abbrev pub K1 : Row
 K1 =
     record {
       within = limits;
-      given = frames
-          (frame 0x01 0x00 0x00 0 ++ frame 0x10 0x00 0x00 0 ++ frame 0x21 0x00 0x01 1 ++ (0xa1 ∷ []) ++ frame 0x31 0x00 0x40 0 ++ frame 0x50 0x00 0x40 0 ++ frame 0x31 0x00 0x00 0
-          ++ frame 0x40 0x00 0x00 0 ++ frame 0x31 0x00 0x00 0 ++ frame 0x30 0x00 0x40 0 ++ frame 0x41 0x00 0x00 0 ++ frame 0x31 0x00 0x40 0 ++ frame 0x31 0x00 0x00 0 ++ frame 0x31 0x00 0x40 0);
+      given = frames K1frames;
       shown = printed
           (octetsOf "0 0 2 1 0 0 0\n1 1 0 0 0 0 0\n2 2 1 0 0 2 0\n3 3 1 0 0 0 0\n4 5 0 1 0 1 0\n5 3 1 0 0 0 1\n6 no 16\n7 3 4 0 0 1 0\n8 3 5 0 0 0 1\n9 4 1 0 0 1 0 a1\n10 3 2 0 0 2 0\n11 3 3 0 0 0 0\n12 3 3 0 0 0 0\n");
     }
