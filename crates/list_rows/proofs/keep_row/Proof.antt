@@ -1,0 +1,54 @@
+-- `list_rows::keep_row` meets its contract.
+use mathlib.Core.Path.{ap, ap₂, sym, _∙_}
+use Prim.Native.Nat.{ℕ}
+use native.Mathlib.Numerals.{add-one}
+use borrow.Author.Tests.{ne-eqb, eq-eqb}
+use denote.Ref.{now}
+use Rattle.list_rows.specs.declared.Message.{Message}
+use Rattle.list_rows.specs.Rows.{Row, usedRows, keepRow}
+use borrow.Author.Needs.{needs}
+use Rattle.list_rows.proofs.keep_row.Statement.{statement}
+use Rattle.list_rows.proofs.keep_row.Tie as tie
+
+message-at-requires : tie.Need-message-at-requires
+message-at-requires c κs = search needs
+
+same-length : tie.Need-same-length
+same-length c = search needs
+
+returns : tie.Need-returns
+unfolding keepRow
+returns c =
+    let its = ap (λ (m : Message). m .carts) (c .before .before .message-at .ensures (now (c .before .before .before .before .before .before .args .octets))) in
+    (sym (rw (eq-eqb _ 0 (sym its ∙ c .if1 .taken))), (search needs, search needs))
+
+move-row-requires : tie.Need-move-row-requires
+move-row-requires c κs = search needs
+
+add-result : tie.Need-add-result
+add-result c = search needs
+
+same-length-2 : tie.Need-same-length-2
+same-length-2 c = search needs
+
+same-length-3 : tie.Need-same-length-3
+same-length-3 c = search needs
+
+returns-2 : tie.Need-returns-2
+unfolding keepRow
+returns-2 c =
+    let its = ap (λ (m : Message). m .carts) (c .before .before .before .before .before .before .before .before .before .message-at .ensures (now (c .before .before .before .before .before .before .before .before .before .before .before .before .before .args .octets))) in
+    (rw (ne-eqb _ 0 (λ e. c .before .before .before .before .before .before .before .if1 .left (its ∙ e))) (ap₂ (λ (T : ℕ → Row) (n : ℕ). usedRows T n) (c .before .before .before .before .move-row .ensures .0) (add-one (c .before .before .before .before .before .before .before .before .before .before .before .before .before .args .used))), (search needs, search needs))
+
+pub keep-row-spec : {M : Type 1} → statement M
+keep-row-spec =
+    tie.close
+    (tie.spec
+    message-at-requires
+    same-length
+    returns
+    move-row-requires
+    add-result
+    same-length-2
+    same-length-3
+    returns-2)
