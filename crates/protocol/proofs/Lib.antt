@@ -40,6 +40,7 @@ pub mod QuietRun
 pub mod Live
 pub mod LiveSteps
 pub mod LiveRun
+pub mod Route
 pub mod QuietCall
 pub mod Places
 pub mod Found

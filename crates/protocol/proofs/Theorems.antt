@@ -25,6 +25,7 @@ use Rattle.protocol.specs.Refusals.{neverEntered, noCart, noGroup, noSta
 use Rattle.protocol.specs.Step.{accept, answer, answers, floorAfter, step}
 use Rattle.protocol.specs.Quiet.{AllSteady, IsWork, Works, buffersAfter, dispatched, mostSteps, nextEvent, quietAfter, quietCall, quietEvents, quietFloor, quietSteps, turnedAway, wouldReceive}
 use Rattle.protocol.specs.Potential.{potential}
+use Rattle.protocol.specs.Route.{Sending, sendingsOf}
 use Rattle.protocol.specs.TwoLists.{Item, TwoListRule, bothEmpty, item, listsAfter, owes}
 use Rattle.protocol.specs.SumRule.{gains, total}
 use Rattle.protocol.specs.PlainLists.{NeverRefused, Plain, PlainCall, appended, beheaded, callOf, entries, exchanges, plainAfter, plainAfterCalls, plainAnswer, plainPasses, plainRefusal, plainRefused, plainRun, plainStart, plainStarted, plainStep, plainTake, plainTook, plainUnstarted, receiptLinesFrom}
@@ -62,6 +63,7 @@ use Rattle.protocol.proofs.PlainRun.{beside-run, beside-start, few-besi
 use Rattle.protocol.proofs.PlainLines.{before, head-answered, through}
 use Rattle.protocol.proofs.Found.{ack-list-room, delete-room, multicast-room}
 use Rattle.protocol.proofs.Texts.{texts-after}
+use Rattle.protocol.proofs.Route.{listed, sent-is}
 
 -- WHAT IS PROVED of the written steps. Each statement uses names of specs/ alone; M are any limits, `limits` those of the floor.
 
@@ -772,6 +774,23 @@ plain-prints M l = through M (suc (length l)) unstarted plainUnstarted 0 l (befo
 -- K1's frames have one accepted radio step, of index 9: number 0 of station 1
 pub lists-print-K1 : plainRun limits K1frames ≡ octetsOf "9 1 0\n"
 lists-print-K1 = lists-of-K1
+
+-- THE ROUTE MUST NOT MATTER: "for two runs from the same start in which each station makes the same accepted sends (set or members, and text) in the
+-- same order, with entries, moves, flags, wire and radio steps as they please, and both ending with no message held, every cart has received the same
+-- messages from every station in the same order, texts included". The same start is one of as many stations and carts, on whatever floors
+pub same-received : (M : Limits) (F G : Floor) (n k : ℕ) (l r : Report) → answer M F (start n k) ≡ accepted l → answer M G (start n k) ≡ accepted r
+    → (es ds : List Event)
+    → ((u : ℕ) → sendingsOf M (step M F (start n k)) es u ≡ sendingsOf M (step M G (start n k)) ds u)
+    → ((m : ℕ) → m < M .held → isHeld (floorAfter M (step M F (start n k)) es) m ≡ false)
+    → ((m : ℕ) → m < M .held → isHeld (floorAfter M (step M G (start n k)) ds) m ≡ false)
+    → (s c : ℕ) → c < k
+    → listsAfter M (step M F (start n k)) bothEmpty es .received s c ≡ listsAfter M (step M G (start n k)) bothEmpty ds .received s c
+same-received M F G n k l r a b es ds same none-es none-ds s c lc =
+    let X = step M F (start n k) in
+    let Y = step M G (start n k) in
+    sym (two-list-rule M F n k l a es s c lc .equal (none-owed M (floorAfter M X es) none-es s c))
+    ∙ sent-is M X bothEmpty es s c ∙ ap (λ (x : List Sending). listed c 0 x) (same s) ∙ sym (sent-is M Y bothEmpty ds s c)
+    ∙ two-list-rule M G n k r b ds s c lc .equal (none-owed M (floorAfter M Y ds) none-ds s c)
 
 -- THE EXAMPLES: "The starred examples are gathered as rows of a single proved table over the written steps", each row within its own limits
 pub examples-hold : map (λ r. outcome (r .within) (r .given)) examples ≡ map (λ r. r .shown) examples

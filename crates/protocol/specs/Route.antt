@@ -1,0 +1,34 @@
+-- THE ROUTE MUST NOT MATTER: "Customers ask whether a cart that wandered all morning ends up with another axis than one that stood still." What two
+-- runs have in common in which "each station makes the same accepted sends (set or members, and text) in the same order".
+use mathlib.Core.Bool.{cond}
+use mathlib.Core.List.{List, [], _∷_, _++_}
+use Prim.Native.Nat.{ℕ}
+use lib.Dec.{eqb}
+use Rattle.protocol.specs.Floor.{Limits, Floor}
+use Rattle.protocol.specs.Events.{Event, start, enter, send, wire, radio, move, flag, group, sendGroup, Answer, refused, accepted}
+use Rattle.protocol.specs.Groups.{asSent}
+use Rattle.protocol.specs.Step.{step, answer}
+
+-- an accepted send: its set and its text
+pub record Sending : Type 0 where
+  pub set : ℕ
+  pub text : List ℕ
+
+-- what an event and its answer add to the accepted sends of station u. A group send comes here as the send to its members that it was (`asSent`), so the
+-- arm of its own adds nothing
+abbrev pub sendingOf : ℕ → Event → Answer → List Sending
+sendingOf u (start n k) a = []
+sendingOf u (enter t c) a = []
+sendingOf u (send s set text) (refused r) = []
+sendingOf u (send s set text) (accepted l) = cond (eqb u s) (record { set = set; text = text } ∷ []) []
+sendingOf u (wire i j) a = []
+sendingOf u (radio t c buffer) a = []
+sendingOf u (move c to) a = []
+sendingOf u (flag c b) a = []
+sendingOf u (group g set) a = []
+sendingOf u (sendGroup s g text) a = []
+
+-- "accepted sends (set or members, and text) in the same order": those of station u over a list of events, from a floor
+unfoldable pub sendingsOf : Limits → Floor → List Event → ℕ → List Sending
+sendingsOf M F [] u = []
+sendingsOf M F (e ∷ es) u = sendingOf u (asSent F e) (answer M F e) ++ sendingsOf M (step M F e) es u
