@@ -1,11 +1,15 @@
-//! Makes, writes and shows streams of frames.
+//! Makes, writes and shows streams of frames, and says what came of them.
 
+use std::fmt::Display;
+use std::fs::File;
 use std::io::{self, Read, Write};
 use std::process::ExitCode;
 
 use frames::cases::{case, CASES};
 use frames::generate::{Generator, Wishes};
+use frames::received::received;
 use frames::script::{script, show};
+use frames::walk::BadFrame;
 use plain::Limits;
 
 const USAGE: &str = "\
@@ -13,15 +17,19 @@ frames gen SEED COUNT [--kit] [--stations N] [--carts N] [--held H] [--lines L] 
         [--groups PERCENT]
     writes a random stream of COUNT frames that keeps a floor busy; --kit: one of the
     demonstration kit; --groups: so many of its sends have to do with groups
-frames script < TEXT > FRAMES
+frames script [FILE] < TEXT > FRAMES
     writes the frames of a script, one event on a line: start STATIONS CARTS,
     enter STATION CART, send STATION CARTS TEXT, wire FROM TO, radio STATION CART,
     move CART TO, steady CART FLAG, group GROUP CARTS, gsend STATION GROUP TEXT,
     octets HEXADECIMAL; CARTS as 0,3 or -, TEXT in hexadecimal or -, FLAG 1 or 0
-frames show < FRAMES > TEXT
+frames show [FILE] < FRAMES > TEXT
     writes the script of a stream
 frames case NAME > FRAMES
-    writes a run that has a name; without one, says which there are";
+    writes a run that has a name; without one, says which there are
+frames received [--kit] [FILE] < FRAMES
+    says what each cart received of each station, in order
+What is read is FILE, if one is named, or standard input. --kit: by the limits of the
+demonstration kit.";
 
 /// Octets written at a time.
 const PIECE: usize = 1 << 16;
@@ -31,10 +39,7 @@ fn main() -> ExitCode {
     let words: Vec<&str> = words.iter().map(String::as_str).collect();
     let done = match words[..] {
         ["gen", seed, count, ref wishes @ ..] => generate(seed, count, wishes),
-        ["script"] => read_all().and_then(|octets| {
-            let text = String::from_utf8(octets).map_err(|_| "the script is not UTF-8")?;
-            write_all(&script(&text).map_err(|mistake| mistake.to_string())?)
-        }),
+        ["script", ref file @ ..] => Input::read(file).and_then(|input| write_script(&input)),
         ["case", name] => case(name)
             .ok_or_else(|| format!("no run is called {name:?}"))
             .and_then(|octets| write_all(&octets)),
@@ -43,7 +48,10 @@ fn main() -> ExitCode {
                 CASES.iter().map(|(name, what)| format!("{name}: {what}\n")).collect();
             write_all(lines.concat().as_bytes())
         }
-        ["show"] => read_all().and_then(|octets| write_all(show(&octets).as_bytes())),
+        ["show", ref file @ ..] => {
+            Input::read(file).and_then(|input| write_all(show(&input.octets).as_bytes()))
+        }
+        ["received", ref words @ ..] => of_run(words, received),
         _ => Err(USAGE.into()),
     };
     match done {
@@ -55,15 +63,69 @@ fn main() -> ExitCode {
     }
 }
 
-fn read_all() -> Result<Vec<u8>, String> {
-    let mut octets = Vec::new();
-    io::stdin().lock().read_to_end(&mut octets).map_err(|error| error.to_string())?;
-    Ok(octets)
+/// What a command reads.
+struct Input<'a> {
+    octets: Vec<u8>,
+    /// None: standard input.
+    file: Option<&'a str>,
+}
+
+impl<'a> Input<'a> {
+    /// Reads the file that is named, or standard input.
+    fn read(words: &[&'a str]) -> Result<Self, String> {
+        let file = match *words {
+            [] => None,
+            [file] if !file.starts_with('-') => Some(file),
+            _ => return Err(USAGE.into()),
+        };
+        let mut input = Input { octets: Vec::new(), file };
+        let read = match file {
+            Some(file) => File::open(file).and_then(|mut file| file.read_to_end(&mut input.octets)),
+            None => io::stdin().lock().read_to_end(&mut input.octets),
+        };
+        match read {
+            Ok(_) => Ok(input),
+            Err(error) => Err(input.wrong(error)),
+        }
+    }
+
+    /// What is wrong with it, behind its name.
+    fn wrong(&self, what: impl Display) -> String {
+        self.file.map_or_else(|| what.to_string(), |file| format!("{file}: {what}"))
+    }
+}
+
+fn write_script(input: &Input) -> Result<(), String> {
+    let text = std::str::from_utf8(&input.octets).map_err(|error| {
+        let before = &input.octets[..error.valid_up_to()];
+        let line = 1 + before.iter().filter(|octet| **octet == b'\n').count();
+        input.wrong(format!("line {line}: the script is not UTF-8"))
+    })?;
+    write_all(&script(text).map_err(|mistake| input.wrong(mistake))?)
+}
+
+/// Writes what is to be said of a run: all of it, or nothing where the run has a bad frame.
+fn of_run<T: Display>(
+    words: &[&str],
+    say: impl FnOnce(&[u8], Limits) -> Result<T, BadFrame>,
+) -> Result<(), String> {
+    let (limits, file) = match *words {
+        ["--kit", ref file @ ..] => (Limits::KIT, file),
+        _ => (Limits::FLOOR, words),
+    };
+    let input = Input::read(file)?;
+    let said = say(&input.octets, limits).map_err(|bad| input.wrong(bad))?;
+    write_all(said.to_string().as_bytes())
 }
 
 fn write_all(octets: &[u8]) -> Result<(), String> {
     let mut output = io::stdout().lock();
-    output.write_all(octets).and_then(|()| output.flush()).map_err(|error| error.to_string())
+    match output.write_all(octets).and_then(|()| output.flush()) {
+        Ok(()) => Ok(()),
+        // A reader that has seen enough closes the pipe; that is no mistake.
+        Err(error) if error.kind() == io::ErrorKind::BrokenPipe => std::process::exit(0),
+        Err(error) => Err(error.to_string()),
+    }
 }
 
 fn number(what: &str, word: &str, least: u64, most: u64) -> Result<u64, String> {
