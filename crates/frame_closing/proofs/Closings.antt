@@ -23,7 +23,7 @@ use Rattle.frame_run.proofs.Whole.{taken-front}
 use Rattle.frame_run.proofs.Printed.{steps-alike}
 use Rattle.frame_stream.specs.declared.Ending.{Ending}
 use Rattle.frame_stream.specs.declared.Handed.{Handed}
-use Rattle.frame_stream.specs.Stream.{Stream, begin, Turn, Turns, streamAfter, broughtBy, handedBy, Behind, OverAt}
+use Rattle.frame_stream.specs.Stream.{Stream, begin, Turn, linesFill, Turns, streamAfter, broughtBy, handedBy, Behind, OverAt}
 use Rattle.frame_stream.specs.Feed.{RanAll}
 use Rattle.frame_stream.proofs.Stream.{SoFar, so-far, stream-is}
 use Rattle.frame_closing.specs.Closed.{atEnd, lastLine, afterLine, ClosingIs, Closed}
@@ -145,7 +145,7 @@ module _ (F : Floor) (U : Unstarted F) (ts : List Turn) (made : Turns (begin who
     W = broughtBy ts ++ later
 
     s : SoFar wholeFloor F W (handedBy (begin wholeFloor F) ts) S later
-    s = so-far wholeFloor F ts made later b
+    s = so-far linesFill wholeFloor F ts made later b
 
     -- nothing is left: the input has ended, and no frame was refused
     none-left : S .left ≡ [] → closingFrom limits (suc (length W)) F W ≡ closingLine limits (S .floor)

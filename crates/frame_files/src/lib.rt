@@ -1,11 +1,12 @@
 // EACH FILE OF FRAMES that the program's arguments name: a line with its name, and behind it what a program prints for it. The stored runs are such files.
 use libc::STDOUT_FILENO;
 
-// Which program it is that the file is an input of: `floor`, `demo` or `closing`.
+// Which program it is that the file is an input of: `floor`, `demo`, `closing` or `training`.
 pub enum Program {
     Floor,
     Demo,
     Closing,
+    Training,
 }
 
 // What that program prints for what a descriptor gives.
@@ -19,6 +20,9 @@ fn run(program: Program, fd: i32) {
         }
         Program::Closing => {
             frame_closing::close(fd, STDOUT_FILENO);
+        }
+        Program::Training => {
+            training_stream::run(fd, STDOUT_FILENO);
         }
     }
 }

@@ -77,7 +77,7 @@ module _ (M : Limits) (F G : Floor) (U : Unstarted F) (U′ : Unstarted G) where
   same-refusal e = first-is M F U e ∙ sym (first-is M G U′ e)
 
   -- they answer alike
-  answers-alike : (e : Event) → answer M F e ≡ answer M G e
+  pub answers-alike : (e : Event) → answer M F e ≡ answer M G e
   unfolding answer accept
   answers-alike e =
       by-eq (first-refusal M e) 0

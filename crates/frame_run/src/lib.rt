@@ -26,12 +26,12 @@ const FRAME: usize = 16;
 
 // An event that was dispatched, its line begun: where the line goes on behind its index, what the event answered, and, of a radio step, in which
 // room's part of the texts its text lies and how many octets it has; and how many octets the event took of the input.
-struct Dispatched {
-    next: usize,
-    told: Told,
-    room: usize,
-    size: usize,
-    taken: usize,
+pub struct Dispatched {
+    pub next: usize,
+    pub told: Told,
+    pub room: usize,
+    pub size: usize,
+    pub taken: usize,
 }
 
 // One that has no text.
@@ -51,7 +51,7 @@ fn without_text(next: usize, taken: usize, answer: Answer) -> Dispatched
 // An event of the run, of the frame at a place: a send is followed by its text. Its line begins at another place of the output, with the index. That
 // waits for nothing, so it is written first, while the processor still looks up what the event needs; and each kind does it for itself, so that
 // a frame's kind is asked for once.
-fn dispatch(
+pub fn dispatch(
     stations: &mut [u64],
     carts: &mut [u64],
     messages: &mut [u64],
@@ -222,7 +222,7 @@ pub const ENDED: u64 = 2;
 const CUT: u64 = 1;
 
 // The same, and no whole frame is left.
-fn waiting(p: Progress) -> Progress
+pub fn waiting(p: Progress) -> Progress
     ensures { λ r. ⌜ r ≡ record { read = p .read; written = p .written; frames = p .frames; state = 1 } ⌝ }
 {
     Progress {
@@ -234,7 +234,7 @@ fn waiting(p: Progress) -> Progress
 }
 
 // Is no whole frame there? No octet is left, which has no refusal; or the frame is cut short at the end of the piece, where more input may come.
-fn none_whole(number: u64, last: bool) -> bool
+pub fn none_whole(number: u64, last: bool) -> bool
     ensures { λ r. ⌜ r ≡ (eqb number 0 || (eqb number 1 && not last)) ⌝ }
 {
     if number == 0 {

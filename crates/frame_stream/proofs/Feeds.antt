@@ -24,7 +24,7 @@ use Rattle.frame_run.proofs.Printed.{front-of}
 use Rattle.frame_stream.specs.declared.Feed.{Feed}
 use Rattle.frame_stream.specs.declared.Got.{Got}
 use Rattle.frame_stream.specs.declared.Handed.{Handed}
-use Rattle.frame_stream.specs.Stream.{Stream, brought, failed, ran, piece, stateAfter, after, handed, Stops, May}
+use Rattle.frame_stream.specs.Stream.{Stream, brought, failed, ran, piece, stateAfter, after, handed, Stops, MayBy, linesFill}
 use Rattle.frame_stream.specs.Feed.{Inside, streamOf, Made, isFailure, gotOf, afterRead, afterRun}
 use Rattle.frame_stream.proofs.Stream.{wants-why}
 
@@ -106,7 +106,7 @@ module _ (input input₁ input₂ : List ℕ) (f r : Feed) (got : Got) (kept : �
   room = let a = asked .0 in let b = asked .2 in omega arith
 
   read-failed : got .failed ≡ true → (L : Lent) → Made (streamOf input L f) (streamOf input₂ L r) []
-  unfolding May after handed
+  unfolding MayBy after handed
   read-failed e L =
       let whole : kept - 0 ≡ kept = omega arith in
       let q : r ≡ record { at = 0; have = kept; index = f .index; state = 3; last = f .last; handed = 0 } = is ∙ sym (failed-is kept got f e) in
@@ -119,7 +119,7 @@ module _ (input input₁ input₂ : List ℕ) (f r : Feed) (got : Got) (kept : �
       }
 
   read-brought : got .failed ≡ false → (L : Lent) → Made (streamOf input L f) (streamOf input₂ L r) []
-  unfolding May after handed
+  unfolding MayBy after handed
   read-brought e L =
       let n = got .count in
       let l = take n (drop kept input₂) in
@@ -165,7 +165,7 @@ part-room input input₁ f kept room count inside wants long size same all few =
 -- A RUN
 
 -- what is left behind k octets of a part
-drop-part : (l : List ℕ) (at have k : ℕ) → at + k ≤ have → have ≤ length l → take (have - (at + k)) (drop (at + k) l) ≡ drop k (take (have - at) (drop at l))
+pub drop-part : (l : List ℕ) (at have k : ℕ) → at + k ≤ have → have ≤ length l → take (have - (at + k)) (drop (at + k) l) ≡ drop k (take (have - at) (drop at l))
 drop-part l at have k a b =
     let j = have - (at + k) in
     let Y = drop at l in
@@ -196,18 +196,20 @@ module _ (input : List ℕ) (L L′ : Lent) (out out′ : List ℕ) (f r : Feed)
         known = went .why;
         waits = λ e. subst (λ (k : ℕ). NoneWhole (f .last) (readAt limits (S .left) k)) (went .run .read) (went .waits e);
         ends = λ e. subst (λ (k : ℕ). EndsRun (f .last) (readAt limits (S .left) k)) (went .run .read) (went .ends e);
-        full = λ e. let a = went .full e in let b = went .run .wrote in omega arith;
       }
 
+  run-full : p .state ≡ 0 → linesFill S (p .frames)
+  run-full e = let a = went .full e in let b = went .run .wrote in omega arith
+
   pub run-made : Made S (streamOf input L′ r) (take (r .handed) out′)
-  unfolding May after handed
+  unfolding MayBy after handed
   run-made =
       let n = p .frames in
       let rest : take (f .have - (f .at + p .read)) (drop (f .at + p .read) input) ≡ drop (piece S n .octets) (S .left) =
       drop-part input (f .at) (f .have) (p .read) read-there (inside .read) ∙ ap (λ (k : ℕ). drop k (S .left)) (went .run .read) in
       record {
         turn = ran n (p .state) (h .accepted);
-        may = (runs, run-stops);
+        may = (runs, run-stops, run-full);
         leads = ap (streamOf input L′) is
             ∙ (λ i. record { product = went .product i; left = rest i; floor = went .run .floor i; index = f .index + n; state = stateAfter (p .state) (f .last) (h .accepted); last = f .last });
         hands = ap (λ (x : Feed). take (x .handed) out′) is ∙ front-of out out′ (piece S n .printed) (h .size) (size ∙ went .run .wrote) (went .run .octets);

@@ -14,20 +14,20 @@ use Rattle.view.specs.View.{Lent, floorIn}
 use Rattle.event_answers.specs.Met.{Ready}
 use Rattle.frame_stream.specs.declared.Feed.{Feed}
 use Rattle.frame_stream.specs.declared.Ending.{Ending}
-use Rattle.frame_stream.specs.Stream.{Stream, begin, Turn, after, May, Turns, streamAfter}
+use Rattle.frame_stream.specs.Stream.{Stream, begin, Turn, after, MayBy, TurnsBy, linesFill, May, Turns, streamAfter}
 use Rattle.frame_stream.specs.Feed.{Inside, streamOf, Made, Finished, RanAll}
 use Rattle.frame_stream.proofs.Feeds.{part-length}
 
 -- one turn more
-after-more : (S : Stream) (ts : List Turn) (m : Turn) → streamAfter S (ts ++ (m ∷ [])) ≡ after (streamAfter S ts) m
+pub after-more : (S : Stream) (ts : List Turn) (m : Turn) → streamAfter S (ts ++ (m ∷ [])) ≡ after (streamAfter S ts) m
 unfolding streamAfter
 after-more S [] m = refl
 after-more S (x ∷ ts) m = after-more (after S x) ts m
 
-turns-more : (S : Stream) (ts : List Turn) (m : Turn) → Turns S ts → May (streamAfter S ts) m → Turns S (ts ++ (m ∷ []))
-unfolding streamAfter Turns
-turns-more S [] m made may = (may, made)
-turns-more S (x ∷ ts) m made may = (made .0, turns-more (after S x) ts m (made .1) may)
+pub turns-more : (full : Stream → ℕ → Type 0) (S : Stream) (ts : List Turn) (m : Turn) → TurnsBy full S ts → MayBy full (streamAfter S ts) m → TurnsBy full S (ts ++ (m ∷ []))
+unfolding streamAfter TurnsBy
+turns-more full S [] m made may = (may, made)
+turns-more full S (x ∷ ts) m made may = (made .0, turns-more full (after S x) ts m (made .1) may)
 
 -- BEFORE EACH TURN: some turns led from the beginning to this stream, and with those that are left they are 2^64 − 1
 pub record Came (P : Product) (F : Floor) (S : Stream) (left : ℕ) : Type 0 where
@@ -37,7 +37,7 @@ pub record Came (P : Product) (F : Floor) (S : Stream) (left : ℕ) : Type 0 whe
   pub counted : length turns + left ≡ 18446744073709551615
 
 pub came-first : (P : Product) (F : Floor) → Came P F (begin P F) 18446744073709551615
-unfolding Turns streamAfter
+unfolding TurnsBy streamAfter
 came-first P F = record { turns = []; made = tt; there = refl; counted = refl }
 
 pub came-next : (P : Product) (F : Floor) (S S′ : Stream) (octets : List ℕ) (turns left : ℕ) → Came P F S turns → Made S S′ octets → left + 1 ≡ turns → Came P F S′ left
@@ -46,7 +46,7 @@ came-next P F S S′ octets turns left k m e =
     let may : May (streamAfter (begin P F) ts) (m .turn) = subst (λ (X : Stream). May X (m .turn)) (k .there) (m .may) in
     record {
       turns = ts ++ (m .turn ∷ []);
-      made = turns-more (begin P F) ts (m .turn) (k .made) may;
+      made = turns-more linesFill (begin P F) ts (m .turn) (k .made) may;
       there = m .leads ∙ ap (λ (X : Stream). after X (m .turn)) (k .there) ∙ sym (after-more (begin P F) ts (m .turn));
       counted = let c = k .counted in let z = length-append ts (m .turn ∷ []) in omega arith;
     }

@@ -19,7 +19,7 @@ use Rattle.frame_run.specs.Went.{NoneWhole, EndsRun}
 use Rattle.frame_run.proofs.Whole.{joined, stands, runs-go-on, octets-inside}
 use Rattle.frame_run.proofs.Printed.{printed-begins, printed-whole}
 use Rattle.frame_run.proofs.Frames.{floor-of-frames}
-use Rattle.frame_stream.specs.Stream.{Stream, begin, Turn, brought, failed, ran, piece, stateAfter, after, handed, broughtIn, Stops, May, Turns, streamAfter, broughtBy, handedBy, Behind, OverAt, StreamIs}
+use Rattle.frame_stream.specs.Stream.{Stream, begin, Turn, brought, failed, ran, piece, stateAfter, after, handed, broughtIn, Stops, MayBy, TurnsBy, linesFill, Turns, streamAfter, broughtBy, handedBy, Behind, OverAt, StreamIs}
 
 -- WHAT IS TO BE DONE after a run
 over-why : (why : ℕ) (last accepted : Bool) → why ≤ 2 → stateAfter why last accepted ≡ 2 → (why ≡ 2) ⊎ ((why ≡ 1) × (last ≡ true))
@@ -68,14 +68,14 @@ pub record SoFar (P : Product) (F : Floor) (W H : List ℕ) (S : Stream) (later 
   pub over : S .state ≡ 2 → (runFrom P (S .index) F 0 W .ended ≡ true) ⊎ (readAt limits W (runFrom P (S .index) F 0 W .octets) ≡ end)
 
 -- the same, over every input that begins with B, what the turns brought
-record Holds (P : Product) (F : Floor) (B H : List ℕ) (S : Stream) : Type 0 where
-  own : S .product ≡ P
-  more : S .state ≡ 1 → S .last ≡ false
-  run : (later : List ℕ) → Behind S later → SoFar P F (B ++ later) H S later
-  stops : S .state ≡ 2 → OverAt (S .last) (frameOf limits (S .left))
+pub record Holds (P : Product) (F : Floor) (B H : List ℕ) (S : Stream) : Type 0 where
+  pub own : S .product ≡ P
+  pub more : S .state ≡ 1 → S .last ≡ false
+  pub run : (later : List ℕ) → Behind S later → SoFar P F (B ++ later) H S later
+  pub stops : S .state ≡ 2 → OverAt (S .last) (frameOf limits (S .left))
 
 -- before the first read
-holds-first : (P : Product) (F : Floor) → Holds P F [] [] (begin P F)
+pub holds-first : (P : Product) (F : Floor) → Holds P F [] [] (begin P F)
 unfolding runFrom
 holds-first P F =
     record {
@@ -192,30 +192,30 @@ module _ (P : Product) (F : Floor) (B H : List ℕ) (S : Stream) (h : Holds P F 
       }
 
 -- ONE TURN MORE
-holds-next : (P : Product) (F : Floor) (B H : List ℕ) (S : Stream) (m : Turn) → Holds P F B H S → May S m → Holds P F (B ++ broughtIn m) (H ++ handed S m) (after S m)
-unfolding after handed May
-holds-next P F B H S (brought l) h may = subst (λ (x : List ℕ). Holds P F (B ++ l) x (after S (brought l))) (sym (append-nil H)) (holds-brought P F B H S h may l)
-holds-next P F B H S failed h may =
+pub holds-next : (full : Stream → ℕ → Type 0) (P : Product) (F : Floor) (B H : List ℕ) (S : Stream) (m : Turn) → Holds P F B H S → MayBy full S m → Holds P F (B ++ broughtIn m) (H ++ handed S m) (after S m)
+unfolding after handed MayBy
+holds-next full P F B H S (brought l) h may = subst (λ (x : List ℕ). Holds P F (B ++ l) x (after S (brought l))) (sym (append-nil H)) (holds-brought P F B H S h may l)
+holds-next full P F B H S failed h may =
     subst (λ (y : List ℕ). Holds P F y (H ++ []) (after S failed)) (sym (append-nil B)) (subst (λ (x : List ℕ). Holds P F B x (after S failed)) (sym (append-nil H)) (holds-failed P F B H S h may))
-holds-next P F B H S (ran n why accepted) h may =
+holds-next full P F B H S (ran n why accepted) h may =
     subst (λ (y : List ℕ). Holds P F y (H ++ piece S n .printed) (after S (ran n why accepted))) (sym (append-nil B)) (holds-ran P F B H S h n why accepted (may .0) (may .1))
 
 -- ALL OF THEM
-holds-after : (P : Product) (F : Floor) (B H : List ℕ) (S : Stream) (ts : List Turn) → Holds P F B H S → Turns S ts → Holds P F (B ++ broughtBy ts) (H ++ handedBy S ts) (streamAfter S ts)
-unfolding Turns streamAfter broughtBy handedBy
-holds-after P F B H S [] h made = subst (λ (x : List ℕ). Holds P F (B ++ []) x S) (sym (append-nil H)) (subst (λ (y : List ℕ). Holds P F y H S) (sym (append-nil B)) h)
-holds-after P F B H S (m ∷ ts) h made =
+holds-after : (full : Stream → ℕ → Type 0) (P : Product) (F : Floor) (B H : List ℕ) (S : Stream) (ts : List Turn) → Holds P F B H S → TurnsBy full S ts → Holds P F (B ++ broughtBy ts) (H ++ handedBy S ts) (streamAfter S ts)
+unfolding TurnsBy streamAfter broughtBy handedBy
+holds-after full P F B H S [] h made = subst (λ (x : List ℕ). Holds P F (B ++ []) x S) (sym (append-nil H)) (subst (λ (y : List ℕ). Holds P F y H S) (sym (append-nil B)) h)
+holds-after full P F B H S (m ∷ ts) h made =
     let S′ = after S m in
-    let rest = holds-after P F (B ++ broughtIn m) (H ++ handed S m) S′ ts (holds-next P F B H S m h (made .0)) (made .1) in
+    let rest = holds-after full P F (B ++ broughtIn m) (H ++ handed S m) S′ ts (holds-next full P F B H S m h (made .0)) (made .1) in
     subst (λ (x : List ℕ). Holds P F (B ++ (broughtIn m ++ broughtBy ts)) x (streamAfter S′ ts)) (append-assoc H (handed S m) (handedBy S′ ts))
     (subst (λ (y : List ℕ). Holds P F y ((H ++ handed S m) ++ handedBy S′ ts) (streamAfter S′ ts)) (append-assoc B (broughtIn m) (broughtBy ts)) rest)
 
-all-hold : (P : Product) (F : Floor) (ts : List Turn) → Turns (begin P F) ts → Holds P F (broughtBy ts) (handedBy (begin P F) ts) (streamAfter (begin P F) ts)
-all-hold P F ts made = holds-after P F [] [] (begin P F) ts (holds-first P F) made
+all-hold : (full : Stream → ℕ → Type 0) (P : Product) (F : Floor) (ts : List Turn) → TurnsBy full (begin P F) ts → Holds P F (broughtBy ts) (handedBy (begin P F) ts) (streamAfter (begin P F) ts)
+all-hold full P F ts made = holds-after full P F [] [] (begin P F) ts (holds-first P F) made
 
-pub so-far : (P : Product) (F : Floor) (ts : List Turn) → Turns (begin P F) ts → (later : List ℕ) → Behind (streamAfter (begin P F) ts) later
+pub so-far : (full : Stream → ℕ → Type 0) (P : Product) (F : Floor) (ts : List Turn) → TurnsBy full (begin P F) ts → (later : List ℕ) → Behind (streamAfter (begin P F) ts) later
     → SoFar P F (broughtBy ts ++ later) (handedBy (begin P F) ts) (streamAfter (begin P F) ts) later
-so-far P F ts made = all-hold P F ts made .run
+so-far full P F ts made = all-hold full P F ts made .run
 
 -- THE CLAIM
 pub stream-is : (P : Product) (F : Floor) → Unstarted F → (ts : List Turn) → Turns (begin P F) ts → StreamIs P F ts
@@ -236,4 +236,4 @@ stream-is P F U ts made =
     S = streamAfter (begin P F) ts
 
     h : Holds P F (broughtBy ts) (handedBy (begin P F) ts) S
-    h = all-hold P F ts made
+    h = all-hold linesFill P F ts made

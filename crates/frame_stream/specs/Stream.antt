@@ -71,26 +71,35 @@ broughtIn (brought l) = l
 broughtIn failed = []
 broughtIn (ran n why accepted) = []
 
--- n frames are there, and the run stops behind them because a frame is refused (2), none is whole (1), or the lines fill the output,
--- which has 65,536 octets (0)
+-- n frames are there, and the run stops behind them because a frame is refused (2), none is whole (1), or there is no room for another (0)
 pub record Stops (S : Stream) (n why : ℕ) : Type 0 where
   pub counted : piece S n .count ≡ n
   pub ended : piece S n .ended ≡ eqb why 2
   pub known : why ≤ 2
   pub waits : why ≡ 1 → NoneWhole (S .last) (readAt limits (S .left) (piece S n .octets))
   pub ends : why ≡ 2 → EndsRun (S .last) (readAt limits (S .left) (piece S n .octets))
-  pub full : why ≡ 0 → 65536 < length (piece S n .printed) + lineRoom
 
--- which turns can be made: a read where one is wanted, a run where there may be frames, and none once nothing is to be done
-unfoldable pub May : Stream → Turn → Type 0
-May S (brought l) = S .state ≡ 1
-May S failed = S .state ≡ 1
-May S (ran n why accepted) = (S .state ≡ 0) × Stops S n why
+-- which turns can be made: a read where one is wanted, a run where there may be frames, and none once nothing is to be done. After how many frames there is
+-- no room for another is said by `full`
+unfoldable pub MayBy : (Stream → ℕ → Type 0) → Stream → Turn → Type 0
+MayBy full S (brought l) = S .state ≡ 1
+MayBy full S failed = S .state ≡ 1
+MayBy full S (ran n why accepted) = (S .state ≡ 0) × Stops S n why × (why ≡ 0 → full S n)
 
 -- ANY LIST OF TURNS, each from what the last one left
-unfoldable pub Turns : Stream → List Turn → Type 0
-Turns S [] = Unit {0}
-Turns S (t ∷ ts) = May S t × Turns (after S t) ts
+unfoldable pub TurnsBy : (Stream → ℕ → Type 0) → Stream → List Turn → Type 0
+TurnsBy full S [] = Unit {0}
+TurnsBy full S (t ∷ ts) = MayBy full S t × TurnsBy full (after S t) ts
+
+-- the printed lines fill the output, which has 65,536 octets
+abbrev pub linesFill : Stream → ℕ → Type 0
+linesFill S n = 65536 < length (piece S n .printed) + lineRoom
+
+abbrev pub May : Stream → Turn → Type 0
+May = MayBy linesFill
+
+abbrev pub Turns : Stream → List Turn → Type 0
+Turns = TurnsBy linesFill
 
 -- the stream after them
 unfoldable pub streamAfter : Stream → List Turn → Stream

@@ -20,20 +20,20 @@ ghost use Rattle.frame_stream.specs.Feed.{Inside, streamOf, Made, gotOf,
 
 // The piece of input: the octets up to `at` were run, those up to `have` were read. The index of the next frame; what is to be done; whether the
 // input has ended; and how many octets of the output were handed on in the last turn.
-struct Feed {
-    at: usize,
-    have: usize,
-    index: u64,
-    state: u64,
-    last: bool,
-    handed: usize,
+pub struct Feed {
+    pub at: usize,
+    pub have: usize,
+    pub index: u64,
+    pub state: u64,
+    pub last: bool,
+    pub handed: usize,
 }
 
 // More frames may be there.
 const RUNS: u64 = 0;
 
 // More input is wanted.
-const WANTS: u64 = 1;
+pub const WANTS: u64 = 1;
 
 // The input has ended, or a frame was refused: nothing more is to be done.
 pub const OVER: u64 = 2;
@@ -138,7 +138,7 @@ fn after_read(size: usize, kept: usize, got: Got, f: Feed) -> Feed
 }
 
 // More input behind what is not run yet.
-fn more(from: i32, input: &mut [u8], f: Feed) -> Feed
+pub fn more(from: i32, input: &mut [u8], f: Feed) -> Feed
     requires { ⌜ Inside (length (now input)) f × (f .state ≡ 1) × (length (now input) ≡ 65536) ⌝ }
     ensures { λ r. ⌜ Inside (length (now (input .exit))) r × ((L : Lent) → Made (streamOf (now (input .entry)) L f) (streamOf (now (input .exit)) L r) []) × (r .handed ≡ 0) ⌝ }
     ensures { λ r. ⌜ length (now (input .exit)) ≡ length (now (input .entry)) ⌝ }
@@ -186,7 +186,7 @@ fn state_after(why: u64, last: bool, accepted: bool) -> u64
 }
 
 // The piece after frames of it were run and their lines were handed on.
-fn after_run(f: Feed, p: Progress, handed: Handed) -> Feed
+pub fn after_run(f: Feed, p: Progress, handed: Handed) -> Feed
     requires { ⌜ (f .at + p .read < 18446744073709551616) × (f .index + p .frames < 18446744073709551616) ⌝ }
     ensures { λ r. ⌜ r ≡ afterRun f p handed ⌝ }
 {
@@ -283,7 +283,7 @@ fn turn(
 
 // Is there anything more to be done? A proved loop has to end, and nothing says that the input does: so turns are counted down from a number
 // that no run uses up.
-fn goes_on(turns: u64, f: Feed) -> bool
+pub fn goes_on(turns: u64, f: Feed) -> bool
     ensures { λ r. ⌜ r ≡ (not (eqb turns 0) && (ltb (f .index) 9223372036854775808 && ltb (f .state) 2)) ⌝ }
 {
     if turns == 0 {

@@ -1,0 +1,13 @@
+-- `training_stream::no_counts` meets its contract.
+use mathlib.Core.Path.{refl}
+use Rattle.training_stream.proofs.Fresh.{all-zero}
+use Rattle.training_stream.proofs.no_counts.Statement.{statement}
+use Rattle.training_stream.proofs.no_counts.Tie as tie
+use Rattle.training_stream.proofs.no_counts.Reads as reads
+use Rattle.training_stream.proofs.no_counts.Lts as lts
+
+returns : tie.Need-returns
+returns c = (refl, all-zero 21)
+
+pub no-counts-spec : {M : Type 1} → statement M
+no-counts-spec = tie.close (tie.spec returns)

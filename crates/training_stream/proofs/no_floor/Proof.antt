@@ -1,0 +1,49 @@
+-- `training_stream::no_floor` meets its contract.
+use Rattle.protocol.specs.Floor.{wholeFloor}
+use Rattle.frame_stream.proofs.Fresh.{fresh, fresh-ready, floor-lengths}
+use borrow.Author.Needs.{needs}
+use Rattle.training_stream.proofs.no_floor.Statement.{statement}
+use Rattle.training_stream.proofs.no_floor.Tie as tie
+use Rattle.training_stream.proofs.no_floor.Reads as reads
+use Rattle.training_stream.proofs.no_floor.Lts as lts
+use Rattle.frame_stream.proofs.no_carts.Reads as no-carts-reads
+use Rattle.frame_stream.proofs.no_lines.Reads as no-lines-reads
+use Rattle.frame_stream.proofs.no_messages.Reads as no-messages-reads
+use Rattle.frame_stream.proofs.no_stations.Reads as no-stations-reads
+use Rattle.frame_stream.proofs.no_texts.Reads as no-texts-reads
+
+no-stations-requires : tie.Need-no-stations-requires
+no-stations-requires c κs = search needs
+
+no-carts-requires : tie.Need-no-carts-requires
+no-carts-requires c κs = search needs
+
+no-messages-requires : tie.Need-no-messages-requires
+no-messages-requires c κs = search needs
+
+no-lines-requires : tie.Need-no-lines-requires
+no-lines-requires c κs = search needs
+
+no-texts-requires : tie.Need-no-texts-requires
+no-texts-requires c κs = search needs
+
+returns : tie.Need-returns
+returns c =
+    let s = c .before .before .before .before .no-stations in
+    let k = c .before .before .before .no-carts in
+    let m = c .before .before .no-messages in
+    let w = c .before .no-lines in
+    let t = c .no-texts in
+    let long = floor-lengths (s .result) (k .result) (m .result) (w .result) (t .result) (s .ensures .0) (k .ensures) (m .ensures) (w .ensures) (t .ensures) in
+    (fresh-ready wholeFloor (s .result) (k .result) (m .result) (w .result) (t .result) (s .ensures .1) long, fresh wholeFloor (s .result) (k .result) (m .result) (w .result) (t .result) (s .ensures .1) long)
+
+pub no-floor-spec : {M : Type 1} → statement M
+no-floor-spec =
+    tie.close
+    (tie.spec
+    no-stations-requires
+    no-carts-requires
+    no-messages-requires
+    no-lines-requires
+    no-texts-requires
+    returns)
