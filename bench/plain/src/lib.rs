@@ -9,16 +9,20 @@
 //! * [`frames`]: frames taken apart into events.
 //! * [`report`]: the printed run.
 //! * [`run`]: frames in, printed run out.
+//! * [`lists`]: plain lists of what carts have not received yet.
+//! * [`training`]: a floor and the lists fed from one input.
 //! * [`words`]: a floor in the words of the proved controller.
 
 #![forbid(unsafe_code)]
 
 pub mod floor;
 pub mod frames;
+pub mod lists;
 pub mod quiet;
 pub mod report;
 pub mod run;
 pub mod steps;
+pub mod training;
 pub mod words;
 
 pub use floor::{CartNo, Floor, GroupNo, Limits, MessageNo, Place, StationNo};

@@ -45,31 +45,60 @@ pub fn run_on(
     mut output: impl Write,
 ) -> io::Result<Option<Refusal>> {
     let mut report = Report::new(PIECE);
-    let mut piece = vec![0; PIECE].into_boxed_slice();
-    let mut filled = 0;
+    let mut piece = Piece::new();
     loop {
-        let read = match input.read(&mut piece[filled..]) {
-            Ok(read) => read,
-            Err(error) if error.kind() == io::ErrorKind::Interrupted => continue,
-            Err(error) => return Err(error),
-        };
-        filled += read;
-        let mut reader = Reader::new(&piece[..filled]);
+        let ended = piece.read(&mut input)?;
+        let mut reader = Reader::new(piece.octets());
         let refused = take_all(&mut reader, floor, &mut report, &mut output)?;
         // Only the end of the input cuts a frame; the end of a piece does not.
-        let last = refused.filter(|refusal| *refusal != Refusal::CutFrame || read == 0);
+        let last = refused.filter(|refusal| *refusal != Refusal::CutFrame || ended);
         if let Some(refusal) = last {
             report.refused(refusal);
         }
         output.write_all(report.lines())?;
         report.clear();
         output.flush()?;
-        if last.is_some() || read == 0 {
+        if last.is_some() || ended {
             return Ok(last);
         }
         let taken = reader.position();
-        piece.copy_within(taken..filled, 0);
-        filled -= taken;
+        piece.drop_front(taken);
+    }
+}
+
+/// What has been read of the input and not been taken apart yet.
+pub(crate) struct Piece {
+    octets: Box<[u8]>,
+    filled: usize,
+}
+
+impl Piece {
+    pub(crate) fn new() -> Self {
+        Piece { octets: vec![0; PIECE].into_boxed_slice(), filled: 0 }
+    }
+
+    pub(crate) fn octets(&self) -> &[u8] {
+        &self.octets[..self.filled]
+    }
+
+    /// Reads once; answers whether the input has ended.
+    pub(crate) fn read(&mut self, input: &mut impl Read) -> io::Result<bool> {
+        loop {
+            match input.read(&mut self.octets[self.filled..]) {
+                Ok(read) => {
+                    self.filled += read;
+                    return Ok(read == 0);
+                }
+                Err(error) if error.kind() == io::ErrorKind::Interrupted => continue,
+                Err(error) => return Err(error),
+            }
+        }
+    }
+
+    /// Leaves out what has been taken.
+    pub(crate) fn drop_front(&mut self, taken: usize) {
+        self.octets.copy_within(taken..self.filled, 0);
+        self.filled -= taken;
     }
 }
 
@@ -133,6 +162,23 @@ fn handle(floor: &mut Floor, event: &Event, report: &mut Report) {
         }
     };
     print(report, kind, answer);
+}
+
+/// Gives one event to the floor, a radio step with the lent buffer; the answer has the length of
+/// the text that was written there, 0 for other events.
+pub fn give(floor: &mut Floor, event: &Event, buffer: &mut [u8]) -> Result<(Step, usize), Refusal> {
+    let answer = match *event {
+        Event::Start { stations, carts } => floor.start(stations, carts),
+        Event::Enter { station, cart } => floor.enter(station, cart),
+        Event::Send { station, set, text } => floor.send(station, set, text),
+        Event::Wire { from, to } => floor.wire(from, to),
+        Event::Radio { station, cart } => return floor.radio(station, cart, buffer),
+        Event::Move { cart, to } => floor.move_cart(cart, to),
+        Event::Steady { cart, steady } => floor.set_steady(cart, steady),
+        Event::Group { group, set } => floor.set_group(group, set),
+        Event::GroupSend { station, group, text } => floor.send_to_group(station, group, text),
+    };
+    answer.map(|step| (step, 0))
 }
 
 /// Prints the line of an event.

@@ -47,6 +47,8 @@ pub enum Refusal {
     EmptyText = 24,
     NotSteady = 25,
     NoSuchGroup = 26,
+    ListsFull = 30,
+    ListEmpty = 31,
 }
 
 impl Refusal {

@@ -72,6 +72,7 @@ fn the_program_prints_every_stored_run() {
 fn program_of(name: &str) -> &'static str {
     match name.split_once('.') {
         Some(("kit", _)) => env!("CARGO_BIN_EXE_demo"),
+        Some(("lists", _)) => env!("CARGO_BIN_EXE_training"),
         _ => env!("CARGO_BIN_EXE_plain"),
     }
 }
@@ -114,6 +115,25 @@ impl Read for Pieces<'_> {
         buffer[..size].copy_from_slice(piece);
         self.octets = rest;
         Ok(size)
+    }
+}
+
+#[test]
+fn training_prints_the_receipts_of_the_run() {
+    for run in stored_runs() {
+        let (mut whole, mut trained) = (Vec::new(), Vec::new());
+        plain::run::run(&run.frames[..], &mut whole).unwrap();
+        for size in [1, 17, 1000, 1 << 20] {
+            let pieces = Pieces { octets: &run.frames, size, interrupted: false };
+            trained.clear();
+            plain::training::training(pieces, &mut trained).unwrap();
+            // Of each line with kind 4: index, initiator and number.
+            let lines = String::from_utf8_lossy(&whole);
+            let fields = lines.lines().map(|line| line.split(' ').collect::<Vec<_>>());
+            let radio = fields.filter(|fields| fields[1] == "4");
+            let wanted: String = radio.map(|f| format!("{} {} {}\n", f[0], f[2], f[3])).collect();
+            assert!(trained == wanted.as_bytes(), "{}", run.name);
+        }
     }
 }
 

@@ -7,6 +7,7 @@
 
 use plain::floor::{carts_of, GROUPS, TEXT};
 use plain::frames::{put, Event};
+use plain::run;
 use plain::{CartNo, Floor, GroupNo, Limits, Place, Refusal, StationNo, Step};
 
 use crate::random::Random;
@@ -397,19 +398,7 @@ impl Generator {
 
 /// Gives an event to a floor.
 pub fn give(floor: &mut Floor, event: &Event) -> Result<Step, Refusal> {
-    match *event {
-        Event::Start { stations, carts } => floor.start(stations, carts),
-        Event::Enter { station, cart } => floor.enter(station, cart),
-        Event::Send { station, set, text } => floor.send(station, set, text),
-        Event::Wire { from, to } => floor.wire(from, to),
-        Event::Radio { station, cart } => {
-            floor.radio(station, cart, &mut [0; TEXT]).map(|(step, _)| step)
-        }
-        Event::Move { cart, to } => floor.move_cart(cart, to),
-        Event::Steady { cart, steady } => floor.set_steady(cart, steady),
-        Event::Group { group, set } => floor.set_group(group, set),
-        Event::GroupSend { station, group, text } => floor.send_to_group(station, group, text),
-    }
+    run::give(floor, event, &mut [0; TEXT]).map(|(step, _)| step)
 }
 
 /// A whole stream.

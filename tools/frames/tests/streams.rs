@@ -9,6 +9,7 @@ use frames::generate::{give, stream, Wishes};
 use frames::random::Random;
 use frames::script::{script, show};
 use plain::frames::{Event, Reader, Taken};
+use plain::training::{Both, Handed};
 use plain::{Floor, Step};
 
 /// Where the frames of the stored runs lie, seen from this package.
@@ -162,6 +163,23 @@ fn streams_with_groups() {
         let (octets, _) = stream(13, 20_000, Wishes { bad: 10, ..wishes });
         let refused = give_all(&octets, 20_000).1;
         assert!(refused[26] > 0, "{stations} stations, {carts} carts: no 26");
+    }
+}
+
+#[test]
+fn the_head_of_the_plain_list_is_what_is_handed_over() {
+    for (seed, (stations, carts)) in [(16, 64), (3, 5), (1, 2)].iter().enumerate() {
+        let (stations, carts) = (*stations, *carts);
+        let wishes = Wishes { stations, carts, held: 20, groups: 30, bad: 5, ..Wishes::default() };
+        let (octets, counts) = stream(seed as u64, 50_000, wishes);
+        let (mut both, mut reader, mut handed) = (Both::new(), Reader::new(&octets), 0);
+        while let Taken::Event(event) = reader.take() {
+            if let Some(Handed { by_floor, by_lists, .. }) = both.give(&event) {
+                assert_eq!(by_floor, by_lists);
+                handed += 1;
+            }
+        }
+        assert_eq!(handed, counts.receipts);
     }
 }
 
