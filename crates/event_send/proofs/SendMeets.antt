@@ -26,7 +26,7 @@ use Rattle.lines.specs.Form.{form}
 use Rattle.lines.specs.Lines.{used}
 use Rattle.lines.specs.Words.{capacity}
 use Rattle.view.specs.View.{Lent, lent, floorIn}
-use Rattle.view.proofs.Standing.{Standing, standing, few-carts}
+use Rattle.view.proofs.Standing.{Standing, standing, few-carts, numbers-of-32-bits}
 use Rattle.wired_send.specs.Rooms.{firstFree}
 use Rattle.wired_send.specs.Sent.{Sent}
 use Rattle.wired_send.proofs.RoomLaws.{room-found, none-found}
@@ -75,13 +75,13 @@ module _ (P : Product) (b : Bounds) (numbers : NumbersOf P b) (S C M W T : List 
   pub rooms-asked : (b .held * 6 ≤ length M) × (b .held ≤ 32)
   rooms-asked = let a = X .lengths .messages in let e = numbers .held-is in let f = P .held-fit in (omega arith, omega arith)
 
-  pub checks-asked : HasHead S × (headIn S .carts * 19 ≤ length C) × (headIn S .carts ≤ 64) × (116 + headIn S .stations * 116 ≤ length S)
-  checks-asked =
+  pub checks-asked : (s : ℕ) → HasHead S × (headIn S .carts * 19 ≤ length C) × (headIn S .carts ≤ 64) × (116 + headIn S .stations * 116 ≤ length S) × (stationsIn S .sent s < 4294967296)
+  checks-asked s =
       let a = X .lengths .stations in
       let q = X .lengths .carts in
       let d = X .sized .counts .stations in
       let e = X .sized .counts .carts in
-      (omega arith, omega arith, few-carts L X, omega arith)
+      (omega arith, omega arith, few-carts L X, omega arith, numbers-of-32-bits L X .sent s)
 
   -- the search found room m, no check applied, and so some room is free and the event may send
   module _ (s set m : ℕ) (text : List ℕ) (found : m ≡ firstFree (P .held) M)

@@ -10,12 +10,12 @@ use wired_send::NewMessage;
 ghost use mathlib.Core.Path.{_≡_};
 ghost use mathlib.Core.Bool.{false, not};
 ghost use mathlib.Core.List.{List, []};
-ghost use Prim.Native.Nat.{ℕ, _+_, _*_, _≤_};
+ghost use Prim.Native.Nat.{ℕ, _+_, _*_, _≤_, _<_};
 ghost use lib.ListN.{length};
 ghost use Rattle.protocol.specs.Floor.{Product, limitsOf};
 ghost use Rattle.protocol.specs.Events.{send, sendGroup};
 ghost use Rattle.protocol.specs.Refusals.{lastOfSend, undefined, refusalIf};
-ghost use Rattle.stations.specs.View.{HasHead, HasStation, headIn};
+ghost use Rattle.stations.specs.View.{HasHead, HasStation, headIn, stationsIn};
 ghost use Rattle.view.specs.View.{lent, floorIn};
 ghost use Rattle.wired_send.specs.Rooms.{firstFree};
 ghost use Rattle.event_answers.specs.Answers.{answerIn};
@@ -57,20 +57,22 @@ fn text_refusal(text: &[u8]) -> u64
     if text.len() == 0 { 24 } else { 0 }
 }
 
-// "13 now speaks of the caller's last number": the station has used it; or 14, as many messages held as may be; or 0. m is the first free room.
-fn room_refusal(stations: &[u64], station: Station, m: usize, last: u64) -> u64
-    requires { ⌜ HasStation (now stations) (station .0) ⌝ }
+// "13 now speaks of the caller's last number": the station has used it; or 14, as many messages held as may be; or 0. m is the first free room. The
+// numbers are compared as the 32 bits that they have: of 64 bits the floor's last one would be no immediate of an instruction.
+fn room_refusal(stations: &[u64], station: Station, m: usize, last: u32) -> u64
+    requires { ⌜ HasStation (now stations) (station .0) × (stationsIn (now stations) .sent (station .0) < 4294967296) ⌝ }
     ensures { λ r. ⌜ ((P : Product) (C M W T : List ℕ) → P .last ≡ last → m ≡ firstFree (P .held) M → r ≡ roomChecks (limitsOf P) (floorIn (lent P (now (stations .entry)) C M W T)) (station .0)) ⌝ }
 {
-    if last < stations::sent_of(stations, station) {
+    let sent = stations::sent_of(stations, station) as u32;
+    if last < sent {
         return 13;
     }
     if m == queue::NONE { 14 } else { 0 }
 }
 
 // The last checks of a send, of whatever kind, "24, 13, 14", or 0; m is the first free room.
-fn last_refusal(stations: &[u64], station: Station, text: &[u8], m: usize, last: u64) -> u64
-    requires { ⌜ HasStation (now stations) (station .0) ⌝ }
+fn last_refusal(stations: &[u64], station: Station, text: &[u8], m: usize, last: u32) -> u64
+    requires { ⌜ HasStation (now stations) (station .0) × (stationsIn (now stations) .sent (station .0) < 4294967296) ⌝ }
     ensures { λ r. ⌜ ((P : Product) (C M W T : List ℕ) → P .last ≡ last → m ≡ firstFree (P .held) M → r ≡ lastOfSend (limitsOf P) (floorIn (lent P (now (stations .entry)) C M W T)) (station .0) (now (text .entry))) ⌝ }
 {
     let of_text = text_refusal(text);
@@ -86,9 +88,9 @@ fn send_refusal(
     set: u64,
     text: &[u8],
     m: usize,
-    last: u64,
+    last: u32,
 ) -> u64
-    requires { ⌜ HasHead (now stations) × (headIn (now stations) .carts * 19 ≤ length (now carts)) × (headIn (now stations) .carts ≤ 64) × (116 + headIn (now stations) .stations * 116 ≤ length (now stations)) × (length (now text) ≤ 32) ⌝ }
+    requires { ⌜ HasHead (now stations) × (headIn (now stations) .carts * 19 ≤ length (now carts)) × (headIn (now stations) .carts ≤ 64) × (116 + headIn (now stations) .stations * 116 ≤ length (now stations)) × (length (now text) ≤ 32) × (stationsIn (now stations) .sent (station .0) < 4294967296) ⌝ }
     ensures { λ r. ⌜ ((P : Product) (M W T : List ℕ) → P .last ≡ last → m ≡ firstFree (P .held) M → r ≡ refusalIf (limitsOf P) (floorIn (lent P (now (stations .entry)) (now (carts .entry)) M W T)) false (send (station .0) set (now (text .entry)))) ⌝ }
 {
     if stations::station_count(stations) <= station.0 {
@@ -118,9 +120,9 @@ fn send_group_refusal(
     group: u64,
     text: &[u8],
     m: usize,
-    last: u64,
+    last: u32,
 ) -> u64
-    requires { ⌜ HasHead (now stations) × (116 + headIn (now stations) .stations * 116 ≤ length (now stations)) × (length (now text) ≤ 32) ⌝ }
+    requires { ⌜ HasHead (now stations) × (116 + headIn (now stations) .stations * 116 ≤ length (now stations)) × (length (now text) ≤ 32) × (stationsIn (now stations) .sent (station .0) < 4294967296) ⌝ }
     ensures { λ r. ⌜ ((P : Product) (C M W T : List ℕ) → P .last ≡ last → m ≡ firstFree (P .held) M → r ≡ refusalIf (limitsOf P) (floorIn (lent P (now (stations .entry)) C M W T)) false (sendGroup (station .0) group (now (text .entry)))) ⌝ }
 {
     if stations::station_count(stations) <= station.0 {

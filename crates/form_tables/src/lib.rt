@@ -49,12 +49,12 @@ fn counts_ok(stations: &[u64], bounds: Bounds) -> bool
 }
 
 // "the caller's last number": no station has sent more, and one beyond the floor has sent nothing.
-fn station_ok(stations: &[u64], s: Station, last: u64) -> bool
+fn station_ok(stations: &[u64], s: Station, last: u32) -> bool
     requires { ⌜ HasHead (now stations) × HasStation (now stations) (s .0) × (last ≤ 4294967294) ⌝ }
     ensures { λ r. ⌜ ((M : Limits) → M .last ≡ last → r ≡ test (stationRule M (tables (now (stations .entry)) [] []) (s .0))) ⌝ }
 {
     let sent = stations::sent_of(stations, s);
-    if last + 1 < sent {
+    if last as u64 + 1 < sent {
         return false;
     }
     if 0 < sent {
@@ -66,7 +66,7 @@ fn station_ok(stations: &[u64], s: Station, last: u64) -> bool
 }
 
 // The same of each of the n that there are rows for.
-fn stations_ok(stations: &[u64], n: u64, last: u64) -> bool
+fn stations_ok(stations: &[u64], n: u64, last: u32) -> bool
     requires { ⌜ (length (now stations) ≡ 116 + n * 116) × (n ≤ 16) × (last ≤ 4294967294) ⌝ }
     ensures { λ r. ⌜ ((M : Limits) → M .last ≡ last → r ≡ test (all n (stationRule M (tables (now (stations .entry)) [] [])))) ⌝ }
 {

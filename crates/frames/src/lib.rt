@@ -30,10 +30,11 @@ pub enum Event {
     SendGroup(Station, u64, usize),
 }
 
-// What stands at a place: nothing, a frame that is refused, or an event.
+// What stands at a place: nothing, a frame that is refused, or an event. The number of a refusal is of a smaller type than the fields of an event: the two
+// are then kept apart by the compiler, which asks for a kind once, where it is taken apart, and goes on from there with its event.
 pub enum Reading {
     End,
-    Refused(u64),
+    Refused(u8),
     Taken(Event),
 }
 
@@ -220,7 +221,8 @@ fn later_of(f: Halves, behind: usize) -> Reading
 }
 
 // A frame with so many octets behind it, taken apart by its kind or refused. Kinds are asked for one after the other, and not by a table of jumps:
-// which comes cannot be guessed, and a table has to be read before it is known that the guess was wrong.
+// which comes cannot be guessed, and a table has to be read before it is known that the guess was wrong. For the same reason those of the first release
+// are told from the later ones by a comparison, and never more than three are asked for in a row.
 fn reading_of(f: Halves, behind: usize) -> Reading
     ensures { λ r. ⌜ ((l : List ℕ) → readingIn l r ≡ frameIn l (fieldsIn f) behind) ⌝ }
 {
@@ -237,12 +239,12 @@ fn reading_of(f: Halves, behind: usize) -> Reading
             let e = Event::Radio(Station(station), CartNumber(head / CART_BIT % 64));
             return if_listed(head % CART_BIT, 0, f.set, e);
         }
-        if kind == 5 {
-            let cart = CartNumber(head / CART_BIT % 64);
-            let e = Event::Move(cart, Station(head / OTHER_BIT % 16));
-            return if_listed(head % OTHER_BIT, station, f.set, e);
+        if 5 < kind {
+            return later_of(f, behind);
         }
-        return later_of(f, behind);
+        let cart = CartNumber(head / CART_BIT % 64);
+        let e = Event::Move(cart, Station(head / OTHER_BIT % 16));
+        return if_listed(head % OTHER_BIT, station, f.set, e);
     }
     if kind == 2 {
         return send_of(f, behind);
@@ -286,7 +288,7 @@ pub fn refusal(reading: Reading) -> u64
 {
     match reading {
         Reading::End => 0,
-        Reading::Refused(number) => number,
+        Reading::Refused(number) => number as u64,
         Reading::Taken(_) => 0,
     }
 }

@@ -15,7 +15,7 @@ pub struct Bounds {
     pub stations: u64,
     pub carts: u64,
     pub held: usize,
-    pub last: u64,
+    pub last: u32,
 }
 
 // The floor: "Stations 1 to 16", "Carts 1 to 64", "At most 32 held messages", "the last number being 4,294,967,294".

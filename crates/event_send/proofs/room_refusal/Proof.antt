@@ -9,6 +9,9 @@ use Rattle.event_send.proofs.room_refusal.Tie as tie
 sent-of-requires : tie.Need-sent-of-requires
 sent-of-requires c κs = search needs
 
+cast-sent : tie.Need-cast-sent
+cast-sent c = omega (arith, c .sent-of .ensures)
+
 returns : tie.Need-returns
 returns c =
     let a = c .before .before .before .args in
@@ -25,4 +28,4 @@ returns-3 c =
     λ P C M W T e found. room-passes (now (a .stations)) (a .station .0) (a .m) P C M W T found (omega (arith, e, c .before .before .sent-of .ensures, c .before .if1 .left)) (c .if2 .left)
 
 pub room-refusal-spec : {M : Type 1} → statement M
-room-refusal-spec = tie.close (tie.spec sent-of-requires returns returns-2 returns-3)
+room-refusal-spec = tie.close (tie.spec sent-of-requires cast-sent returns returns-2 returns-3)

@@ -46,8 +46,8 @@ send-group-refusal-requires c κs =
     let P = start .pre .0 .0 in
     let numbers = start .pre .0 .1 in
     let passes = started-passes (lent P (now (a .stations)) (now (a .carts)) (now (a .messages)) (now (a .lines)) (now (a .texts))) _ (c .before .before .before .before .is-started .ensures) (start .pre .0 .2) (c .before .before .before .if1 .left) in
-    let asked = checks-asked P (a .bounds) numbers (now (a .stations)) (now (a .carts)) (now (a .messages)) (now (a .lines)) (now (a .texts)) passes in
-    (asked .0, asked .3, start .pre .1)
+    let asked = checks-asked P (a .bounds) numbers (now (a .stations)) (now (a .carts)) (now (a .messages)) (now (a .lines)) (now (a .texts)) passes (a .station .0) in
+    (asked .0, asked .3, start .pre .1, asked .4)
 
 same-length-2 : tie.Need-same-length-2
 same-length-2 c = search needs

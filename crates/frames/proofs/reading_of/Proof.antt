@@ -1,5 +1,5 @@
 -- `frames::reading_of` meets its contract.
-use mathlib.Core.Path.{refl}
+use mathlib.Core.Path.{_≡_, refl}
 use native.Mathlib.Omega.{arith}
 use Rattle.frames.specs.Decoded.{fieldsIn}
 use Rattle.frames.proofs.Laws.{unlisted-start, unlisted-enter, unlisted-radio, start-event, enter-event, wire-event, radio-event, move-event}
@@ -27,20 +27,20 @@ returns-2 c =
     λ l. station-read (a .f) (a .behind) l _ _ (omega arith) (unlisted-radio (fieldsIn (a .f)) k) (c .if-listed2 .ensures) refl
     (radio-event (fieldsIn (a .f)) _ k)
 
-if-listed-requires-3 : tie.Need-if-listed-requires-3
-if-listed-requires-3 c κs = search needs
-
-returns-3 : tie.Need-returns-3
-returns-3 c =
-    let a = c .before .before .before .before .before .args in
-    let k = c .before .if4 .taken in
-    λ l. move-read (a .f) (a .behind) l _ _ k (c .if-listed3 .ensures) refl (move-event (fieldsIn (a .f)) _ k)
-
 later-of-requires : tie.Need-later-of-requires
 later-of-requires c κs = search needs
 
+returns-3 : tie.Need-returns-3
+returns-3 c = search needs
+
+if-listed-requires-3 : tie.Need-if-listed-requires-3
+if-listed-requires-3 c κs = search needs
+
 returns-4 : tie.Need-returns-4
-returns-4 c = search needs
+returns-4 c =
+    let a = c .before .before .before .before .before .args in
+    let k : fieldsIn (a .f) .kind ≡ 5 = omega (arith, c .before .before .before .before .if1 .taken, c .before .before .before .if2 .left, c .before .before .if3 .left, c .before .if4 .left) in
+    λ l. move-read (a .f) (a .behind) l _ _ k (c .if-listed3 .ensures) refl (move-event (fieldsIn (a .f)) _ k)
 
 send-of-requires : tie.Need-send-of-requires
 send-of-requires c κs = search needs
@@ -84,9 +84,9 @@ reading-of-spec =
     returns
     if-listed-requires-2
     returns-2
-    if-listed-requires-3
-    returns-3
     later-of-requires
+    returns-3
+    if-listed-requires-3
     returns-4
     send-of-requires
     returns-5
