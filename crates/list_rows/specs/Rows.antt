@@ -3,8 +3,8 @@
 use mathlib.Core.Bool.{Bool, cond, _&&_}
 use mathlib.Core.List.{List, [], _∷_, _++_}
 use mathlib.Core.Option.{Option}
-use Prim.Native.Nat.{ℕ, zero, suc, _*_, _^_}
-use lib.Dec.{eqb, ltb}
+use Prim.Native.Nat.{ℕ, zero, suc, _*_, _%_, _^_}
+use lib.Dec.{eqb}
 use lib.ListN.{length, take, drop}
 use Rattle.protocol.specs.Folds.{first, count, sum, update}
 use Rattle.protocol.specs.CartSets.{has, without}
@@ -119,6 +119,10 @@ unfoldable pub squeezed : (ℕ → Row) → ℕ → Used
 squeezed T zero = usedRows T 0
 squeezed T (suc n) = keepRow (squeezed T n) n
 
--- with a row behind the used ones: only where all rows are used are they moved together
+-- so many sends go by between two times that rows are moved together
+abbrev pub oftenEnough : ℕ
+oftenEnough = 64
+
+-- with a row behind the used ones: where their number is a multiple of that, they are moved together first
 abbrev pub withRoom : (ℕ → Row) → ℕ → Used
-withRoom T n = cond (ltb n mostRows) (usedRows T n) (squeezed T n)
+withRoom T n = cond (eqb (n % oftenEnough) 0) (squeezed T n) (usedRows T n)

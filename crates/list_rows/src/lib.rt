@@ -16,6 +16,9 @@ pub const ROWS: usize = 2048;
 
 pub const TEXT: usize = 32;
 
+// So many sends go by between two times that rows are moved together.
+const OFTEN_ENOUGH: usize = 64;
+
 // A row's words: the initiator, the number, the carts that have yet to take it, and how many octets its text has.
 const WIDTH: usize = 4;
 
@@ -107,7 +110,7 @@ fn move_row(sends: &mut [u64], octets: &mut [u8], from: usize, to: usize)
     put_row(sends, octets, to, message, &text[..size]);
 }
 
-// A row is moved behind the used ones, unless every cart has taken it. How many are used then.
+// A row is moved behind the used ones, unless every cart has taken it. How many are used then. One that stands there already stays.
 fn keep_row(sends: &mut [u64], octets: &mut [u8], row: usize, used: usize) -> usize
     requires { ⌜ RowIn width (now sends) row × RowIn textRoom (now octets) row × (used ≤ row) × (rowsIn (now sends) (now octets) row .size ≤ textRoom) ⌝ }
     ensures { λ r. ⌜ usedRows (rowsIn (now (sends .exit)) (now (octets .exit))) r ≡ keepRow (usedRows (rowsIn (now (sends .entry)) (now (octets .entry))) used) row ⌝ }
@@ -116,6 +119,9 @@ fn keep_row(sends: &mut [u64], octets: &mut [u8], row: usize, used: usize) -> us
     let message = message_at(sends, row);
     if message.carts == 0 {
         return used;
+    }
+    if row == used {
+        return used + 1;
     }
     move_row(sends, octets, row, used);
     used + 1
@@ -136,13 +142,14 @@ fn squeeze(sends: &mut [u64], octets: &mut [u8], used: usize) -> usize
     kept
 }
 
-// The row for a new message is the one behind the used ones. Where all rows are used, those that every cart has taken are taken out first.
+// The row for a new message is the one behind the used ones. Now and then, and so where all rows are used, those that every cart has taken are taken out
+// first: a take looks at the rows from the first on, so few rows make it fast.
 pub fn free_row(sends: &mut [u64], octets: &mut [u8], used: usize) -> usize
     requires { ⌜ (used * width ≤ length (now sends)) × (used * textRoom ≤ length (now octets)) × ((r : ℕ) → r < used → rowsIn (now sends) (now octets) r .size ≤ textRoom) ⌝ }
     ensures { λ r. ⌜ usedRows (rowsIn (now (sends .exit)) (now (octets .exit))) r ≡ withRoom (rowsIn (now (sends .entry)) (now (octets .entry))) used ⌝ }
     ensures { λ _. ⌜ (length (now (sends .exit)) ≡ length (now (sends .entry))) × (length (now (octets .exit)) ≡ length (now (octets .entry))) ⌝ }
 {
-    if used < ROWS {
+    if used % OFTEN_ENOUGH != 0 {
         return used;
     }
     squeeze(sends, octets, used)

@@ -1,28 +1,28 @@
 -- A SEND OVER ROWS: there is room for its row, and the lists afterwards are the written ones.
 use mathlib.Core.Path.{_≡_, refl, sym, ap, ap₂, _∙_}
-use mathlib.Core.Bool.{Bool, true, cond, _&&_}
+use mathlib.Core.Bool.{Bool, true, false, cond, _&&_}
 use mathlib.Core.List.{List, [], _∷_, _++_}
-use Prim.Native.Nat.{ℕ, suc, _+_, _*_, _≤_, _<_}
+use Prim.Native.Nat.{ℕ, suc, _+_, _*_, _%_, _≤_, _<_}
 use native.Mathlib.Omega.{arith}
 use native.Mathlib.Numerals.{add-one}
-use lib.Dec.{eqb, ltb}
+use lib.Dec.{eqb}
 use lib.ListN.{length, set, length-set}
-use borrow.Author.Tests.{eq-eqb, ltb-true}
+use borrow.Author.Tests.{eq-eqb}
 use Rattle.protocol.specs.Folds.{count, update}
 use Rattle.protocol.specs.CartSets.{has}
 use Rattle.protocol.specs.Floor.{limits}
 use Rattle.protocol.specs.Claims.{test, True}
 use Rattle.protocol.specs.TwoLists.{Item, item}
 use Rattle.protocol.specs.PlainLists.{plainSend, plainPasses, appended, mostEntries}
-use Rattle.protocol.proofs.Tests.{by-eq, on-cond, on-update, eqb-self, and-second-false}
+use Rattle.protocol.proofs.Tests.{by-lt, by-eq, clash, on-cond, on-update, eqb-self, and-second-false}
 use Rattle.protocol.proofs.Counting.{count-at}
 use Rattle.protocol.proofs.SetLaws.{has-zero, some-member}
 use Rattle.ids.specs.declared.MessageNumber.{MessageNumber}
 use Rattle.sets.specs.Masks.{size}
 use Rattle.lists.specs.declared.Reply.the-variants.{Sent}
 use Rattle.lists.specs.Calls.{ListsMet, ListsReady, sendChecks}
-use Rattle.list_rows.specs.Rows.{Row, width, textRoom, mostRows, listed, members, rowRule, newRow, Used, usedRows, squeezed, withRoom, rowsIn}
-use Rattle.lists.specs.View.{LentLists, lentLists, Counts, countWords, countsIn, lentRight, layoutRule, listsOf, listsIn}
+use Rattle.list_rows.specs.Rows.{Row, width, textRoom, mostRows, oftenEnough, listed, members, rowRule, newRow, Used, usedRows, squeezed, withRoom, rowsIn}
+use Rattle.lists.specs.View.{LentLists, lentLists, Counts, countWords, countsIn, lentRight, layoutRule, plainFrom, listsIn}
 use Rattle.list_rows.proofs.ListLaws.{above-below, put-alike, rule-alike, above-alike, listed-put, members-put, squeezed-lists, squeezed-members, squeezed-rules, squeezed-somebody, few-rows}
 use Rattle.lists.proofs.CountLaws.{withSent, withUsed, withEntries, put-sent, put-used, put-entries}
 use Rattle.lists.proofs.Facts.{Facts, facts-of, lengths-pass, of-lengths, words-right}
@@ -39,23 +39,30 @@ module _ (N : Counts) (T : ℕ → Row) (F : Facts N T) where
 
   room : Roomy (withRoom T (N .used))
   room =
-      on-cond Roomy (ltb (N .used) mostRows)
-      (λ e. record { lists = λ s c. refl; counted = sym (F .counted); rules = F .rows })
+      on-cond Roomy (eqb (N .used % oftenEnough) 0)
       (λ e. record {
         lists = squeezed-lists T (N .used);
         counted = squeezed-members T (N .carts) (N .used) ∙ sym (F .counted);
         rules = squeezed-rules T (N .stations) (N .carts) (N .sent) (N .used) (F .rows);
       })
+      (λ e. record { lists = λ s c. refl; counted = sym (F .counted); rules = F .rows })
+
+  -- all rows are used: their number is such that they are moved together
+  not-all : eqb (N .used % oftenEnough) 0 ≡ false → N .used < mostRows
+  not-all e =
+      by-lt (N .used) mostRows
+      (λ l. l)
+      (λ l. let all : N .used ≡ mostRows = omega (arith, F .used, l) in clash (eqb (N .used % oftenEnough) 0) (ap (λ (n : ℕ). eqb (n % oftenEnough) 0) all) e)
 
   -- and where there are fewer entries than rows, there is a row behind them
   pub room-behind : N .entries < mostRows → withRoom T (N .used) .used < mostRows
   room-behind few =
-      on-cond (λ (U : Used). U .used < mostRows) (ltb (N .used) mostRows)
-      (λ e. ltb-true (N .used) mostRows e)
+      on-cond (λ (U : Used). U .used < mostRows) (eqb (N .used % oftenEnough) 0)
       (λ e. let z = few-rows (squeezed T (N .used) .rows) (N .carts) (squeezed T (N .used) .used) (squeezed-somebody T (N .used)) (λ r l. squeezed-rules T (N .stations) (N .carts) (N .sent) (N .used) (F .rows) r l .1 .1 .1 .0) in
       let y = squeezed-members T (N .carts) (N .used) in
       let x = F .counted in
       omega arith)
+      not-all
 
 -- THE COUNTS AND ROWS AFTERWARDS
 
@@ -77,7 +84,7 @@ module _ (lengths : Bool) (N : Counts) (T : ℕ → Row) (F : Facts N T) (s set 
   words-none =
       words-right (withSent N s (suc (N .sent s))) T (F .used) (λ r l. rule-higher T (N .stations) (N .carts) (N .sent) sentMore r higher (F .rows r l)) (F .counted)
 
-  pub sent-to-none : set ≡ 0 → listsOf lengths (withSent N s (suc (N .sent s))) T ≡ appended (listsOf lengths N T) s set text
+  pub sent-to-none : set ≡ 0 → plainFrom lengths (withSent N s (suc (N .sent s))) T ≡ appended (plainFrom lengths N T) s set text
   unfolding appended
   sent-to-none none = λ i. record {
     lengthsRight = lengths;
@@ -128,7 +135,7 @@ module _ (lengths : Bool) (N : Counts) (T : ℕ → Row) (F : Facts N T) (s set 
       words-right countsAfter rowsAfter (row-behind some) rules-after
       (sym (members-put (room-made .rows) (room-made .used) its-row (N .carts) ∙ ap (λ (x : ℕ). x + count (N .carts) (has set)) (room N T F .counted)))
 
-  pub sent-to-some : 0 < set → listsOf lengths countsAfter rowsAfter ≡ appended (listsOf lengths N T) s set text
+  pub sent-to-some : 0 < set → plainFrom lengths countsAfter rowsAfter ≡ appended (plainFrom lengths N T) s set text
   unfolding appended
   sent-to-some some = λ i. record {
     lengthsRight = lengths;
@@ -202,7 +209,7 @@ module _ (L : LentLists) (passes : plainPasses limits (listsIn L) ≡ true) (s n
 
   pub none-in : named ≡ 0 → listsIn (lentLists counted (L .sends) (L .octets)) ≡ appended (listsIn L) s named text
   none-in none =
-      (λ i. listsOf (same-lengths counted (L .sends) (L .octets) counted-long refl refl i) (counted-is i) rowsFound)
+      (λ i. plainFrom (same-lengths counted (L .sends) (L .octets) counted-long refl refl i) (counted-is i) rowsFound)
       ∙ sent-to-none (lentRight L) countsFound rowsFound (facts-of L passes) s named text granted none
 
   module _ (some : named ≡ 0 → ⊥) (R : ℕ → Row) (row : ℕ) (made : usedRows R row ≡ withRoom rowsFound (countsFound .used)) where
@@ -237,7 +244,7 @@ module _ (L : LentLists) (passes : plainPasses limits (listsIn L) ≡ true) (s n
       pub some-in : (l o : List ℕ) → length l ≡ length (L .sends) → length o ≡ length (L .octets) → rowsIn l o ≡ update R row (newRow s (countsFound .sent s) named text)
           → listsIn (lentLists (set usedMore 4 (countsFound .entries + x)) l o) ≡ appended (listsIn L) s named text
       some-in l o el eo er =
-          (λ i. listsOf (same-lengths (set usedMore 4 (countsFound .entries + x)) l o (length-set usedMore 4 (countsFound .entries + x) ∙ more-long) el eo i) (counts-are i) ((er ∙ ap (λ (U : Used). update (U .rows) (U .used) (newRow s (countsFound .sent s) named text)) made) i))
+          (λ i. plainFrom (same-lengths (set usedMore 4 (countsFound .entries + x)) l o (length-set usedMore 4 (countsFound .entries + x) ∙ more-long) el eo i) (counts-are i) ((er ∙ ap (λ (U : Used). update (U .rows) (U .used) (newRow s (countsFound .sent s) named text)) made) i))
           ∙ sent-to-some (lentRight L) countsFound rowsFound (facts-of L passes) s named text granted (omega arith)
 
 -- a send that is not refused

@@ -16,14 +16,14 @@ use Rattle.list_rows.specs.Rows.{Row, listed, members, rowsIn}
 use Rattle.lists.specs.Calls.{ListsMet}
 use Rattle.lists.proofs.CountLaws.{word-put}
 use Rattle.lists.proofs.Checks.{refused-met, accepted-met}
-use Rattle.lists.specs.View.{LentLists, Counts, countWords, countsOf, countsIn, listsOf, listsIn, lentRight}
+use Rattle.lists.specs.View.{LentLists, Counts, countWords, countsOf, countsIn, plainFrom, listsIn, lentRight}
 use Rattle.lists.proofs.Facts.{words-right}
 
 -- counts without a row, an entry or a send
 abbrev pub noSends : ℕ → ℕ → ℕ → Counts
 noSends mark n k = record { mark = mark; stations = n; carts = k; used = 0; entries = 0; sent = λ s. 0 }
 
-pub afresh : (mark n k : ℕ) (T : ℕ → Row) → listsOf true (noSends mark n k) T ≡ plainAfresh (eqb mark 1) n k
+pub afresh : (mark n k : ℕ) (T : ℕ → Row) → plainFrom true (noSends mark n k) T ≡ plainAfresh (eqb mark 1) n k
 unfolding listed members sum
 afresh mark n k T = λ i. record {
   lengthsRight = true;
@@ -37,7 +37,7 @@ afresh mark n k T = λ i. record {
 
 pub afresh-in : (L : LentLists) (mark n k : ℕ) → lentRight L ≡ true → countsIn (L .counts) ≡ noSends mark n k → listsIn L ≡ plainAfresh (eqb mark 1) n k
 afresh-in L mark n k lengths counts =
-    ap₂ (λ (b : Bool) (N : Counts). listsOf b N (rowsIn (L .sends) (L .octets))) lengths counts ∙ afresh mark n k (rowsIn (L .sends) (L .octets))
+    ap₂ (λ (b : Bool) (N : Counts). plainFrom b N (rowsIn (L .sends) (L .octets))) lengths counts ∙ afresh mark n k (rowsIn (L .sends) (L .octets))
 
 -- A START
 

@@ -19,7 +19,7 @@ use Rattle.protocol.proofs.PlainLaws.{refused-call-alone}
 use Rattle.ids.specs.declared.MessageNumber.{MessageNumber}
 use Rattle.lists.specs.declared.Reply.the-variants.{Refused, Took}
 use Rattle.list_rows.specs.Rows.{Row, textRoom, mostRows, waits, listed, firstWaiting, members, takenBy, rowsIn}
-use Rattle.lists.specs.View.{LentLists, lentLists, Counts, countsIn, lentRight, layoutRule, listsOf, listsIn}
+use Rattle.lists.specs.View.{LentLists, lentLists, Counts, countsIn, lentRight, layoutRule, plainFrom, listsIn}
 use Rattle.lists.specs.Calls.{replyOf, withText, ListsHanded, ListsReady, takeChecks}
 use Rattle.list_rows.proofs.PutLaws.{text-length}
 use Rattle.list_rows.proofs.ListLaws.{listed-none, afterTake, taken-list, taken-others, taken-members, taken-rule}
@@ -86,7 +86,7 @@ module _ (lengths : Bool) (N : Counts) (T : ℕ → Row) (F : Facts N T) (s c m 
       (λ e. let b = both-equal u s d c e in rw e (rw (b .0, b .1) (sym (ap (drop 1) whole-list))))
       (λ e. rw e (taken-others T s c m (H .waiting) (N .used) u d (not-both-equal u s d c e)))
 
-  pub taken : listsOf lengths (withEntries N (N .entries - 1)) rowsThen ≡ beheaded (listsOf lengths N T) s c
+  pub taken : plainFrom lengths (withEntries N (N .entries - 1)) rowsThen ≡ beheaded (plainFrom lengths N T) s c
   unfolding beheaded
   taken = λ i. record {
     lengthsRight = lengths;
@@ -173,7 +173,7 @@ module _ (L : LentLists) (R : ListsReady L) (s c : ℕ) where
 
           lists-are : listsIn (lentLists l k (L .octets)) ≡ beheaded (listsIn L) s c
           lists-are =
-              (λ i. listsOf (lengths-then i) (counts-then i) (er i))
+              (λ i. plainFrom (lengths-then i) (counts-then i) (er i))
               ∙ taken (lentRight L) (countsIn (L .counts)) rowsHere (facts-of L take-passes) s c m (take-granted .cart) its-head
 
           pub take-met : n .0 ≡ rowsHere m .number → size ≡ rowsHere m .size → buffer′ ≡ rowsHere m .text ++ drop (rowsHere m .size) buffer

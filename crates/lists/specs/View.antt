@@ -58,8 +58,8 @@ layoutRule N T =
     (eq (N .entries) (members T (N .carts) (N .used))))
 
 -- the lists of these counts and rows
-abbrev pub listsOf : Bool → Counts → (ℕ → Row) → Plain
-listsOf lengths N T =
+abbrev pub plainFrom : Bool → Counts → (ℕ → Row) → Plain
+plainFrom lengths N T =
     record {
       lengthsRight = lengths;
       wordsRight = test (layoutRule N T);
@@ -72,4 +72,4 @@ listsOf lengths N T =
 
 -- THE LISTS
 abbrev pub listsIn : LentLists → Plain
-listsIn L = listsOf (lentRight L) (countsIn (L .counts)) (rowsIn (L .sends) (L .octets))
+listsIn L = plainFrom (lentRight L) (countsIn (L .counts)) (rowsIn (L .sends) (L .octets))

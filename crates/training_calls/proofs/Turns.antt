@@ -6,7 +6,6 @@ use mathlib.Core.Option.{Option, none}
 use Prim.{tt}
 use Prim.Native.Nat.{ℕ, zero, suc, _+_, _<_, _≤_}
 use native.Mathlib.Omega.{arith}
-use lib.Dec.{eqb}
 use lib.ListN.{length, drop}
 use lib.Seq.{drop-drop}
 use borrow.Author.Tests.{eq-eqb, ne-eqb}
@@ -17,7 +16,7 @@ use Rattle.protocol.specs.Step.{step}
 use Rattle.protocol.specs.Frames.{Reading, end, refusedFrame, taken, frameOf, readAt}
 use Rattle.protocol.specs.PlainLists.{PlainCall, callOf}
 use Rattle.protocol.proofs.Tests.{by-eq}
-use Rattle.view.specs.View.{Lent, floorIn}
+use Rattle.view.specs.View.{Lent}
 use Rattle.event_answers.specs.Met.{Ready}
 use Rattle.frame_run.specs.declared.Progress.{Progress}
 use Rattle.frame_run.specs.Piece.{Ran, runFrom}

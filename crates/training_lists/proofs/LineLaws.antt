@@ -9,7 +9,7 @@ use lib.ListN.{length, set, take, drop, length-append}
 use denote.Enum.Declared.{tagOf}
 use types.Run.{OneOf, miss}
 use Rattle.protocol.specs.Floor.{Limits, limits}
-use Rattle.protocol.specs.PlainLists.{Plain, PlainCall, plainStart, plainSend, plainTake, PlainAnswer, plainRefused, plainBegun, plainSent, plainTook, plainAnswer, plainStep, Exchange, exchanged, fed, headLine, headLines}
+use Rattle.protocol.specs.PlainLists.{Plain, PlainCall, plainStart, plainSend, plainTake, PlainAnswer, plainRefused, plainBegun, plainSent, plainTook, plainAnswer, Exchange, exchanged, fed, headLine, headLines}
 use Rattle.protocol.specs.Printed.{decimal, field}
 use Rattle.frame_lines.specs.Lines.{written, Wrote, Began, longestNumber, longestPair}
 use Rattle.frame_lines.proofs.Octets.{written-none, wrote-one, wrote-then, began-then, written-then}
@@ -19,7 +19,7 @@ use Rattle.lists.specs.declared.Reply.{Reply}
 use Rattle.lists.specs.declared.Reply.the-variants.{Refused, Begun, Sent, Took}
 use Rattle.lists.proofs.Reply.{the-type as reply-type}
 use Rattle.lists.specs.View.{LentLists, listsIn}
-use Rattle.lists.specs.Calls.{replyOf, ListsReady, ListsMet, ListsHanded}
+use Rattle.lists.specs.Calls.{replyOf, ListsReady, ListsMet}
 use Rattle.lists.proofs.Readies.{stays-ready}
 use Rattle.training_rows.specs.declared.Call.{Call}
 use Rattle.training_rows.specs.declared.Call.the-variants.{Send}

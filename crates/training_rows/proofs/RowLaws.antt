@@ -1,6 +1,5 @@
 -- CALLS IN ROWS: a call is read as it was written, and a row written leaves the rows before it.
 use mathlib.Core.Path.{_≡_, refl, ap, ap₂, fun-ext, _∙_}
-use mathlib.Core.Bool.{Bool, cond}
 use mathlib.Core.List.{List, _∷_, [], _++_}
 use mathlib.Core.Option.{Option}
 use Prim.Native.Nat.{ℕ, zero, suc, _<_}
@@ -14,7 +13,7 @@ use Rattle.rows.specs.Rows.{cell}
 use Rattle.training_rows.specs.declared.Call.{Call}
 use Rattle.training_rows.specs.declared.Call.the-variants.{Nothing, Start, Send, Take}
 use Rattle.training_rows.specs.declared.Words.{Words}
-use Rattle.training_rows.specs.Calls.{width, words, wordsOf, callOf, callsOf, callsIn, madeIn, madeBy}
+use Rattle.training_rows.specs.Calls.{width, wordsOf, callOf, callsOf, callsIn, madeIn, madeBy}
 
 -- THE WORDS SAY THE CALL
 pub read-as-written : (call : Call) → callOf (wordsOf call) ≡ call

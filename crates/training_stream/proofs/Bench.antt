@@ -1,27 +1,26 @@
 -- THE BENCH PRINTS THE WRITTEN LINES: however an input is cut into reads, what the turns hand on, one after the other, is `plainRun` of the input.
-use mathlib.Core.Path.{_≡_, refl, sym, ap, ap₂, _∙_, subst}
-use mathlib.Core.Bool.{Bool, true, false}
+use mathlib.Core.Path.{_≡_, refl, sym, ap, _∙_, subst}
+use mathlib.Core.Bool.{true, false}
 use mathlib.Core.List.{List, [], _∷_, _++_, append-nil, append-assoc}
 use mathlib.Core.Option.{Option}
 use mathlib.Core.Logic.{_⊎_, ⊎-elim}
-use Prim.Native.Nat.{ℕ, suc, _+_, _<_}
+use Prim.Native.Nat.{ℕ, suc, _+_}
 use native.Mathlib.Omega.{arith}
 use lib.ListN.{length, drop}
 use borrow.Author.Tests.{eqb-true}
-use Rattle.protocol.specs.Folds.{isEmpty}
 use Rattle.protocol.specs.Floor.{Floor, wholeFloor, limits, unstarted}
-use Rattle.protocol.specs.Frames.{Reading, end, refusedFrame, readAt}
+use Rattle.protocol.specs.Frames.{Reading, end, readAt}
 use Rattle.protocol.specs.PlainLists.{Plain, PlainCall, Exchange, plainUnstarted, exchanges, headLines, plainRun}
 use Rattle.protocol.proofs.Tests.{by-test, clash}
 use Rattle.frame_run.specs.Piece.{Ran, runFrom}
 use Rattle.frame_run.specs.CanRun.{Unstarted}
 use Rattle.frame_run.specs.Went.{EndsRun}
-use Rattle.frame_stream.specs.Stream.{Stream, begin, Turn, brought, failed, ran, after, broughtIn, handed, Stops, MayBy, TurnsBy, streamAfter, broughtBy, handedBy, Behind}
+use Rattle.frame_stream.specs.Stream.{Stream, begin, Turn, brought, failed, ran, after, broughtIn, handed, Stops, MayBy, TurnsBy, streamAfter, broughtBy, Behind}
 use Rattle.frame_stream.proofs.Stream.{SoFar, Holds, holds-first, holds-next, so-far}
 use Rattle.training_calls.specs.Calls.{callsFrom}
 use Rattle.training_lists.specs.Lines.{plainFed, exchangesOf}
 use Rattle.training_lists.proofs.LineLaws.{lines-more}
-use Rattle.training_stream.specs.Bench.{rowsFill, BenchTurns, listsBehind, linesOf, linesBy, listsAfter, BenchIs}
+use Rattle.training_stream.specs.Bench.{rowsFill, BenchTurns, listsBehind, linesOf, linesBy, listsBy, BenchIs}
 use Rattle.training_stream.proofs.CallRuns.{exchanges-so, fed-both, exchanges-both, calls-count, calls-go-on, calls-end, no-calls, calls-stand, calls-enough, calls-alike}
 
 -- the lines of calls from the first frame on
@@ -107,19 +106,19 @@ feeds-next F B H H′ S Q (ran n why accepted) h f may =
 
 -- ALL OF THEM
 feeds-after : (F : Floor) (B H H′ : List ℕ) (S : Stream) (Q : Plain) (ts : List Turn) → Holds wholeFloor F B H′ S → Feeds F B H S Q → BenchTurns S ts
-    → Feeds F (B ++ broughtBy ts) (H ++ linesBy S Q ts) (streamAfter S ts) (listsAfter S Q ts)
-unfolding TurnsBy streamAfter broughtBy linesBy listsAfter
+    → Feeds F (B ++ broughtBy ts) (H ++ linesBy S Q ts) (streamAfter S ts) (listsBy S Q ts)
+unfolding TurnsBy streamAfter broughtBy linesBy listsBy
 feeds-after F B H H′ S Q [] h f made =
     subst (λ (x : List ℕ). Feeds F (B ++ []) x S Q) (sym (append-nil H)) (subst (λ (y : List ℕ). Feeds F y H S Q) (sym (append-nil B)) f)
 feeds-after F B H H′ S Q (m ∷ ts) h f made =
     let S′ = after S m in
     let Q′ = listsBehind S Q m in
     let rest = feeds-after F (B ++ broughtIn m) (H ++ linesOf S Q m) (H′ ++ handed S m) S′ Q′ ts (holds-next rowsFill wholeFloor F B H′ S m h (made .0)) (feeds-next F B H H′ S Q m h f (made .0)) (made .1) in
-    subst (λ (x : List ℕ). Feeds F (B ++ (broughtIn m ++ broughtBy ts)) x (streamAfter S′ ts) (listsAfter S′ Q′ ts)) (append-assoc H (linesOf S Q m) (linesBy S′ Q′ ts))
-    (subst (λ (y : List ℕ). Feeds F y ((H ++ linesOf S Q m) ++ linesBy S′ Q′ ts) (streamAfter S′ ts) (listsAfter S′ Q′ ts)) (append-assoc B (broughtIn m) (broughtBy ts)) rest)
+    subst (λ (x : List ℕ). Feeds F (B ++ (broughtIn m ++ broughtBy ts)) x (streamAfter S′ ts) (listsBy S′ Q′ ts)) (append-assoc H (linesOf S Q m) (linesBy S′ Q′ ts))
+    (subst (λ (y : List ℕ). Feeds F y ((H ++ linesOf S Q m) ++ linesBy S′ Q′ ts) (streamAfter S′ ts) (listsBy S′ Q′ ts)) (append-assoc B (broughtIn m) (broughtBy ts)) rest)
 
 all-fed : (F : Floor) (ts : List Turn) → BenchTurns (begin wholeFloor F) ts
-    → Feeds F (broughtBy ts) (linesBy (begin wholeFloor F) plainUnstarted ts) (streamAfter (begin wholeFloor F) ts) (listsAfter (begin wholeFloor F) plainUnstarted ts)
+    → Feeds F (broughtBy ts) (linesBy (begin wholeFloor F) plainUnstarted ts) (streamAfter (begin wholeFloor F) ts) (listsBy (begin wholeFloor F) plainUnstarted ts)
 all-fed F ts made = feeds-after F [] [] [] (begin wholeFloor F) plainUnstarted ts (holds-first wholeFloor F) (feeds-first F) made
 
 -- THE WRITTEN LINES, with as many turns more as were made
@@ -179,5 +178,5 @@ bench-is F U ts made =
     S : Stream
     S = streamAfter (begin wholeFloor F) ts
 
-    f : Feeds F (broughtBy ts) (linesBy (begin wholeFloor F) plainUnstarted ts) S (listsAfter (begin wholeFloor F) plainUnstarted ts)
+    f : Feeds F (broughtBy ts) (linesBy (begin wholeFloor F) plainUnstarted ts) S (listsBy (begin wholeFloor F) plainUnstarted ts)
     f = all-fed F ts made

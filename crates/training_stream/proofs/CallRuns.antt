@@ -2,7 +2,7 @@
 use mathlib.Core.Path.{_≡_, refl, sym, ap, ap₂, _∙_}
 use mathlib.Core.Bool.{Bool, true, false, not, cond}
 use mathlib.Core.List.{List, [], _∷_, _++_, append-assoc}
-use mathlib.Core.Option.{Option, none}
+use mathlib.Core.Option.{Option}
 use mathlib.Core.Logic.{⊎-elim}
 use Prim.Native.Nat.{ℕ, zero, suc, _+_, _<_}
 use native.Mathlib.Omega.{arith}
@@ -22,7 +22,7 @@ use Rattle.protocol.proofs.Tests.{clash}
 use Rattle.protocol.proofs.Theorems.{form-unstarted}
 use Rattle.frames.proofs.Stands.{frame-stands}
 use Rattle.frames.proofs.Values.{taken-inside}
-use Rattle.frame_run.specs.Piece.{Ran, runFrom}
+use Rattle.frame_run.specs.Piece.{runFrom}
 use Rattle.frame_run.specs.CanRun.{Unstarted}
 use Rattle.frame_run.proofs.Whole.{taken-front}
 use Rattle.frame_run.proofs.Printed.{answers-alike, steps-alike}

@@ -4,7 +4,7 @@ use mathlib.Core.Bool.{Bool, true, false}
 use mathlib.Core.List.{List, [], _∷_, _++_}
 use mathlib.Core.Logic.{inl, inr}
 use Prim.{tt}
-use Prim.Native.Nat.{ℕ, _+_, _-_, _<_, _≤_}
+use Prim.Native.Nat.{ℕ, _+_, _-_}
 use native.Mathlib.Omega.{arith}
 use lib.Dec.{eqb, ltb}
 use lib.ListN.{length, length-append}
@@ -12,7 +12,6 @@ use borrow.Author.Tests.{eqb-true, ltb-false}
 use Rattle.protocol.specs.Floor.{Floor, wholeFloor}
 use Rattle.protocol.specs.PlainLists.{Plain, plainUnstarted}
 use Rattle.protocol.proofs.Tests.{by-test, clash}
-use Rattle.view.specs.View.{floorIn}
 use Rattle.frame_stream.specs.declared.Feed.{Feed}
 use Rattle.frame_stream.specs.declared.Ending.{Ending}
 use Rattle.frame_stream.specs.Stream.{Stream, begin, Turn, after, MayBy, TurnsBy, streamAfter}
@@ -21,11 +20,11 @@ use Rattle.frame_stream.proofs.Loop.{after-more, turns-more, going}
 use Rattle.frame_stream.proofs.Feeds.{part-length}
 use Rattle.training_stream.specs.declared.FloorMemory.{FloorMemory}
 use Rattle.training_stream.specs.Memory.{lentIn}
-use Rattle.training_stream.specs.Bench.{rowsFill, BenchTurns, listsBehind, listsAfter}
+use Rattle.training_stream.specs.Bench.{rowsFill, BenchTurns, listsBehind, listsBy}
 use Rattle.training_stream.specs.Feeds.{BenchMade, BenchRan}
 
-lists-more : (S : Stream) (Q : Plain) (ts : List Turn) (m : Turn) → listsAfter S Q (ts ++ (m ∷ [])) ≡ listsBehind (streamAfter S ts) (listsAfter S Q ts) m
-unfolding streamAfter listsAfter
+lists-more : (S : Stream) (Q : Plain) (ts : List Turn) (m : Turn) → listsBy S Q (ts ++ (m ∷ [])) ≡ listsBehind (streamAfter S ts) (listsBy S Q ts) m
+unfolding streamAfter listsBy
 lists-more S Q [] m = refl
 lists-more S Q (x ∷ ts) m = lists-more (after S x) (listsBehind S Q x) ts m
 
@@ -34,11 +33,11 @@ pub record Came (F : Floor) (S : Stream) (Q : Plain) (left : ℕ) : Type 0 where
   pub turns : List Turn
   pub made : BenchTurns (begin wholeFloor F) turns
   pub there : S ≡ streamAfter (begin wholeFloor F) turns
-  pub lists : Q ≡ listsAfter (begin wholeFloor F) plainUnstarted turns
+  pub lists : Q ≡ listsBy (begin wholeFloor F) plainUnstarted turns
   pub counted : length turns + left ≡ 18446744073709551615
 
 pub came-first : (F : Floor) (Q : Plain) → Q ≡ plainUnstarted → Came F (begin wholeFloor F) Q 18446744073709551615
-unfolding TurnsBy streamAfter listsAfter
+unfolding TurnsBy streamAfter listsBy
 came-first F Q e = record { turns = []; made = tt; there = refl; lists = e; counted = refl }
 
 pub came-next : (F : Floor) (S S′ : Stream) (Q Q′ : Plain) (octets : List ℕ) (turns left : ℕ) → Came F S Q turns → BenchMade S S′ Q Q′ octets → left + 1 ≡ turns → Came F S′ Q′ left

@@ -6,8 +6,7 @@ use native.Mathlib.Omega.{arith}
 use lib.ListN.{length, take, drop}
 use Rattle.protocol.specs.Floor.{wholeFloor, limits}
 use Rattle.protocol.specs.Frames.{readAt}
-use Rattle.protocol.specs.PlainLists.{Plain, Exchange, headLines}
-use Rattle.view.specs.View.{Lent, floorIn}
+use Rattle.protocol.specs.PlainLists.{Plain, headLines}
 use Rattle.frame_run.specs.declared.Progress.{Progress}
 use Rattle.frame_run.specs.Went.{NoneWhole, EndsRun}
 use Rattle.frame_run.proofs.Whole.{few-left}
@@ -25,7 +24,7 @@ use Rattle.training_calls.specs.Gone.{Gone}
 use Rattle.training_lists.specs.Lines.{plainFed, exchangesOf, Fed}
 use Rattle.training_stream.specs.declared.FloorMemory.{FloorMemory}
 use Rattle.training_stream.specs.Memory.{lentIn}
-use Rattle.training_stream.specs.Bench.{rowsFill, listsBehind, linesOf}
+use Rattle.training_stream.specs.Bench.{listsBehind, linesOf}
 use Rattle.training_stream.specs.Feeds.{BenchMade}
 use Rattle.training_stream.proofs.CallRuns.{exchanges-so}
 

@@ -2,10 +2,9 @@
 -- lists, and the lines of the takes are handed on. Reads, turns and the floor's side are those of the stream of `floor`.
 use mathlib.Core.Path.{_≡_}
 use mathlib.Core.List.{List, [], _∷_, _++_}
-use mathlib.Core.Option.{Option}
 use Prim.Native.Nat.{ℕ}
 use Rattle.protocol.specs.Floor.{Floor, wholeFloor, limits}
-use Rattle.protocol.specs.PlainLists.{Plain, PlainCall, plainUnstarted, exchangesFrom, headLines, plainRun}
+use Rattle.protocol.specs.PlainLists.{Plain, plainUnstarted, exchangesFrom, headLines, plainRun}
 use Rattle.frame_stream.specs.Stream.{Stream, begin, Turn, brought, failed, ran, after, TurnsBy, streamAfter, broughtBy, Behind}
 use Rattle.training_calls.specs.Calls.{callsFrom}
 use Rattle.training_lists.specs.Lines.{plainFed}
@@ -31,9 +30,9 @@ linesOf S Q failed = []
 linesOf S Q (ran n why accepted) = headLines (exchangesFrom limits n (S .floor) Q (S .index) (S .left))
 
 -- after all turns
-unfoldable pub listsAfter : Stream → Plain → List Turn → Plain
-listsAfter S Q [] = Q
-listsAfter S Q (t ∷ ts) = listsAfter (after S t) (listsBehind S Q t) ts
+unfoldable pub listsBy : Stream → Plain → List Turn → Plain
+listsBy S Q [] = Q
+listsBy S Q (t ∷ ts) = listsBy (after S t) (listsBehind S Q t) ts
 
 -- all that they handed on, one after the other
 unfoldable pub linesBy : Stream → Plain → List Turn → List ℕ

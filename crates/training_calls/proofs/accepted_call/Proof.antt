@@ -5,8 +5,6 @@ use Rattle.training_calls.specs.Calls.{callFor}
 use borrow.Author.Needs.{needs}
 use Rattle.training_calls.proofs.accepted_call.Statement.{statement}
 use Rattle.training_calls.proofs.accepted_call.Tie as tie
-use Rattle.training_calls.proofs.accepted_call.Reads as reads
-use Rattle.training_calls.proofs.accepted_call.Lts as lts
 
 enum-known-e : tie.Need-enum-known-e
 enum-known-e c = search needs

@@ -6,9 +6,6 @@ use Rattle.training_calls.specs.Calls.{callFor}
 use borrow.Author.Needs.{needs}
 use Rattle.training_calls.proofs.call_of.Statement.{statement}
 use Rattle.training_calls.proofs.call_of.Tie as tie
-use Rattle.training_calls.proofs.call_of.Reads as reads
-use Rattle.training_calls.proofs.call_of.Lts as lts
-use Rattle.training_calls.proofs.accepted_call.Reads as accepted-call-reads
 
 returns : tie.Need-returns
 returns c = search needs

@@ -2,8 +2,6 @@
 use Rattle.training_calls.proofs.Loop.{not-going, by-row}
 use Rattle.training_calls.proofs.goes_on.Statement.{statement}
 use Rattle.training_calls.proofs.goes_on.Tie as tie
-use Rattle.training_calls.proofs.goes_on.Reads as reads
-use Rattle.training_calls.proofs.goes_on.Lts as lts
 
 returns : tie.Need-returns
 returns c = not-going (c .before .before .args .p) (c .if1 .taken)

@@ -7,9 +7,6 @@ use Rattle.training_calls.proofs.CallLaws.{no-group, no-members}
 use borrow.Author.Needs.{needs}
 use Rattle.training_calls.proofs.members_for.Statement.{statement}
 use Rattle.training_calls.proofs.members_for.Tie as tie
-use Rattle.training_calls.proofs.members_for.Reads as reads
-use Rattle.training_calls.proofs.members_for.Lts as lts
-use Rattle.stations.proofs.group_of.Reads as group-of-reads
 
 enum-known-e : tie.Need-enum-known-e
 enum-known-e c = search needs

@@ -9,11 +9,6 @@ use Rattle.training_calls.proofs.CallLaws.{made-so, text-there}
 use borrow.Author.Needs.{needs}
 use Rattle.training_calls.proofs.take_event.Statement.{statement}
 use Rattle.training_calls.proofs.take_event.Tie as tie
-use Rattle.training_calls.proofs.take_event.Reads as reads
-use Rattle.training_calls.proofs.take_event.Lts as lts
-use Rattle.frame_run.proofs.dispatch.Reads as dispatch-reads
-use Rattle.training_calls.proofs.call_of.Reads as call-of-reads
-use Rattle.training_calls.proofs.members_for.Reads as members-for-reads
 
 members-for-requires : tie.Need-members-for-requires
 members-for-requires c κs =

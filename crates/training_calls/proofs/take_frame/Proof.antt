@@ -10,15 +10,6 @@ use Rattle.training_calls.proofs.Turns.{turned-waits, refused-row, take
 use borrow.Author.Needs.{needs}
 use Rattle.training_calls.proofs.take_frame.Statement.{statement}
 use Rattle.training_calls.proofs.take_frame.Tie as tie
-use Rattle.training_calls.proofs.take_frame.Reads as reads
-use Rattle.training_calls.proofs.take_frame.Lts as lts
-use Rattle.frame_run.proofs.none_whole.Reads as none-whole-reads
-use Rattle.frame_run.proofs.waiting.Reads as waiting-reads
-use Rattle.frames.proofs.frame_at.Reads as frame-at-reads
-use Rattle.frames.proofs.refusal.Reads as refusal-reads
-use Rattle.training_calls.proofs.put_row.Reads as put-row-reads
-use Rattle.training_calls.proofs.refused_frame.Reads as refused-frame-reads
-use Rattle.training_calls.proofs.take_event.Reads as take-event-reads
 
 frame-at-requires : tie.Need-frame-at-requires
 frame-at-requires c κs = search needs

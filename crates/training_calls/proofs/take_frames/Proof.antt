@@ -8,10 +8,6 @@ use Rattle.training_calls.proofs.Loop.{Going, going-first, going-next, 
 use borrow.Author.Needs.{needs}
 use Rattle.training_calls.proofs.take_frames.Statement.{statement}
 use Rattle.training_calls.proofs.take_frames.Tie as tie
-use Rattle.training_calls.proofs.take_frames.Reads as reads
-use Rattle.training_calls.proofs.take_frames.Lts as lts
-use Rattle.training_calls.proofs.goes_on.Reads as goes-on-reads
-use Rattle.training_calls.proofs.take_frame.Reads as take-frame-reads
 
 abbrev Inv-loop : tie.InvT-loop
 Inv-loop input calls₀ stations₀ carts₀ messages₀ lines₀ texts₀ bounds numbers last p₀ calls stations carts messages lines texts p =

@@ -7,11 +7,6 @@ use Rattle.training_lists.proofs.LineLaws.{none-made, start-made, part-
 use borrow.Author.Needs.{needs}
 use Rattle.training_lists.proofs.make_call.Statement.{statement}
 use Rattle.training_lists.proofs.make_call.Tie as tie
-use Rattle.training_lists.proofs.make_call.Reads as reads
-use Rattle.training_lists.proofs.make_call.Lts as lts
-use Rattle.lists.proofs.send.Reads as send-reads
-use Rattle.lists.proofs.start.Reads as start-reads
-use Rattle.training_lists.proofs.take.Reads as take-reads
 
 enum-told : tie.Need-enum-told
 enum-told c = search needs

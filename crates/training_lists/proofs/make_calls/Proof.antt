@@ -14,10 +14,6 @@ use Rattle.training_lists.specs.Lines.{headRoom, Fed}
 use Rattle.training_lists.proofs.LineLaws.{fed-none, fed-turn}
 use Rattle.training_lists.proofs.make_calls.Statement.{statement}
 use Rattle.training_lists.proofs.make_calls.Tie as tie
-use Rattle.training_lists.proofs.make_calls.Reads as reads
-use Rattle.training_lists.proofs.make_calls.Lts as lts
-use Rattle.training_lists.proofs.make_call.Reads as make-call-reads
-use Rattle.training_rows.proofs.call_at.Reads as call-at-reads
 
 abbrev Inv-loop : tie.InvT-loop
 Inv-loop counts₀ sends₀ octets₀ input calls frames output₀ numbers index row₀ at₀ counts sends octets output row at =

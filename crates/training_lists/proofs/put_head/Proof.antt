@@ -5,10 +5,6 @@ use Rattle.training_lists.proofs.LineLaws.{head-written}
 use borrow.Author.Needs.{needs}
 use Rattle.training_lists.proofs.put_head.Statement.{statement}
 use Rattle.training_lists.proofs.put_head.Tie as tie
-use Rattle.training_lists.proofs.put_head.Reads as reads
-use Rattle.training_lists.proofs.put_head.Lts as lts
-use Rattle.frame_lines.proofs.put_index.Reads as put-index-reads
-use Rattle.frame_lines.proofs.put_two_fields.Reads as put-two-fields-reads
 
 put-index-requires : tie.Need-put-index-requires
 put-index-requires c κs = search needs

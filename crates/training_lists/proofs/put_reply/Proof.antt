@@ -4,9 +4,6 @@ use denote.Ref.{now}
 use Rattle.training_lists.proofs.LineLaws.{no-reply, took-written}
 use Rattle.training_lists.proofs.put_reply.Statement.{statement}
 use Rattle.training_lists.proofs.put_reply.Tie as tie
-use Rattle.training_lists.proofs.put_reply.Reads as reads
-use Rattle.training_lists.proofs.put_reply.Lts as lts
-use Rattle.training_lists.proofs.put_head.Reads as put-head-reads
 
 enum-known-reply : tie.Need-enum-known-reply
 enum-known-reply c = search needs

@@ -5,10 +5,6 @@ use Rattle.training_lists.proofs.LineLaws.{take-made}
 use borrow.Author.Needs.{needs}
 use Rattle.training_lists.proofs.take.Statement.{statement}
 use Rattle.training_lists.proofs.take.Tie as tie
-use Rattle.training_lists.proofs.take.Reads as reads
-use Rattle.training_lists.proofs.take.Lts as lts
-use Rattle.lists.proofs.take.Reads as take-reads
-use Rattle.training_lists.proofs.put_reply.Reads as put-reply-reads
 
 take-requires : tie.Need-take-requires
 take-requires c κs = search needs

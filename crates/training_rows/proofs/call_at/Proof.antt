@@ -1,13 +1,9 @@
 -- `training_rows::call_at` meets its contract.
-use mathlib.Core.Path.{_∙_, ap}
+use mathlib.Core.Path.{_∙_}
 use Rattle.training_rows.specs.Calls.{words, callOf}
 use borrow.Author.Needs.{needs}
 use Rattle.training_rows.proofs.call_at.Statement.{statement}
 use Rattle.training_rows.proofs.call_at.Tie as tie
-use Rattle.training_rows.proofs.call_at.Reads as reads
-use Rattle.training_rows.proofs.call_at.Lts as lts
-use Rattle.rows.proofs.word_at.Reads as word-at-reads
-use Rattle.training_rows.proofs.call_of.Reads as call-of-reads
 
 word-at-requires : tie.Need-word-at-requires
 word-at-requires c κs = search needs

@@ -2,8 +2,6 @@
 use Rattle.training_rows.proofs.RowLaws.{a-start, a-send, a-take, no-call}
 use Rattle.training_rows.proofs.call_of.Statement.{statement}
 use Rattle.training_rows.proofs.call_of.Tie as tie
-use Rattle.training_rows.proofs.call_of.Reads as reads
-use Rattle.training_rows.proofs.call_of.Lts as lts
 
 returns : tie.Need-returns
 returns c = a-start (c .before .before .args .w) (c .if1 .taken)

@@ -3,10 +3,6 @@ use Rattle.training_rows.proofs.RowLaws.{call-put}
 use borrow.Author.Needs.{needs}
 use Rattle.training_rows.proofs.put_call.Statement.{statement}
 use Rattle.training_rows.proofs.put_call.Tie as tie
-use Rattle.training_rows.proofs.put_call.Reads as reads
-use Rattle.training_rows.proofs.put_call.Lts as lts
-use Rattle.rows.proofs.put_word.Reads as put-word-reads
-use Rattle.training_rows.proofs.words_of.Reads as words-of-reads
 
 words-of-requires : tie.Need-words-of-requires
 words-of-requires c κs = search needs

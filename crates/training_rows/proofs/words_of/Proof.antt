@@ -4,8 +4,6 @@ use Rattle.training_rows.specs.Calls.{wordsOf}
 use borrow.Author.Needs.{needs}
 use Rattle.training_rows.proofs.words_of.Statement.{statement}
 use Rattle.training_rows.proofs.words_of.Tie as tie
-use Rattle.training_rows.proofs.words_of.Reads as reads
-use Rattle.training_rows.proofs.words_of.Lts as lts
 
 enum-told : tie.Need-enum-told
 enum-told c = search needs

@@ -4,13 +4,6 @@ use Rattle.frame_stream.proofs.Fresh.{fresh, fresh-ready, floor-lengths}
 use borrow.Author.Needs.{needs}
 use Rattle.training_stream.proofs.no_floor.Statement.{statement}
 use Rattle.training_stream.proofs.no_floor.Tie as tie
-use Rattle.training_stream.proofs.no_floor.Reads as reads
-use Rattle.training_stream.proofs.no_floor.Lts as lts
-use Rattle.frame_stream.proofs.no_carts.Reads as no-carts-reads
-use Rattle.frame_stream.proofs.no_lines.Reads as no-lines-reads
-use Rattle.frame_stream.proofs.no_messages.Reads as no-messages-reads
-use Rattle.frame_stream.proofs.no_stations.Reads as no-stations-reads
-use Rattle.frame_stream.proofs.no_texts.Reads as no-texts-reads
 
 no-stations-requires : tie.Need-no-stations-requires
 no-stations-requires c κs = search needs

@@ -4,11 +4,6 @@ use Rattle.training_stream.proofs.Fresh.{fresh-lists, unstarted-lists, 
 use borrow.Author.Needs.{needs}
 use Rattle.training_stream.proofs.run.Statement.{statement}
 use Rattle.training_stream.proofs.run.Tie as tie
-use Rattle.training_stream.proofs.run.Reads as reads
-use Rattle.training_stream.proofs.run.Lts as lts
-use Rattle.training_stream.proofs.no_counts.Reads as no-counts-reads
-use Rattle.training_stream.proofs.no_floor.Reads as no-floor-reads
-use Rattle.training_stream.proofs.run_over.Reads as run-over-reads
 
 no-counts-requires : tie.Need-no-counts-requires
 no-counts-requires c κs = search needs

@@ -4,7 +4,6 @@ use mathlib.Core.Path.{_≡_, refl, sym, _∙_}
 use native.Mathlib.Omega.{arith}
 use lib.ListN.{length}
 use borrow.Author.Needs.{needs}
-use denote.Ref.{now}
 use Rattle.event_answers.specs.Met.{Ready}
 use Rattle.view.specs.View.{floorIn}
 use Rattle.frame_stream.specs.Feed.{Inside, streamOf}
@@ -16,10 +15,6 @@ use Rattle.training_stream.specs.Memory.{lentIn}
 use Rattle.training_stream.proofs.Loop.{Came, came-first, came-next, bench-ran}
 use Rattle.training_stream.proofs.run_all.Statement.{statement}
 use Rattle.training_stream.proofs.run_all.Tie as tie
-use Rattle.training_stream.proofs.run_all.Reads as reads
-use Rattle.training_stream.proofs.run_all.Lts as lts
-use Rattle.frame_stream.proofs.goes_on.Reads as goes-on-reads
-use Rattle.training_stream.proofs.turn.Reads as turn-reads
 
 abbrev Inv-loop : tie.InvT-loop
 Inv-loop from to input₀ output₀ calls₀ counts₀ sends₀ octets₀ numbers floor₀ f₀ turns₀ input output calls counts sends octets floor f turns =

@@ -4,10 +4,6 @@ use Rattle.protocol.specs.Floor.{wholeFloor}
 use borrow.Author.Needs.{needs}
 use Rattle.training_stream.proofs.run_floor.Statement.{statement}
 use Rattle.training_stream.proofs.run_floor.Tie as tie
-use Rattle.training_stream.proofs.run_floor.Reads as reads
-use Rattle.training_stream.proofs.run_floor.Lts as lts
-use Rattle.products.proofs.floor_bounds.Reads as floor-bounds-reads
-use Rattle.training_calls.proofs.take_frames.Reads as take-frames-reads
 
 slice-aggregate-take-frames : tie.Need-slice-aggregate-take-frames
 slice-aggregate-take-frames c = search needs

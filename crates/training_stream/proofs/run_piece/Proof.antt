@@ -9,12 +9,6 @@ use Rattle.training_stream.proofs.Turns.{run-made, run-inside}
 use borrow.Author.Needs.{needs}
 use Rattle.training_stream.proofs.run_piece.Statement.{statement}
 use Rattle.training_stream.proofs.run_piece.Tie as tie
-use Rattle.training_stream.proofs.run_piece.Reads as reads
-use Rattle.training_stream.proofs.run_piece.Lts as lts
-use Rattle.frame_stream.proofs.after_run.Reads as after-run-reads
-use Rattle.frame_stream.proofs.hand_on.Reads as hand-on-reads
-use Rattle.training_lists.proofs.make_calls.Reads as make-calls-reads
-use Rattle.training_stream.proofs.run_floor.Reads as run-floor-reads
 
 sub-run-floor : tie.Need-sub-run-floor
 sub-run-floor c = search needs

@@ -8,10 +8,6 @@ use Rattle.training_stream.proofs.Turns.{read-made}
 use borrow.Author.Needs.{needs}
 use Rattle.training_stream.proofs.turn.Statement.{statement}
 use Rattle.training_stream.proofs.turn.Tie as tie
-use Rattle.training_stream.proofs.turn.Reads as reads
-use Rattle.training_stream.proofs.turn.Lts as lts
-use Rattle.frame_stream.proofs.more.Reads as more-reads
-use Rattle.training_stream.proofs.run_piece.Reads as run-piece-reads
 
 more-requires : tie.Need-more-requires
 more-requires c κs = search needs
