@@ -9,10 +9,10 @@ use lib.Dec.{eqb, ltb}
 use borrow.Author.Tests.{eq-eqb, eqb-false, eqb-true, ne-eqb}
 use Rattle.protocol.specs.Folds.{update}
 use Rattle.protocol.specs.CartSets.{has, union, without}
-use Rattle.protocol.specs.Floor.{Floor, Limits, Record, ackList, at, behead, delete, deregister, multicast, onLines, push, put, register, setWaiting, toEvery}
+use Rattle.protocol.specs.Floor.{Floor, Limits, Record, ackList, at, behead, delete, deregister, multicast, onLines, push, put, register, setWaiting, toEvery, setTexts}
 use Rattle.protocol.specs.Events.{Done}
 use Rattle.protocol.specs.Handoff.{roomOf}
-use Rattle.protocol.specs.Wired.{addAcks, onAckList, onDelete}
+use Rattle.protocol.specs.Wired.{addAcks, onAckList, onDelete, unbuffer}
 use Rattle.protocol.specs.Wireless.{allAcked}
 use Rattle.protocol.specs.Claims.{All}
 use Rattle.protocol.specs.Form.{ackCount, acksOf, acksTo, bit, countLine, countLines, isAckOf, isDeleteOf, multicastNumbers}
@@ -288,8 +288,8 @@ module _ (M : Limits) (F : Floor) (G : History) (s t n : ℕ) (l : List Record) 
     record-left a b lb (deregister d) g p o = g
     record-left a b lb (register d row) g p o = g
 
-    waiting-less-lines : LineFacts M (setWaiting (onLines F (behead s t (F .lines))) W)
-    waiting-less-lines =
+    waiting-less-lines : (x : ℕ → List ℕ) → LineFacts M (setTexts (setWaiting (onLines F (behead s t (F .lines))) W) x)
+    waiting-less-lines x =
         record {
           deleted-acked = λ k u h lu q. by-test (eqb k m) (λ z. let y = eqb-true k m z in rw y whole-set-acked) (λ z. X .deleted-acked k u (still-held k h) lu (off k u z q));
           records-held = λ a b la lb.
@@ -304,4 +304,4 @@ module _ (M : Limits) (F : Floor) (G : History) (s t n : ℕ) (l : List Record) 
 
   pub delete-lines : LineFacts M (onDelete M (onLines F (behead s t (F .lines))) s t n .floor)
   unfolding W onDelete roomOf
-  delete-lines = on-option (λ (d : Done). LineFacts M (d .floor)) (roomOf M F s n) (λ q. Xd) (λ m q. waiting-less-lines m q)
+  delete-lines = on-option (λ (d : Done). LineFacts M (d .floor)) (roomOf M F s n) (λ q. Xd) (λ m q. waiting-less-lines m q (unbuffer F m t .text))

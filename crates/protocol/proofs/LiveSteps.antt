@@ -9,12 +9,12 @@ use lib.Dec.{eqb, ltb}
 use borrow.Author.Tests.{eq-eqb, eqb-false, eqb-true, le-ltb, lt-ltb, ltb-false, ltb-true, ne-eqb, not-true}
 use Rattle.protocol.specs.Folds.{every, update, update2}
 use Rattle.protocol.specs.CartSets.{has, minus, setOf, union, with, without}
-use Rattle.protocol.specs.Floor.{Floor, Limits, Place, Record, ackList, at, behead, between, cartsThat, delete, deregister, entered, isBuffered, isLocal, leaving, localTo, multicast, onLines, outside, push, put, register, setGroups, setPlace, setSteady, setWaiting, stationOf, toEvery, travelling}
+use Rattle.protocol.specs.Floor.{Floor, Limits, Place, Record, ackList, at, behead, between, cartsThat, delete, deregister, entered, isBuffered, isLocal, leaving, localTo, multicast, onLines, outside, push, put, register, setGroups, setPlace, setSteady, setWaiting, stationOf, toEvery, travelling, setTexts}
 use Rattle.protocol.specs.Events.{Done, Event}
 use Rattle.protocol.specs.Step.{step}
 use Rattle.protocol.specs.Groups.{onGroup}
 use Rattle.protocol.specs.Handoff.{arrive, entryOf, onEnter, onFlag, onMove, onRegister, roomOf, rowOf, struck}
-use Rattle.protocol.specs.Wired.{addAcks, buffer, handle, isQueued, isStruck, localRow, multicastByRow, onAckList, onDelete, onMulticast, passesOver, raiseExpected, withMessage}
+use Rattle.protocol.specs.Wired.{addAcks, buffer, handle, isQueued, isStruck, localRow, multicastByRow, onAckList, onDelete, onMulticast, passesOver, raiseExpected, withMessage, unbuffer}
 use Rattle.protocol.specs.Wireless.{allAcked, handOver, receive, sendAcks, sendAcksIfAll}
 use Rattle.protocol.specs.Deregister.{bufferedRooms, isComplete, leave, onDeregister}
 use Rattle.protocol.specs.Form.{acksOf, acksTo, bit, countLine, deregistering, handoffOf, handoffs, isDeleteOf, multicastNumbers, registering}
@@ -273,8 +273,8 @@ module _ (M : Limits) (F : Floor) (G : History) (I : Invariant M F G) (L : Live 
       (rw z (and-left (has (F .waiting m) u) (not (eqb j u)) q), λ a b. eqb-false j u (not-true (eqb j u) (and-right (has (F .waiting m) u) (not (eqb j u)) q)) (sym b)))
       (λ z e. (e, λ a b. z a))
 
-  delete-live : Live M (setWaiting (unlined F i j) Less) never
-  delete-live =
+  delete-live : (x : ℕ → List ℕ) → Live M (setTexts (setWaiting (unlined F i j) Less) x) never
+  delete-live x =
       record {
         acks-come = λ k u c hk. L .acks-come k u c (still k hk);
         passed-listed = λ k u c hk lu b. L .passed-listed k u c (still k hk) lu
@@ -297,9 +297,9 @@ module _ (M : Limits) (F : Floor) (G : History) (I : Invariant M F G) (L : Live 
         behind-queued = L .behind-queued;
       }
 
-  delete-waits : ListsWait M (setWaiting (unlined F i j) Less)
+  delete-waits : (x : ℕ → List ℕ) → ListsWait M (setTexts (setWaiting (unlined F i j) Less) x)
   unfolding allAcked
-  delete-waits k u c hk lu q = W k u c (still k hk) lu q
+  delete-waits x k u c hk lu q = W k u c (still k hk) lu q
 
 -- THE HAND-OFF of a deregister: cart c leaves t for i
 module _ (M : Limits) (F : Floor) (i t c : ℕ) (is-p : F .place c ≡ leaving t i) (L : Live M F never) where
@@ -791,7 +791,8 @@ module _ (M : Limits) (F : Floor) (G : History) (I : Invariant M F G) (X : LineF
       on-option (λ (d : Done). Alive (d .floor)) (roomOf M F i n)
       (λ q. absurd (room-none M F i n (r .m) q (r .held) (r .is-initiator) (r .is-number)))
       (λ m q. let f = room-some M F i n m q in
-      (delete-live M F G I L W i j n l may m (f .0) (f .1 .0) (f .1 .1), delete-waits M F G I L W i j n l may m (f .0) (f .1 .0) (f .1 .1)))
+      (delete-live M F G I L W i j n l may m (f .0) (f .1 .0) (f .1 .1) (unbuffer F m j .text), delete-waits M F G I L W i j n l may m (f .0)
+          (f .1 .0) (f .1 .1) (unbuffer F m j .text)))
   handle-live i j (deregister c) l may = deregister-live M F G I X L W i j c l may
   handle-live i j (register c row) l may =
       let z : registering row ∷ handoffs c l ≡ handoffOf (F .place c) i j (rowOf M (F .next c)) = rw (may .line, eqb-self c) at (I .handoffs-right c i j) in

@@ -10,11 +10,11 @@ use lib.Dec.{eqb}
 use borrow.Author.Tests.{eqb-false, eqb-true, ne-eqb, not-true}
 use Rattle.protocol.specs.Folds.{count, sum, update, update2}
 use Rattle.protocol.specs.CartSets.{has, union, with, without}
-use Rattle.protocol.specs.Floor.{Floor, Limits, Place, Record, ackList, at, behead, between, delete, deregister, isHeld, leaving, multicast, outside, push, put, register, setWaiting, toEvery, travelling}
+use Rattle.protocol.specs.Floor.{Floor, Limits, Place, Record, ackList, at, behead, between, delete, deregister, isHeld, leaving, multicast, outside, push, put, register, toEvery, travelling}
 use Rattle.protocol.specs.Events.{Done}
 use Rattle.protocol.specs.Handoff.{arrive, entryOf, onRegister, roomOf, rowOf, struck}
 use Rattle.protocol.specs.Deregister.{leave, onDeregister}
-use Rattle.protocol.specs.Wired.{addAcks, buffer, handle, multicastByRow, onAckList, onDelete, onMulticast}
+use Rattle.protocol.specs.Wired.{addAcks, buffer, handle, multicastByRow, onAckList, onDelete, onMulticast, unbuffer}
 use Rattle.protocol.specs.Wireless.{allAcked, handOver, receive, sendAcks, sendAcksIfAll}
 use Rattle.protocol.specs.Form.{acksOf, acksTo, bit, countLines, deregistering, handoffOf, handoffs, isAckOf, registering}
 use Rattle.protocol.specs.Potential.{isMulticast, messageLeft, messagesLeft, owing, potential, stage, wayLeft}
@@ -258,7 +258,7 @@ module _ (M : Limits) (F : Floor) (G : History) (I : Invariant M F G) (X : LineF
       (λ m q.
       let is-m = found-room i n (r .m) (r .held) (r .is-initiator) (r .is-number) m q in
       let W = update (F .waiting) m (without (F .waiting m) j) in
-      let H = setWaiting (unlined F i j) W in
+      let H = unbuffer (unlined F i j) m j in
       let waits : has (F .waiting m) j ≡ true = rw (← is-m) (r .waits) in
       let h : Held M (F .waiting) m = rw (← is-m) (r .held) in
       let fewer : count (F .stations) (has (without (F .waiting m) j)) < count (F .stations) (has (F .waiting m)) =

@@ -1,5 +1,5 @@
 use mathlib.Core.Path.{ap, refl, _∙_, _≡_}
-use mathlib.Core.Bool.{_&&_, Bool, false, not, true}
+use mathlib.Core.Bool.{_&&_, Bool, cond, false, not, true}
 use mathlib.Core.Logic.{_⊎_, inl, inr}
 use mathlib.Core.Option.{none, some}
 use mathlib.Core.List.{_++_, List, [], _∷_}
@@ -9,13 +9,13 @@ use lib.Dec.{eqb, leb, ltb}
 use lib.ListN.{length}
 use borrow.Author.Tests.{eqb-true, le-ltb, lt-leb, lt-ltb, ne-eqb, not-true}
 use Rattle.protocol.specs.Folds.{isEmpty, update}
-use Rattle.protocol.specs.CartSets.{has, union}
+use Rattle.protocol.specs.CartSets.{has, union, without}
 use Rattle.protocol.specs.Floor.{Floor, Limits, Place, ackList, at, entered, isAt, isHeld, isLocal, register, setGroups, setPlace, setTexts}
 use Rattle.protocol.specs.Events.{Done, flag, group, radio, send, sendGroup, start}
 use Rattle.protocol.specs.Groups.{onGroup}
 use Rattle.protocol.specs.Order.{placeIn}
 use Rattle.protocol.specs.Handoff.{arrive, catchUp, catchUpEach, catchUpStop, entryOf, onMove, onRegister, roomOf, rowOf, struck, withRow}
-use Rattle.protocol.specs.Wired.{buffer, freeRoom, localRow, multicastByRow, onAckList, placeOfNew}
+use Rattle.protocol.specs.Wired.{buffer, freeRoom, localRow, multicastByRow, onAckList, placeOfNew, unbuffer}
 use Rattle.protocol.specs.Wireless.{allAcked, handOver, receive, sendAcks, sendAcksIfAll, standsBefore}
 use Rattle.protocol.specs.Deregister.{bufferedRooms, isComplete, leave, onDeregister, sendIfComplete, testEach}
 use Rattle.protocol.specs.Claims.{True}
@@ -107,6 +107,14 @@ unfolding roomOf
 form-without-texts M F h =
     let room = h .1 .1 .1 .0 in
     (h .0, (h .1 .0, (h .1 .1 .0, ((λ m l. (room m l .0, (room m l .1 .0, (room m l .1 .1 .0, omega arith)))), h .1 .1 .1 .1))))
+
+-- A DELETED MESSAGE: "from its send until the last station has handled its delete" it is held, and so long it has its text; then it has none. No
+-- other message loses its own
+pub freed-by-the-last : (F : Floor) (m t k : ℕ) → unbuffer F m t .text k ≡ cond (eqb k m && not (isHeld (unbuffer F m t) m)) [] (F .text k)
+freed-by-the-last F m t k =
+    by-test (eqb k m)
+    (λ e. let z = eqb-true k m e in rw (z, eqb-self m) (by-test (eqb (without (F .waiting m) t) 0) (λ b. rw b) (λ b. rw b)))
+    (λ e. rw e)
 
 -- THE LOCAL LIST LOOKED UP ONCE
 

@@ -319,7 +319,9 @@ module _ (M : Limits) where
             waiting = λ k lk. on-update (λ x. x < 2 ^ F .stations) (F .waiting) m (without (F .waiting m) j) k (λ z. without-lt (F .stations) (F .waiting m) j (S .messages .waiting m (rw z at lk))) (λ z. S .messages .waiting k lk);
             named = S .messages .named;
             acked = S .messages .acked;
-            text = S .messages .text;
+            text = λ k lk. on-update (λ (x : List ℕ). length x ≤ M .text) (F .text) m (cond (eqb (without (F .waiting m) j) 0) [] (F .text m)) k
+                (λ z. on-cond (λ (x : List ℕ). length x ≤ M .text) (eqb (without (F .waiting m) j) 0) (λ e. omega arith)
+                    (λ e. S .messages .text m (rw z at lk))) (λ z. S .messages .text k lk);
           };
           lengths = P .lengths;
           words = P .words;

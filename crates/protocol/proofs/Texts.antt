@@ -6,13 +6,13 @@ use Prim.Native.Nat.{ℕ}
 use native.Mathlib.Omega.{arith}
 use lib.Dec.{eqb}
 use borrow.Author.Tests.{eq-eqb, eqb-true, ne-eqb}
-use Rattle.protocol.specs.Folds.{isEmpty, update}
+use Rattle.protocol.specs.Folds.{isEmpty}
 use Rattle.protocol.specs.CartSets.{union, without}
 use Rattle.protocol.specs.Floor.{Floor, Limits, Record, ackList, delete, deregister, multicast, register}
 use Rattle.protocol.specs.Events.{Done, Event}
 use Rattle.protocol.specs.Groups.{onGroup}
 use Rattle.protocol.specs.Handoff.{arrive, entryOf, onEnter, onFlag, onMove, onRegister, roomOf, struck}
-use Rattle.protocol.specs.Wired.{buffer, handle, multicastByRow, onAckList, onDelete, onMulticast, withMessage}
+use Rattle.protocol.specs.Wired.{buffer, handle, multicastByRow, onAckList, onDelete, onMulticast, unbuffer, withMessage}
 use Rattle.protocol.specs.Wireless.{allAcked, handOver, receive, sendAcks, sendAcksIfAll}
 use Rattle.protocol.specs.Deregister.{leave}
 use Rattle.protocol.specs.Step.{floorAfter, step}
@@ -43,8 +43,12 @@ module _ (M : Limits) (F : Floor) (T : AllTexts F) where
   unfolding withMessage
   sent-text s set text m may k = by-test (eqb k m) (λ q. rw q (λ e. may .has-text)) (λ q. rw q (T k))
 
-  deleted-text : (m t : ℕ) → Texts (update (F .waiting) m (without (F .waiting m) t)) (F .text)
-  deleted-text m t k = by-test (eqb k m) (λ q. rw q (λ e. rw (eqb-true k m q) (T m (still-waited (F .waiting m) t e)))) (λ q. rw q (T k))
+  -- a message that is still held has its text; one that is not has none, and none is asked
+  deleted-text : (m t : ℕ) → AllTexts (unbuffer F m t)
+  deleted-text m t k =
+      by-test (eqb k m)
+      (λ q. rw q (λ e. rw e (T m (still-waited (F .waiting m) t e))))
+      (λ q. rw q (T k))
 
   arrived-text : (t c : ℕ) (row : ℕ → ℕ) → AllTexts (arrive M F t c row)
   unfolding struck

@@ -16,7 +16,7 @@ use Rattle.protocol.specs.Events.{Event, Report, accepted, bufferAfter, 
 use Rattle.protocol.specs.Groups.{membersOf, onGroup}
 use Rattle.protocol.specs.Order.{placeIn}
 use Rattle.protocol.specs.Handoff.{arrive, entryOf, onEnter, onFlag, onRegister, roomOf, rowOf}
-use Rattle.protocol.specs.Wired.{freeRoom, handle, localRow, multicastByRow, onMulticast, onWire}
+use Rattle.protocol.specs.Wired.{freeRoom, handle, localRow, multicastByRow, onDelete, onMulticast, onWire}
 use Rattle.protocol.specs.Wireless.{queueHead}
 use Rattle.protocol.specs.Deregister.{bufferedRooms, inOrder, isComplete, leave, onDeregister, testEach, timesIn}
 use Rattle.protocol.specs.Form.{formRule, passesForm}
@@ -34,7 +34,7 @@ use Rattle.protocol.specs.Ranges.{InRange, NumbersBelow, Wide}
 use Rattle.protocol.specs.Examples.{K1frames, allSent, examples, heldOn, octetsOf, outcome, rollsAway}
 use Rattle.protocol.proofs.Tests.{by-eq, clash, on-cond, or-right}
 use Rattle.protocol.proofs.InOrder.{deregister-counts, none-stays, tested-once}
-use Rattle.protocol.proofs.Readings.{above-15-is-26, arrive-keeps-flags, deregister-keeps-flags, emptied-is-undefined, form-without-texts, group-alone, move-keeps-flags, never-entered-is-12, never-in-is-18, no-cart-is-9, no-station-is-8, no-text-is-24, none-free-is-14, not-entered-is-12, not-here-is-16, other-flag-is-3, others-as-they-were, places-not-asked, put-at-the-end, register-is-last, register-keeps-flags, rest-stays, row-kept, row-of-local, strangers-are-9, too-large-is-7, undefined-is-26, unsteady-is-25, used-up-is-13}
+use Rattle.protocol.proofs.Readings.{above-15-is-26, arrive-keeps-flags, deregister-keeps-flags, emptied-is-undefined, form-without-texts, freed-by-the-last, group-alone, move-keeps-flags, never-entered-is-12, never-in-is-18, no-cart-is-9, no-station-is-8, no-text-is-24, none-free-is-14, not-entered-is-12, not-here-is-16, other-flag-is-3, others-as-they-were, places-not-asked, put-at-the-end, register-is-last, register-keeps-flags, rest-stays, row-kept, row-of-local, strangers-are-9, too-large-is-7, undefined-is-26, unsteady-is-25, used-up-is-13}
 use Rattle.protocol.proofs.Accepted.{MayWire, accepted-passes, accepted-report, may-move, may-radio, may-send, may-wire, passed-check, printed-as-the-send, sent-as-the-send}
 use Rattle.protocol.proofs.Demand3.{nothing, rule-after, started-ok}
 use Rattle.protocol.proofs.Counting.{sum-ext, sum-term}
@@ -317,6 +317,14 @@ no-text-held M F n k l a es m =
 pub form-admits-no-text : (M : Limits) (F : Floor) → passesForm M F ≡ true → passesForm M (setTexts F (λ m. [])) ≡ true
 unfolding passesForm
 form-admits-no-text M F h = reflect (formRule M (setTexts F (λ m. []))) .1 (form-without-texts M F (reflect (formRule M F) .0 h))
+
+-- A DELETED MESSAGE: "A deleted message's octets are free again": a wire step with a delete takes the message's text when it was the last station's,
+-- and no text otherwise
+pub delete-frees-octets : (M : Limits) (F : Floor) (i j n m : ℕ) (rest : List Record) → F .lines i j ≡ delete n ∷ rest → roomOf M F i n ≡ some m
+    → refusal M F (wire i j) ≡ 0 → (k : ℕ)
+    → step M F (wire i j) .text k ≡ cond (eqb k m && not (isHeld (step M F (wire i j)) m)) [] (F .text k)
+unfolding step accept onWire handle onDelete roomOf
+delete-frees-octets M F i j n m rest e r z k = rw (z, e, r) (freed-by-the-last (onLines F (behead i j (F .lines))) m j k)
 
 -- THE LOCAL LIST LOOKED UP ONCE
 

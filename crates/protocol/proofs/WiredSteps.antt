@@ -10,11 +10,11 @@ use lib.ListN.{getD, length}
 use borrow.Author.Tests.{eqb-false, eqb-true, ltb-true, ne-eqb, not-true}
 use Rattle.protocol.specs.Folds.{update, update2}
 use Rattle.protocol.specs.CartSets.{has, minus, union, without}
-use Rattle.protocol.specs.Floor.{Floor, Limits, Record, at, behead, cartsThat, delete, isLocal, multicast, onLines, setCopy, setExpected, setWaiting, toEvery}
+use Rattle.protocol.specs.Floor.{Floor, Limits, Record, at, behead, cartsThat, delete, isLocal, multicast, onLines, setCopy, setExpected, setWaiting, toEvery, setTexts}
 use Rattle.protocol.specs.Events.{Done}
 use Rattle.protocol.specs.Handoff.{roomOf}
-use Rattle.protocol.specs.Wired.{addAcks, buffer, isQueued, isStruck, localRow, multicastByRow, onAckList, onDelete, onMulticast, passesOver, raiseExpected}
-use Rattle.protocol.proofs.Tests.{and-intro, and-left, and-right, by-test, clash, on-cond, on-option, on-update, on-update2, or-cases, update-at, update2-at}
+use Rattle.protocol.specs.Wired.{addAcks, buffer, isQueued, isStruck, localRow, multicastByRow, onAckList, onDelete, onMulticast, passesOver, raiseExpected, unbuffer}
+use Rattle.protocol.proofs.Tests.{and-intro, and-left, and-right, by-test, clash, on-cond, on-option, on-update, on-update2, or-cases, update-at, update2-at, by-eq, eqb-self}
 use Rattle.protocol.proofs.SetLaws.{has-minus, has-union, setOf-member}
 use Rattle.protocol.proofs.Invariant.{Held, History, Invariant, Queued, blank, names}
 use Rattle.protocol.proofs.Updates.{Rise, acked-changed, copy-changed, isHome, local-is-home, multicast-taken, numbers-rise, received-over, record-put}
@@ -84,11 +84,19 @@ module _ (M : Limits) (F : Floor) (G : History) (s t n : ℕ) (hs : (c : ℕ) �
     unfolding waitingLess
     e' k u z e = rw z at e
 
-    waiting-less-ok : Invariant M (setWaiting F waitingLess) G
+    -- a message that is still held has its text
+    text-kept : (k : ℕ) → Held M waitingLess k → unbuffer F m t .text k ≡ F .text k
+    unfolding waitingLess
+    text-kept k h =
+        by-eq k m
+        (λ z. let y = h .some in let y' : eqb (without (F .waiting m) t) 0 ≡ false = rw (z, eqb-self m) at y in rw (z, eqb-self m, y'))
+        (λ z. rw (ne-eqb k m z))
+
+    waiting-less-ok : Invariant M (setTexts (setWaiting F waitingLess) (unbuffer F m t .text)) G
     waiting-less-ok =
         let h = room-some M F s n m f in
         record {
-          held = λ k h. I .held k (back k h);
+          held = λ k h. let q = I .held k (back k h) in record { low = q .low; is-set = q .is-set; is-text = q .is-text ∙ sym (text-kept k h) };
           one-room = λ a b x y. I .one-room a b (back a x) (back b y);
           owed = λ s' n' c lc e le.
               let o = I .owed s' n' c lc e le in

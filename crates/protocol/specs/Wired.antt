@@ -6,7 +6,7 @@ use Prim.Native.Nat.{ℕ, suc}
 use lib.Dec.{eqb, ltb}
 use Rattle.protocol.specs.Folds.{count, first, update, update2, byOption, byHead}
 use Rattle.protocol.specs.CartSets.{has, union, minus, without, setOf}
-use Rattle.protocol.specs.Floor.{Limits, Record, multicast, ackList, delete, deregister, register, Floor, onStations, onMessages, onCopies, onLines, setExpected, setNext, setAcked, setWaiting, setCopy, setQueue, behead, toEvery, push, isLocal, cartsThat}
+use Rattle.protocol.specs.Floor.{Limits, Record, multicast, ackList, delete, deregister, register, Floor, onStations, onMessages, onCopies, onLines, setExpected, setNext, setAcked, setWaiting, setCopy, setQueue, behead, toEvery, push, isLocal, cartsThat, setTexts}
 use Rattle.protocol.specs.Events.{Done, done}
 use Rattle.protocol.specs.Order.{placeIn}
 use Rattle.protocol.specs.Handoff.{roomOf, onRegister}
@@ -76,9 +76,12 @@ raiseExpected F t s = setExpected F (update2 (F .expected) t s (suc (F .expected
 abbrev pub addAcks : Floor → ℕ → ℕ → Floor
 addAcks F m carts = setAcked F (update (F .acked) m (union (F .acked m) carts))
 
--- DELETE: "the message leaves this station's buffer": the message in room m, at t
+-- DELETE: "the message leaves this station's buffer": the message in room m, at t. With the last station's delete "A deleted message's octets are
+-- free again": the room has no text any more
 abbrev pub unbuffer : Floor → ℕ → ℕ → Floor
-unbuffer F m t = setWaiting F (update (F .waiting) m (without (F .waiting m) t))
+unbuffer F m t =
+    setTexts (setWaiting F (update (F .waiting) m (without (F .waiting m) t)))
+        (update (F .text) m (cond (eqb (without (F .waiting m) t) 0) [] (F .text m)))
 
 module _ (M : Limits) where
   -- a room for a new message: "Its room is then used again"
