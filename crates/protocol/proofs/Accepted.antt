@@ -2,22 +2,23 @@ use mathlib.Core.Path.{ap, refl, _∙_, _≡_}
 use mathlib.Core.Bool.{Bool, cond, false, not, true, _||_}
 use mathlib.Core.Option.{some}
 use mathlib.Core.List.{List, [], _∷_}
-use Prim.Native.Nat.{_<_, _^_, ℕ, _≤_}
+use Prim.Native.Nat.{_+_, _<_, _^_, ℕ, _≤_}
 use native.Mathlib.Omega.{arith}
-use lib.Dec.{eqb, ltb}
+use lib.Dec.{eqb, leb, ltb}
 use lib.ListN.{length}
 use borrow.Author.Tests.{eqb-true, leb-false, lt-leb, ltb-false, ne-eqb, not-false}
 use Rattle.protocol.specs.Folds.{every, isEmpty, isNone}
 use Rattle.protocol.specs.CartSets.{has}
-use Rattle.protocol.specs.Floor.{Floor, Limits, Record, at, behead, entered, isAt, moving, onLines}
-use Rattle.protocol.specs.Events.{Answer, Event, Report, accepted, enter, flag, group, move, radio, refused, send, sendGroup, start, wire}
+use Rattle.protocol.specs.Floor.{Floor, Limits, Record, at, behead, entered, isAt, mostText, moving, onLines}
+use Rattle.protocol.specs.Events.{Answer, Event, Report, accepted, enter, flag, group, move, radio, refused, send, sendGroup, sendLong, start, wire}
 use Rattle.protocol.specs.Groups.{groupCount, onGroup}
+use Rattle.protocol.specs.Store.{notLong, storeUsed}
 use Rattle.protocol.specs.Handoff.{onEnter, onFlag, onMove}
 use Rattle.protocol.specs.Wired.{buffer, freeRoom, handle, onSend, onWire, withMessage}
 use Rattle.protocol.specs.Wireless.{handOver, onRadio, queueHead}
 use Rattle.protocol.specs.Claims.{True}
 use Rattle.protocol.specs.Form.{formRule, groupRule, passesForm}
-use Rattle.protocol.specs.Refusals.{check, headLacks, neverEntered, noCart, noGroup, noStation, refusal, refusalIf, strangers, undefined}
+use Rattle.protocol.specs.Refusals.{check, firstOfSend, headLacks, neverEntered, noCart, noGroup, noStation, numberAndRoom, refusal, refusalIf, storeFull, strangers, undefined}
 use Rattle.protocol.specs.Step.{accept, answer, step}
 use Rattle.protocol.proofs.Tests.{by-eq, by-option, by-test, clash, every-all, every-at, first-some, or-false}
 use Rattle.protocol.proofs.ClaimLaws.{reflect}
@@ -46,16 +47,25 @@ pub record MayEnter (F : Floor) (t c : ℕ) : Type 0 where
   pub cart : c < F .carts
   pub is-outside : entered (F .place c) ≡ false
 
-pub record MaySend (M : Limits) (F : Floor) (s set : ℕ) (text : List ℕ) (m : ℕ) : Type 0 where
+-- to whom: by the first checks of a send to a set, or by what is known of a group
+pub record MayName (F : Floor) (s set : ℕ) : Type 0 where
   pub station : s < F .stations
-  pub fits : length text ≤ M .text
   pub carts : set < 2 ^ F .carts
   pub some : eqb set 0 ≡ false
   pub all-entered : neverEntered F set ≡ false
-  pub has-text : isEmpty text ≡ false
+
+-- under which number, and in which room
+pub record MayTake (M : Limits) (F : Floor) (s m : ℕ) : Type 0 where
   pub number : F .sent s ≤ M .last
   pub room : m < M .held
   pub free : eqb (F .waiting m) 0 ≡ true
+
+pub record MaySend (M : Limits) (F : Floor) (s set : ℕ) (text : List ℕ) (m : ℕ) : Type 0 where
+  pub names : MayName F s set
+  pub fits : length text ≤ mostText M
+  pub has-text : isEmpty text ≡ false
+  pub stored : ltb (M .text) (length text) ≡ true → storeUsed M (F .waiting) (F .text) + length text ≤ M .store
+  pub takes : MayTake M F s m
 
 pub record MayWire (F : Floor) (i j : ℕ) (r : Record) (l : List Record) : Type 0 where
   pub from : i < F .stations
@@ -95,7 +105,7 @@ all-have-entered F set h =
 -- the members of a group, on a floor that passes the form rule
 pub group-clause : (M : Limits) (F : Floor) → passesForm M F ≡ true → (g : ℕ) → g < groupCount → True (groupRule M F g)
 unfolding passesForm
-group-clause M F e = reflect (formRule M F) .0 e .1 .1 .1 .1 .1 .1 .1 .1 .1 .1
+group-clause M F e = reflect (formRule M F) .0 e .1 .1 .1 .1 .1 .1 .1 .1 .1 .1 .0
 
 pub record MayMove (F : Floor) (c to : ℕ) : Type 0 where
   pub station : to < F .stations
@@ -103,6 +113,45 @@ pub record MayMove (F : Floor) (c to : ℕ) : Type 0 where
   pub has-entered : entered (F .place c) ≡ true
   pub not-moving : moving (F .place c) ≡ false
   pub elsewhere : isAt (F .place c) to ≡ false
+
+-- the number and the room that a send takes, and what follows those checks
+pub has-room : (M : Limits) (F : Floor) (s rest : ℕ) → numberAndRoom M F s rest ≡ 0
+    → (m : ℕ) × (freeRoom M F ≡ some m) × MayTake M F s m × (rest ≡ 0)
+unfolding freeRoom
+has-room M F s rest e =
+    let a13 = passed-check 13 (ltb (M .last) (F .sent s)) _ (omega arith) e in
+    let a14 = passed-check 14 (isNone (freeRoom M F)) rest (omega arith) (a13 .1) in
+    by-option (freeRoom M F)
+    (λ q. clash (isNone (freeRoom M F)) (rw q) (a14 .0))
+    (λ m q. let f = first-some (M .held) (λ m. eqb (F .waiting m) 0) m q in
+    (m, q, record { number = ltb-false (M .last) (F .sent s) (a13 .0); room = f .0; free = f .1 }, a14 .1))
+
+-- a send that is not long takes none of the store
+short-send : (M : Limits) (F : Floor) (s set : ℕ) (text : List ℕ) → MayName F s set → ltb (M .text) (length text) ≡ false → isEmpty text ≡ false
+    → numberAndRoom M F s 0 ≡ 0
+    → (m : ℕ) × (freeRoom M F ≡ some m) × MaySend M F s set text m
+short-send M F s set text named short full e =
+    let a14 = has-room M F s 0 e in
+    let most = ltb-false (M .text) (length text) short in (
+      a14 .0,
+      a14 .1,
+      record {
+        names = named;
+        fits = omega arith;
+        has-text = full;
+        stored = λ l. clash (ltb (M .text) (length text)) l short;
+        takes = a14 .2;
+      },
+    )
+
+-- "33 to 512 octets"
+pub is-long : (M : Limits) (octets : ℕ) → notLong M octets ≡ false → (M .text < octets) × (octets ≤ M .long)
+is-long M octets e =
+    let z = or-false (leb octets (M .text)) (ltb (M .long) octets) e in (leb-false octets (M .text) (z .0), ltb-false (M .long) octets (z .1))
+
+not-empty : (n : ℕ) (l : List ℕ) → n < length l → isEmpty l ≡ false
+not-empty n [] h = absurd (omega arith)
+not-empty n (x ∷ l) h = refl
 
 module _ (M : Limits) (F : Floor) (broken : Bool) where
   pub may-enter : (t c : ℕ) → refusalIf M F broken (enter t c) ≡ 0 → MayEnter F t c
@@ -114,35 +163,46 @@ module _ (M : Limits) (F : Floor) (broken : Bool) where
       let a10 = passed-check 10 (entered (F .place c)) _ (omega arith) (a9 .1) in
       record { station = leb-false (F .stations) t (a8 .0); cart = leb-false (F .carts) c (a9 .0); is-outside = a10 .0 }
 
-  pub may-send : (s set : ℕ) (text : List ℕ) → refusalIf M F broken (send s set text) ≡ 0 → (m : ℕ) × (freeRoom M F ≡ some m) × MaySend M F s set text m
-  unfolding refusalIf freeRoom
-  may-send s set text e =
-      let a4 = passed-check 4 (ltb (M .text) (length text)) _ (omega arith) e in
-      let a5 = passed-check 5 broken _ (omega arith) (a4 .1) in
+  -- to whom a send may go, by its first checks
+  may-name : (s set rest : ℕ) → firstOfSend M F broken s set rest ≡ 0 → MayName F s set × (rest ≡ 0)
+  may-name s set rest e =
+      let a5 = passed-check 5 broken _ (omega arith) e in
       let a8 = passed-check 8 (noStation F s) _ (omega arith) (a5 .1) in
       let a9 = passed-check 9 (strangers F set) _ (omega arith) (a8 .1) in
       let a11 = passed-check 11 (eqb set 0) _ (omega arith) (a9 .1) in
-      let a12 = passed-check 12 (neverEntered F set) _ (omega arith) (a11 .1) in
+      let a12 = passed-check 12 (neverEntered F set) rest (omega arith) (a11 .1) in (
+        record { station = leb-false (F .stations) s (a8 .0); carts = leb-false (2 ^ F .carts) set (a9 .0); some = a11 .0; all-entered = a12 .0 },
+        a12 .1,
+      )
+
+  pub may-send : (s set : ℕ) (text : List ℕ) → refusalIf M F broken (send s set text) ≡ 0 → (m : ℕ) × (freeRoom M F ≡ some m) × MaySend M F s set text m
+  unfolding refusalIf
+  may-send s set text e =
+      let a4 = passed-check 4 (ltb (M .text) (length text)) _ (omega arith) e in
+      let a12 = may-name s set _ (a4 .1) in
       let a24 = passed-check 24 (isEmpty text) _ (omega arith) (a12 .1) in
-      let a13 = passed-check 13 (ltb (M .last) (F .sent s)) _ (omega arith) (a24 .1) in
-      let a14 = passed-check 14 (isNone (freeRoom M F)) _ (omega arith) (a13 .1) in
-      by-option (freeRoom M F)
-      (λ q. clash (isNone (freeRoom M F)) (rw q) (a14 .0))
-      (λ m q. let f = first-some (M .held) (λ m. eqb (F .waiting m) 0) m q in (
-        m,
-        q,
+      short-send M F s set text (a12 .0) (a4 .0) (a24 .0) (a24 .1)
+
+  pub may-send-long : (s set : ℕ) (text : List ℕ) → refusalIf M F broken (sendLong s set text) ≡ 0
+      → (m : ℕ) × (freeRoom M F ≡ some m) × MaySend M F s set text m
+  unfolding refusalIf
+  may-send-long s set text e =
+      let a4 = passed-check 4 (notLong M (length text)) _ (omega arith) e in
+      let a12 = may-name s set _ (a4 .1) in
+      let a14 = has-room M F s _ (a12 .1) in
+      let a27 = passed-check 27 (storeFull M F text) _ (omega arith) (a14 .3) in
+      let long = is-long M (length text) (a4 .0) in
+      let most = long .1 in (
+        a14 .0,
+        a14 .1,
         record {
-          station = leb-false (F .stations) s (a8 .0);
-          fits = ltb-false (M .text) (length text) (a4 .0);
-          carts = leb-false (2 ^ F .carts) set (a9 .0);
-          some = a11 .0;
-          all-entered = a12 .0;
-          has-text = a24 .0;
-          number = ltb-false (M .last) (F .sent s) (a13 .0);
-          room = f .0;
-          free = f .1;
+          names = a12 .0;
+          fits = omega arith;
+          has-text = not-empty (M .text) text (long .0);
+          stored = λ l. ltb-false (M .store) (storeUsed M (F .waiting) (F .text) + length text) (a27 .0);
+          takes = a14 .2;
         },
-      ))
+      )
 
   pub may-wire : (i j : ℕ) → refusalIf M F broken (wire i j) ≡ 0 → (r : Record) × (l : List Record) × MayWire F i j r l
   unfolding refusalIf
@@ -218,34 +278,22 @@ module _ (M : Limits) (F : Floor) where
   -- a group send is not asked 9, 11 and 12: what they grant, the form rule and 26 say of the members
   pub may-send-group : (s g : ℕ) (text : List ℕ) → refusalIf M F (not (passesForm M F)) (sendGroup s g text) ≡ 0
       → (m : ℕ) × (freeRoom M F ≡ some m) × MaySend M F s (F .groups g) text m
-  unfolding refusalIf freeRoom
+  unfolding refusalIf
   may-send-group s g text e =
       let a4 = passed-check 4 (ltb (M .text) (length text)) _ (omega arith) e in
       let a5 = passed-check 5 (not (passesForm M F)) _ (omega arith) (a4 .1) in
       let a8 = passed-check 8 (noStation F s) _ (omega arith) (a5 .1) in
       let a26 = passed-check 26 (undefined F g) _ (omega arith) (a8 .1) in
       let a24 = passed-check 24 (isEmpty text) _ (omega arith) (a26 .1) in
-      let a13 = passed-check 13 (ltb (M .last) (F .sent s)) _ (omega arith) (a24 .1) in
-      let a14 = passed-check 14 (isNone (freeRoom M F)) _ (omega arith) (a13 .1) in
       let defined = or-false (noGroup g) (eqb (F .groups g) 0) (a26 .0) in
       let clause = group-clause M F (not-false (passesForm M F) (a5 .0)) g (leb-false groupCount g (defined .0)) in
-      by-option (freeRoom M F)
-      (λ q. clash (isNone (freeRoom M F)) (rw q) (a14 .0))
-      (λ m q. let f = first-some (M .held) (λ m. eqb (F .waiting m) 0) m q in (
-        m,
-        q,
-        record {
-          station = leb-false (F .stations) s (a8 .0);
-          fits = ltb-false (M .text) (length text) (a4 .0);
-          carts = clause .0;
-          some = defined .1;
-          all-entered = all-have-entered F (F .groups g) (clause .1);
-          has-text = a24 .0;
-          number = ltb-false (M .last) (F .sent s) (a13 .0);
-          room = f .0;
-          free = f .1;
-        },
-      ))
+      let named : MayName F s (F .groups g) = record {
+        station = leb-false (F .stations) s (a8 .0);
+        carts = clause .0;
+        some = defined .1;
+        all-entered = all-have-entered F (F .groups g) (clause .1);
+      } in
+      short-send M F s (F .groups g) text named (a4 .0) (a24 .0) (a24 .1)
 
 -- A GROUP SEND IS A SEND TO ITS MEMBERS, on a floor that passes the form rule and to a group that is defined
 module _ (M : Limits) (F : Floor) (s g : ℕ) (text : List ℕ) (h : passesForm M F ≡ true) (d : undefined F g ≡ false) where
@@ -278,6 +326,14 @@ module _ (M : Limits) (F : Floor) (s g : ℕ) (text : List ℕ) (h : passesForm 
   printed-as-the-send l a =
       rw (same-refusal ∙ accepted-passes M F (send s (F .groups g) text) l a, same-report, accepted-report M F (send s (F .groups g) text) l a)
 
+-- A LONG SEND IS A SEND, printed under its own kind
+pub long-as-the-send : (M : Limits) (F : Floor) (s set : ℕ) (text : List ℕ)
+    → (accept M F (sendLong s set text) .floor ≡ accept M F (send s set text) .floor)
+    × (accept M F (sendLong s set text) .report
+    ≡ (let l = accept M F (send s set text) .report in record { kind = 9; a = l .a; b = l .b; p = l .p; w = l .w; q = l .q; text = l .text }))
+unfolding accept onSend
+long-as-the-send M F s set text = by-option (freeRoom M F) (λ q. rw q (refl, refl)) (λ m q. rw q (refl, refl))
+
 -- the floor without the head of the line from i to j
 abbrev pub unlined : Floor → ℕ → ℕ → Floor
 unlined F i j = onLines F (behead i j (F .lines))
@@ -296,7 +352,10 @@ module _ (M : Limits) (F : Floor) (Q : Event → Floor → Answer → Type 0) (b
     (grouping : (g set : ℕ) → MayGroup F g set → Q (group g set) (onGroup F g set .floor) (accepted (onGroup F g set .report)))
     (sendingGroup : (s g : ℕ) (text : List ℕ) (m : ℕ) → MaySend M F s (F .groups g) text m
     → Q (sendGroup s g text) (withMessage F m s (F .groups g) text)
-    (accepted (record { kind = 8; a = s; b = F .sent s; p = 0; w = F .stations; q = 0; text = [] }))) where
+    (accepted (record { kind = 8; a = s; b = F .sent s; p = 0; w = F .stations; q = 0; text = [] })))
+    (sendingLong : (s set : ℕ) (text : List ℕ) (m : ℕ) → MaySend M F s set text m
+    → Q (sendLong s set text) (withMessage F m s set text)
+    (accepted (record { kind = 9; a = s; b = F .sent s; p = 0; w = F .stations; q = 0; text = [] }))) where
   when-accepted : (e : Event) → refusalIf M F (not (passesForm M F)) e ≡ 0 → Q e (accept M F e .floor) (accepted (accept M F e .report))
   unfolding accept onSend onWire onRadio refusalIf
   when-accepted (start n k) z =
@@ -310,6 +369,8 @@ module _ (M : Limits) (F : Floor) (Q : Event → Floor → Answer → Type 0) (b
   when-accepted (flag c on) z = flagging c on (may-flag M F (not (passesForm M F)) c on z)
   when-accepted (group g set) z = grouping g set (may-group M F g set z)
   when-accepted (sendGroup s g text) z = let a = may-send-group M F s g text z in rw (a .1) (sendingGroup s g text (a .0) (a .2))
+  when-accepted (sendLong s set text) z =
+      let a = may-send-long M F (not (passesForm M F)) s set text z in rw (a .1) (sendingLong s set text (a .0) (a .2))
 
   by-refusal : (r : ℕ) (e : Event) → (r ≡ 0 → Q e (accept M F e .floor) (accepted (accept M F e .report)))
       → Q e (cond (eqb r 0) (accept M F e .floor) F) (cond (eqb r 0) (accepted (accept M F e .report)) (refused r))

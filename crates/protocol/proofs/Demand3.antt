@@ -12,7 +12,7 @@ use borrow.Author.Tests.{eq-eqb, eqb-true, le-leb, leb-true, not-false, not-true
 use Rattle.protocol.specs.Folds.{count, every, sum, update2}
 use Rattle.protocol.specs.CartSets.{has, union}
 use Rattle.protocol.specs.Floor.{Floor, Limits, Record, ackList, at, delete, deregister, isHeld, justStarted, multicast, register}
-use Rattle.protocol.specs.Events.{Answer, Done, Event, Report, accepted, enter, flag, group, move, radio, refused, send, sendGroup, start, wire}
+use Rattle.protocol.specs.Events.{Answer, Done, Event, Report, accepted, enter, flag, group, move, radio, refused, send, sendGroup, sendLong, start, wire}
 use Rattle.protocol.specs.Groups.{asSent, onGroup}
 use Rattle.protocol.specs.Handoff.{arrive, entryOf, onEnter, onFlag, onMove, onRegister, roomOf, struck}
 use Rattle.protocol.specs.Deregister.{leave}
@@ -73,6 +73,7 @@ same-note G L (move c to) a S = S
 same-note G L (flag c b) a S = S
 same-note G L (group g set) a S = S
 same-note G L (sendGroup s g text) a S = S
+same-note G L (sendLong s set text) a S = S
 
 -- the entries from a number on
 pub naming-append : (c k : ℕ) (h g : List Entry) → naming c k (h ++ g) ≡ naming c k h ++ naming c (k + length h) g
@@ -209,6 +210,7 @@ step-size M F begun =
     (λ c b may. same-size F)
     (λ g set may. same-size F)
     (λ s g text m may. same-size F)
+    (λ s set text m may. same-size F)
 
 -- the rule after any list of events, from any floor and history that the invariant joins
 pub rule-after : (M : Limits) (F : Floor) (G : History) (L : Lists) (es : List Event) → Invariant M F G → Same G L → (s c : ℕ) → c < F .carts

@@ -8,7 +8,7 @@ use lib.Dec.{eqb}
 use borrow.Author.Tests.{eq-eqb, eqb-true, ne-eqb}
 use Rattle.protocol.specs.Folds.{byOption}
 use Rattle.protocol.specs.CartSets.{has, union}
-use Rattle.protocol.specs.Floor.{Floor, Limits, Record, ackList, at, behead, delete, deregister, multicast, register}
+use Rattle.protocol.specs.Floor.{Floor, Limits, Record, ackList, at, behead, delete, deregister, mostText, multicast, register}
 use Rattle.protocol.specs.Events.{Done, radio}
 use Rattle.protocol.specs.Handoff.{entryOf, onRegister, roomOf, rowOf, struck}
 use Rattle.protocol.specs.Deregister.{leave, onDeregister}
@@ -82,7 +82,7 @@ pub all-empty-radio : (M : Limits) (F : Floor) (G : History) → Invariant M F G
 unfolding refusal
 all-empty-radio M F G I S form empty t c lt lc =
     same-test (wouldReceive M F t c) (byOption (queueHead M F t) false (λ m. has (F .queue m t) c && F .steady c))
-    (λ e. let a = may-radio M F (not (passesForm M F)) t c (M .text) (eqb-true (refusal M F (radio t c (M .text))) 0 e) in
+    (λ e. let a = may-radio M F (not (passesForm M F)) t c (mostText M) (eqb-true (refusal M F (radio t c (mostText M))) 0 e) in
     rw (a .1 .is-head, a .1 .queued, a .1 .is-steady))
     (on-option (λ b. b ≡ true → wouldReceive M F t c ≡ true) (queueHead M F t)
     (λ q e. clash false e refl)
@@ -92,5 +92,5 @@ all-empty-radio M F G I S form empty t c lt lc =
     (λ i j li lj. let z = I .handoffs-right c i j in let y : handoffs c [] ≡ handoffOf (F .place c) i j (rowOf M (F .next c)) = rw (empty i j li lj) at z in y)
     (local-entered (F .place c) t (k .home)) in
     let is-t : p .0 ≡ t = eqb-true (p .0) t (let z = k .home in rw (p .2) at z) in
-    eq-eqb (refusal M F (radio t c (M .text))) 0
+    eq-eqb (refusal M F (radio t c (mostText M))) 0
     (radio-accepted M F t c m form lt lc (p .2 ∙ rw is-t) q h (S .messages .text m (head-first M F t m q .0)) (and-right (has (F .queue m t) c) (F .steady c) e))))

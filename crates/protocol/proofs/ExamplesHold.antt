@@ -117,7 +117,58 @@ no-text s = (no-text-blank, no-text-passes)
 -- THE TABLE
 pub table-holds : map (λ r. outcome (r .within) (r .given)) examples ≡ map (λ r. r .shown) examples
 table-holds =
-    quick-table examples (tt, (u, (u, (u, (u, (u, (tt, (kit-near-the-last, (tt, (floor-near-the-last, (u, (u, (u, (u, (tt, (no-text, (no-text, (no-text, (u, (tt, (k, (k, (k, (tt, (tt, tt)))))))))))))))))))))))))
+    quick-table examples (
+      tt,
+      (
+        u,
+        (
+          u,
+          (
+            u,
+            (
+              u,
+              (
+                u,
+                (
+                  tt,
+                  (
+                    kit-near-the-last,
+                    (
+                      tt,
+                      (
+                        floor-near-the-last,
+                        (
+                          u,
+                          (
+                            u,
+                            (
+                              u,
+                              (
+                                u,
+                                (
+                                  tt,
+                                  (
+                                    no-text,
+                                    (
+                                      no-text,
+                                      (no-text, (u, (tt, (tt, (u, (u, (k, (k, (k, (tt, (tt, tt))))))))))),
+                                    ),
+                                  ),
+                                ),
+                              ),
+                            ),
+                          ),
+                        ),
+                      ),
+                    ),
+                  ),
+                ),
+              ),
+            ),
+          ),
+        ),
+      ),
+    )
     ∙ computed
   where
     u : Ready limits unstarted
@@ -172,22 +223,22 @@ closing-started = refl
 closing-ready : Ready limits closing
 closing-ready = let z = ready-run limits unstarted (take 8 rollsAway) from-unstarted in rw closing-is at z
 
-closing-writes : buffersAfter (quickAnswers limits closing (drop 8 rollsAway)) (replicate 32 0) ≡ 0xa1 ∷ replicate 31 0
+closing-writes : buffersAfter (quickAnswers limits closing (drop 8 rollsAway)) (replicate 512 0) ≡ 0xa1 ∷ replicate 511 0
 unfolding closing quickFloor quickAnswers quickAnswer quickStep refusalIf accept onEnter onFlag onGroup membersOf onSend onWire onRadio onMove handle onMulticast multicastByRow onAckList onDelete onDeregister bufferedRooms inOrder insert isComplete testEach listsSent leave onRegister arrive passedOver deepest largestPlace placeGiven placeOfNew placeIn catchUpEach catchUp catchUpStop climb bufferedFor roomOf freeRoom struck withMessage buffer receive sendAcks allAcked handOver queueHead headAmong neverEntered every count sum first listOf has union minus with without setOf
 closing-writes = refl
 
 pub closed : (quietEvents limits (floorAfter limits unstarted (take 8 rollsAway)) ≡ drop 8 rollsAway)
-    × ((quietCall limits (floorAfter limits unstarted (take 8 rollsAway)) (replicate 32 0) .answer ≡ quietAfter 7)
-    × (quietCall limits (floorAfter limits unstarted (take 8 rollsAway)) (replicate 32 0) .buffer ≡ 0xa1 ∷ replicate 31 0))
+    × ((quietCall limits (floorAfter limits unstarted (take 8 rollsAway)) (replicate 512 0) .answer ≡ quietAfter 7)
+    × (quietCall limits (floorAfter limits unstarted (take 8 rollsAway)) (replicate 512 0) .buffer ≡ 0xa1 ∷ replicate 511 0))
 closed =
-    let runs = call-runs limits closing (replicate 32 0) (else-runs limits closing 32 (closing-ready closing-started .1) (omega arith)) in
+    let runs = call-runs limits closing (replicate 512 0) (else-runs limits closing 512 (closing-ready closing-started .1) (omega arith)) in
     rw closing-is (
       closing-events,
       (
         runs .0 ∙ ap (λ (es : List Event). quietAfter (length es)) closing-events,
         runs .1 .1
-            ∙ ap (λ (es : List Event). buffersAfter (answers limits closing es) (replicate 32 0)) closing-events
-            ∙ ap (λ (l : List Answer). buffersAfter l (replicate 32 0)) (quick-answers limits closing (drop 8 rollsAway) closing-ready)
+            ∙ ap (λ (es : List Event). buffersAfter (answers limits closing es) (replicate 512 0)) closing-events
+            ∙ ap (λ (l : List Answer). buffersAfter l (replicate 512 0)) (quick-answers limits closing (drop 8 rollsAway) closing-ready)
             ∙ closing-writes,
       ),
     )

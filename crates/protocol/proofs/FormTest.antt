@@ -11,7 +11,7 @@ use Rattle.protocol.specs.Floor.{Floor, Limits, Place, Record, ackList, 
 use Rattle.protocol.specs.Groups.{groupCount}
 use Rattle.protocol.specs.Handoff.{roomOf, rowOf}
 use Rattle.protocol.specs.Claims.{All, Claim, True, eq, is}
-use Rattle.protocol.specs.Form.{HandoffRecord, acksOf, acksTo, bit, cartRule, copyRule, deregistering, entryRule, floorRule, formRule, groupRule, handoffOf, handoffRule, handoffs, heldRule, isAckOf, lineRule, multicastNumbers, orderRule, passesForm, placeInside, reaches, recordRule, registering, roomRule, sameHandoffs, sameRow, stationRule}
+use Rattle.protocol.specs.Form.{HandoffRecord, acksOf, acksTo, bit, cartRule, copyRule, deregistering, entryRule, floorRule, formRule, groupRule, handoffOf, handoffRule, handoffs, heldRule, isAckOf, lineRule, multicastNumbers, orderRule, passesForm, placeInside, reaches, recordRule, registering, roomRule, sameHandoffs, sameRow, stationRule, storeRule}
 use Rattle.protocol.specs.Blank.{BlankBeyond}
 use Rattle.protocol.specs.Ranges.{PlaceInRange}
 use Rattle.protocol.proofs.Tests.{and-false, both-equal, by-eq, by-lt, by-test, clash, on-cond, on-option}
@@ -100,6 +100,7 @@ module _ (M : Limits) (F : Floor) where
     pub order : (i : ℕ) → i < M .columns → (j : ℕ) → j < F .stations → True (orderRule M F i j)
     pub handoff : (c : ℕ) → c < M .carts → (i : ℕ) → i < F .stations → (j : ℕ) → j < F .stations → True (handoffRule M F c i j)
     pub group : (g : ℕ) → g < groupCount → True (groupRule M F g)
+    pub stored : True (storeRule M F)
 
   -- the test passes exactly where every clause holds
   pub clauses-of : passesForm M F ≡ true → Clauses
@@ -117,12 +118,22 @@ module _ (M : Limits) (F : Floor) where
         line = h .1 .1 .1 .1 .1 .1 .1 .0;
         order = h .1 .1 .1 .1 .1 .1 .1 .1 .0;
         handoff = h .1 .1 .1 .1 .1 .1 .1 .1 .1 .0;
-        group = h .1 .1 .1 .1 .1 .1 .1 .1 .1 .1;
+        group = h .1 .1 .1 .1 .1 .1 .1 .1 .1 .1 .0;
+        stored = h .1 .1 .1 .1 .1 .1 .1 .1 .1 .1 .1;
       }
 
   pub passes-of : Clauses → passesForm M F ≡ true
   unfolding passesForm
-  passes-of P = reflect (formRule M F) .1 (P .floor, (P .station, (P .cart, (P .room, (P .held, (P .entry, (P .copy, (P .line, (P .order, (P .handoff, P .group))))))))))
+  passes-of P = reflect (formRule M F) .1 (
+    P .floor,
+    (
+      P .station,
+      (
+        P .cart,
+        (P .room, (P .held, (P .entry, (P .copy, (P .line, (P .order, (P .handoff, (P .group, P .stored)))))))),
+      ),
+    ),
+  )
 
   in-room : (m : ℕ) → m < M .held → isHeld F m ≡ true → Held M (F .waiting) m
   in-room m l e = record { slot = l; some = not-true (eqb (F .waiting m) 0) e }
@@ -153,6 +164,7 @@ module _ (M : Limits) (F : Floor) where
         record {
           lengths = P .floor .1 .0;
           words = P .floor .1 .1 .0;
+          store = P .stored;
           groups = λ g l. (P .group g l .0, λ c e. P .group g l .1 c (member-below (F .carts) (F .groups g) c (P .group g l .0) e) e);
           counts = (let f = P .floor .1 .1 .1 in record { some-stations = f .0 .0; stations = f .0 .1; some-carts = f .1 .0; carts = f .1 .1 });
           numbers = λ s. by-lt s (M .stations) (λ l. P .station s l .0) (λ l. let z = B .sent s l in omega arith);
@@ -330,6 +342,7 @@ module _ (M : Limits) (F : Floor) where
           order = λ i a j b. (X .run i j b, E .order i j b);
           handoff = λ c l i a j b. subst (λ (x : List HandoffRecord). True (sameHandoffs (handoffs c (F .lines i j)) x)) (X .handoffs-right c i j) (handoffs-same (handoffs c (F .lines i j)));
           group = λ g l. (S .groups g l .0, λ c lc. S .groups g l .1 c);
+          stored = S .store;
         }
 
     -- and there is nothing beyond the limits

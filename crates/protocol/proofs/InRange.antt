@@ -59,6 +59,7 @@ in-range M F X S =
       acked = S .messages .acked;
       waiting = S .messages .waiting;
       text = S .messages .text;
+      stored = S .store;
       copy = S .copies .copy;
       acks = S .copies .acks;
       queue = S .copies .queue;
@@ -137,3 +138,4 @@ module _ (M : Limits) (F : Floor) (G : History) (I : Invariant M F G) (S : Sized
       (λ c b may. omega arith)
       (λ g set may. omega arith)
       (λ s g text m may. omega arith)
+      (λ s set text m may. omega arith)

@@ -25,6 +25,7 @@ pub mod SumSteps
 pub mod SumRun
 pub mod FormFacts
 pub mod ClaimLaws
+pub mod Answers
 pub mod Sized
 pub mod Unspoken
 pub mod FormTest
@@ -49,4 +50,8 @@ pub mod Dispatch
 pub mod PlainLaws
 pub mod PlainRun
 pub mod PlainLines
+pub mod BlurLaws
+pub mod BlurRun
+pub mod BlurPrint
+pub mod ReadLaws
 pub mod Theorems

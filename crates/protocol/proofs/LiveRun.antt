@@ -8,7 +8,7 @@ use native.Mathlib.Omega.{arith}
 use lib.Dec.{eqb}
 use borrow.Author.Tests.{eq-eqb, eqb-false, eqb-true}
 use Rattle.protocol.specs.CartSets.{has, union}
-use Rattle.protocol.specs.Floor.{Floor, Limits, Place, Record, ackList, at, delete, deregister, entered, isHeld, justStarted, leaving, multicast, outside, register, travelling}
+use Rattle.protocol.specs.Floor.{Floor, Limits, Place, Record, ackList, at, delete, deregister, entered, isHeld, justStarted, leaving, mostText, multicast, outside, register, travelling}
 use Rattle.protocol.specs.Events.{Answer, Done, Event, radio}
 use Rattle.protocol.specs.Groups.{asSent}
 use Rattle.protocol.specs.Handoff.{entryOf, onRegister, roomOf, rowOf, struck}
@@ -136,6 +136,7 @@ module _ (M : Limits) (F : Floor) (G : History) (I : Invariant M F G) (A : AllSt
       (λ c b may w. absurd w)
       (λ g set may w. absurd w)
       (λ s g text m may w. absurd w)
+      (λ s set text m may w. absurd w)
 
 -- so the dispatcher changes no flag
 pub works-steady : (M : Limits) (F : Floor) (G : History) (es : List Event) → Reached M F G → Works M F es → AllSteady F
@@ -179,7 +180,7 @@ module _ (M : Limits) (F : Floor) (G : History) (R : Reached M F G) (S : Sized M
       let is-c : F .place c ≡ at t = pc .2 ∙ (let z = eqb-true (pc .0) t (let z = qc .home in rw (pc .2) at z) in rw z) in
       let lc = I .real c (rw is-c) in
       let ok = radio-accepted M F t c h form lt lc is-c n (b .1) (S .messages .text h (a .0)) (steady c (rw is-c)) in
-      clash (wouldReceive M F t c) (eq-eqb (refusal M F (radio t c (M .text))) 0 ok) (Q .no-receipt t c lt lc))
+      clash (wouldReceive M F t c) (eq-eqb (refusal M F (radio t c (mostText M))) 0 ok) (Q .no-receipt t c lt lc))
 
   -- every cart that has entered is past all that was sent
   past-all : (c s : ℕ) → entered (F .place c) ≡ true → F .sent s ≤ F .next c s

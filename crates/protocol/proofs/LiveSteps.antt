@@ -7,7 +7,7 @@ use Prim.Native.Nat.{_<_, suc, ℕ, _≤_}
 use native.Mathlib.Omega.{arith}
 use lib.Dec.{eqb, ltb}
 use borrow.Author.Tests.{eq-eqb, eqb-false, eqb-true, le-ltb, lt-ltb, ltb-false, ltb-true, ne-eqb, not-true}
-use Rattle.protocol.specs.Folds.{every, update, update2}
+use Rattle.protocol.specs.Folds.{update, update2}
 use Rattle.protocol.specs.CartSets.{has, minus, setOf, union, with, without}
 use Rattle.protocol.specs.Floor.{Floor, Limits, Place, Record, ackList, at, behead, between, cartsThat, delete, deregister, entered, isBuffered, isLocal, leaving, localTo, multicast, onLines, outside, push, put, register, setGroups, setPlace, setSteady, setWaiting, stationOf, toEvery, travelling, setTexts}
 use Rattle.protocol.specs.Events.{Done, Event}
@@ -542,7 +542,7 @@ module _ (M : Limits) (F : Floor) (G : History) (s set : ℕ) (text : List ℕ) 
   old-held k z h = record { slot = h .slot; some = (let y = h .some in rw (ne-eqb k m z) at y) }
 
   not-new : (k : ℕ) → Held M (F .waiting) k → k ≡ m → ⊥
-  not-new k h z = clash (eqb (F .waiting m) 0) (may .free) (let y = h .some in rw z at y)
+  not-new k h z = clash (eqb (F .waiting m) 0) (may .takes .free) (let y = h .some in rw z at y)
 
   -- no acknowledgement of another message moves
   acks-as-before : (k c : ℕ) → (k ≡ m → ⊥) → acksOf M F k c ≤ acksOf M (withMessage F m s set text) k c
@@ -586,13 +586,13 @@ module _ (M : Limits) (F : Floor) (G : History) (s set : ℕ) (text : List ℕ) 
             (λ z. rw (ne-eqb k m z) (λ n. L .named-entered k c (old-held k z h) n));
         deletes-come = λ k u h lu.
             by-eq k m
-            (λ z. rw (z, eqb-self m) (λ e w. absurd (eqb-false set 0 (may .some) (sym e))))
+            (λ z. rw (z, eqb-self m) (λ e w. absurd (eqb-false set 0 (may .names .some) (sym e))))
             (λ z. rw (ne-eqb k m z) (λ e w. let a = L .deletes-come k u (old-held k z h) lu e w in
             let b = put-deletes (F .number k) (toEvery (F .stations) s) (multicast (F .sent s)) (F .lines) (F .initiator k) u in omega arith));
       }
     where
       all-entered : (c : ℕ) → has set c ≡ true → entered (F .place c) ≡ true
-      all-entered c n = named-has-entered F set c (member-below (F .carts) set c (may .carts) n) (may .all-entered) n
+      all-entered c n = named-has-entered F set c (member-below (F .carts) set c (may .names .carts) n) (may .names .all-entered) n
 
   send-waits : ListsWait M (withMessage F m s set text)
   unfolding withMessage N
@@ -790,9 +790,11 @@ module _ (M : Limits) (F : Floor) (G : History) (I : Invariant M F G) (X : LineF
       let r = g .0 in
       on-option (λ (d : Done). Alive (d .floor)) (roomOf M F i n)
       (λ q. absurd (room-none M F i n (r .m) q (r .held) (r .is-initiator) (r .is-number)))
-      (λ m q. let f = room-some M F i n m q in
-      (delete-live M F G I L W i j n l may m (f .0) (f .1 .0) (f .1 .1) (unbuffer F m j .text), delete-waits M F G I L W i j n l may m (f .0)
-          (f .1 .0) (f .1 .1) (unbuffer F m j .text)))
+      (λ m q. let f = room-some M F i n m q in (
+        delete-live M F G I L W i j n l may m (f .0) (f .1 .0) (f .1 .1) (unbuffer F m j .text),
+        delete-waits M F G I L W i j n l may m (f .0)
+            (f .1 .0) (f .1 .1) (unbuffer F m j .text),
+      ))
   handle-live i j (deregister c) l may = deregister-live M F G I X L W i j c l may
   handle-live i j (register c row) l may =
       let z : registering row ∷ handoffs c l ≡ handoffOf (F .place c) i j (rowOf M (F .next c)) = rw (may .line, eqb-self c) at (I .handoffs-right c i j) in
@@ -816,3 +818,4 @@ module _ (M : Limits) (F : Floor) (G : History) (I : Invariant M F G) (X : LineF
       (λ c b may. unspoken-live M F (update (F .steady) c b) (F .groups) L W)
       (λ g set may. unspoken-live M F (F .steady) (update (F .groups) g set) L W)
       (λ s g text m may. (send-live M F G s (F .groups g) text m may I L W, send-waits M F G s (F .groups g) text m may I L W))
+      (λ s set text m may. (send-live M F G s set text m may I L W, send-waits M F G s set text m may I L W))

@@ -9,8 +9,8 @@ use lib.ListN.{length}
 use borrow.Author.Tests.{eq-eqb, eqb-true, le-ltb, lt-leb, not-true}
 use Rattle.protocol.specs.Folds.{byOption, isEmpty, isNone}
 use Rattle.protocol.specs.CartSets.{has}
-use Rattle.protocol.specs.Floor.{Floor, Limits, Record, at}
-use Rattle.protocol.specs.Events.{Event, enter, flag, group, move, radio, send, sendGroup, start, wire}
+use Rattle.protocol.specs.Floor.{Floor, Limits, Record, at, mostText}
+use Rattle.protocol.specs.Events.{Event, enter, flag, group, move, radio, send, sendGroup, sendLong, start, wire}
 use Rattle.protocol.specs.Wireless.{queueHead}
 use Rattle.protocol.specs.Form.{passesForm}
 use Rattle.protocol.specs.Refusals.{refusal, refusalIf}
@@ -46,7 +46,7 @@ NoRecord F = (i j : ℕ) → i < F .stations → j < F .stations → F .lines i 
 -- all lines are empty, a radio step of cart c at t would be accepted, and none at a lower station, nor there of a lower cart
 pub record LowestCart (M : Limits) (F : Floor) (t c buffer : ℕ) : Type 0 where
   pub no-record : NoRecord F
-  pub longest : buffer ≡ M .text
+  pub longest : buffer ≡ mostText M
   pub receives : wouldReceive M F t c ≡ true
   pub at-lower : (u d : ℕ) → u < t → d < F .carts → wouldReceive M F u d ≡ false
   pub lower : (d : ℕ) → d < c → wouldReceive M F t d ≡ false
@@ -67,6 +67,7 @@ Next M F (some (move c to)) = ⊥
 Next M F (some (flag c b)) = ⊥
 Next M F (some (group g set)) = ⊥
 Next M F (some (sendGroup s g text)) = ⊥
+Next M F (some (sendLong s set text)) = ⊥
 
 module _ (F : Floor) where
   to-is : (i : ℕ) → IsFirst (F .stations) (λ j. not (isEmpty (F .lines i j))) (busyTo F i)
@@ -111,7 +112,7 @@ module _ (M : Limits) (F : Floor) where
       on-found (λ o. Next M F (byOption o none (radioAt M F))) (F .stations) (λ t. not (isNone (firstCart M F t))) (firstStation M F) station-is
       (λ no-cart. record { no-record = no-record; no-receipt = λ t c lt. none-at t (no-cart t lt) c })
       (λ t lt here lower.
-      on-found (λ o. not (isNone o) ≡ true → Next M F (byOption o none (λ c. some (radio t c (M .text)))))
+      on-found (λ o. not (isNone o) ≡ true → Next M F (byOption o none (λ c. some (radio t c (mostText M)))))
       (F .carts) (wouldReceive M F t) (firstCart M F t) (cart-is t)
       (λ no e. clash false e refl)
       (λ c lc receives lower-cart e. record {
@@ -147,7 +148,7 @@ taken-accepted M F (start n k) h x = absurd x
 taken-accepted M F (enter t c) h x = absurd x
 taken-accepted M F (send s set text) h x = absurd x
 taken-accepted M F (wire i j) h x = (wire-accepted M F i j h (x .from) (x .to) (x .busy), tt)
-taken-accepted M F (radio t c buffer) h x = (rw (x .longest) (eqb-true (refusal M F (radio t c (M .text))) 0 (x .receives)), tt)
+taken-accepted M F (radio t c buffer) h x = (rw (x .longest) (eqb-true (refusal M F (radio t c (mostText M))) 0 (x .receives)), tt)
 taken-accepted M F (move c to) h x = absurd x
 taken-accepted M F (flag c b) h x = absurd x
 taken-accepted M F (group g set) h x = absurd x
@@ -160,11 +161,11 @@ next-accepted M F e h n = taken-accepted M F e h (let z = next-is M F in rw n at
 
 -- a radio step of a steady cart that is at its station, in the head of the queue
 pub radio-accepted : (M : Limits) (F : Floor) (t c m : ℕ) → passesForm M F ≡ true → t < F .stations → c < F .carts → F .place c ≡ at t
-    → queueHead M F t ≡ some m → has (F .queue m t) c ≡ true → length (F .text m) ≤ M .text → F .steady c ≡ true
-    → refusal M F (radio t c (M .text)) ≡ 0
+    → queueHead M F t ≡ some m → has (F .queue m t) c ≡ true → length (F .text m) ≤ mostText M → F .steady c ≡ true
+    → refusal M F (radio t c (mostText M)) ≡ 0
 unfolding refusal refusalIf
 radio-accepted M F t c m h lt lc p q e l s =
-    rw (h, lt-leb (F .stations) t lt, lt-leb (F .carts) c lc, p, eqb-self t, s, q, e, le-ltb (M .text) (length (F .text m)) l)
+    rw (h, lt-leb (F .stations) t lt, lt-leb (F .carts) c lc, p, eqb-self t, s, q, e, le-ltb (mostText M) (length (F .text m)) l)
 
 pub quiet-refuses : (M : Limits) (F : Floor) (e : Event) → Sized M F → passesForm M F ≡ true → Quiet M F → IsWork e → refusal M F e ≡ 0 → ⊥
 unfolding refusal
@@ -182,7 +183,7 @@ quiet-refuses M F (radio t c buffer) S h Q w z =
     let b = a .1 in
     let ok = radio-accepted M F t c m h (b .station) (b .cart) (at-is (F .place c) t (b .is-at)) (b .is-head) (b .queued)
     (S .messages .text m (head-first M F t m (b .is-head) .0)) (b .is-steady) in
-    clash (wouldReceive M F t c) (eq-eqb (refusal M F (radio t c (M .text))) 0 ok) (Q .no-receipt t c (b .station) (b .cart))
+    clash (wouldReceive M F t c) (eq-eqb (refusal M F (radio t c (mostText M))) 0 ok) (Q .no-receipt t c (b .station) (b .cart))
 quiet-refuses M F (move c to) S h Q w z = w
 quiet-refuses M F (flag c b) S h Q w z = w
 quiet-refuses M F (group g set) S h Q w z = w

@@ -11,7 +11,7 @@ use borrow.Author.Tests.{eqb-true, le-ltb, lt-ltb, ltb-true, ne-eqb, not-true}
 use Rattle.protocol.specs.Folds.{byOption, count}
 use Rattle.protocol.specs.CartSets.{union}
 use Rattle.protocol.specs.Floor.{Floor, Limits, Record, ackList, cartsThat, delete, deregister, multicast, register}
-use Rattle.protocol.specs.Events.{Answer, Done, Event, Report, accepted, enter, flag, group, move, radio, refused, send, sendGroup, start, wire}
+use Rattle.protocol.specs.Events.{Answer, Done, Event, Report, accepted, enter, flag, group, move, radio, refused, send, sendGroup, sendLong, start, wire}
 use Rattle.protocol.specs.Groups.{onGroup}
 use Rattle.protocol.specs.Order.{placeIn, standsBefore}
 use Rattle.protocol.specs.Handoff.{bufferedFor, catchUp, catchUpEach, catchUpStop, deepest, largestPlace, onEnter, onFlag, onMove, onRegister, placeGiven, roomOf}
@@ -21,6 +21,7 @@ use Rattle.protocol.specs.Wireless.{handOver, queueHead}
 use Rattle.protocol.specs.Form.{passesForm}
 use Rattle.protocol.specs.Refusals.{refusal, refusalIf}
 use Rattle.protocol.specs.Step.{accept, answer}
+use Rattle.protocol.specs.Store.{notLong}
 use Rattle.protocol.proofs.Tests.{and-false, and-left, and-right, by-eq, by-test, clash, eqb-self, on-cond, on-option, or-cases}
 use Rattle.protocol.proofs.SetLaws.{somebody}
 use Rattle.protocol.proofs.InOrder.{EachOf, among, each-map, in-order-among, in-order-each, those, those-count}
@@ -162,6 +163,7 @@ module _ (M : Limits) (F : Floor) (begun : F .started ≡ true) where
       (λ c b may. omega arith)
       (λ g set may. omega arith)
       (λ s g text m may. omega arith)
+      (λ s set text m may. omega arith)
 
 -- on a floor that is not started a start alone is accepted, and it queues nobody
 unstarted-place : (M : Limits) (F : Floor) (broken : Bool) → broken ≡ true → (e : Event) → refusalIf M F broken e ≡ 0 → accept M F e .report .q ≤ M .held
@@ -176,6 +178,8 @@ unstarted-place M F b t (flag c on) r = clash b t (passed-check 5 b _ (omega ari
 unstarted-place M F b t (group g set) r = clash b t (passed-check 5 b _ (omega arith) r .0)
 unstarted-place M F b t (sendGroup s g text) r =
     clash b t (passed-check 5 b _ (omega arith) (passed-check 4 (ltb (M .text) (length text)) _ (omega arith) r .1) .0)
+unstarted-place M F b t (sendLong s set text) r =
+    clash b t (passed-check 5 b _ (omega arith) (passed-check 4 (notLong M (length text)) _ (omega arith) r .1) .0)
 
 pub places-most : (M : Limits) (F : Floor) (e : Event) (l : Report) → answer M F e ≡ accepted l → l .q ≤ M .held
 unfolding refusal

@@ -9,7 +9,7 @@ use lib.ListN.{drop, length, length-append}
 use borrow.Author.Tests.{eqb-true, leb-false, ltb-false, ne-eqb}
 use Rattle.protocol.specs.Folds.{count, sum}
 use Rattle.protocol.specs.CartSets.{has}
-use Rattle.protocol.specs.Floor.{Limits}
+use Rattle.protocol.specs.Floor.{Limits, mostText}
 use Rattle.protocol.specs.Claims.{True}
 use Rattle.protocol.specs.Refusals.{wrongSize}
 use Rattle.protocol.specs.TwoLists.{Item, item}
@@ -68,7 +68,7 @@ items-lower : (M : Limits) (low : ℕ) (l : List Item) (high : ℕ) → True (it
 items-lower M low [] high h = refl
 items-lower M low (x ∷ l) high h = (omega arith, h .1)
 
-items-more : (M : Limits) (low : ℕ) (l : List Item) (high : ℕ) (text : List ℕ) → low ≤ high → length text ≤ M .text → True (itemsRule M low l high)
+items-more : (M : Limits) (low : ℕ) (l : List Item) (high : ℕ) (text : List ℕ) → low ≤ high → length text ≤ mostText M → True (itemsRule M low l high)
     → True (itemsRule M low (l ++ (item high text ∷ [])) (suc high))
 items-more M low [] high text b f h = (b, (omega arith, (f, refl)))
 items-more M low (x ∷ l) high text b f h =
@@ -93,7 +93,7 @@ plain-form-started M n k fit =
     plain-passes-of M (plainStarted n k)
     ((refl, (refl, (refl, ((fit .some-stations, fit .stations), (fit .some-carts, fit .carts))))), ((λ s l. omega arith), ((λ s l c lc. refl), let z = entries-none n k in omega arith)))
 
-appended-rule : (M : Limits) (P : Plain) (s set : ℕ) (text : List ℕ) → s < P .stations → length text ≤ M .text → P .count s ≤ M .last
+appended-rule : (M : Limits) (P : Plain) (s set : ℕ) (text : List ℕ) → s < P .stations → length text ≤ mostText M → P .count s ≤ M .last
     → entries (appended P s set text) ≤ mostEntries M → True (plainRule M P) → True (plainRule M (appended P s set text))
 unfolding appended
 appended-rule M P s set text ls lt ln le h = (
@@ -137,7 +137,7 @@ accepted-rule M P (plainStart n k) h z =
     let a7 = passed-check 7 (wrongSize M n k) _ (omega arith) (a6 .1) in
     plain-form-started M n k (right-size M n k (a7 .0))
 accepted-rule M P (plainSend s set text) h z =
-    let a4 = passed-check 4 (ltb (M .text) (length text)) _ (omega arith) z in
+    let a4 = passed-check 4 (ltb (mostText M) (length text)) _ (omega arith) z in
     let a5 = passed-check 5 (not (plainPasses M P)) _ (omega arith) (a4 .1) in
     let a8 = passed-check 8 (leb (P .stations) s) _ (omega arith) (a5 .1) in
     let a9 = passed-check 9 (leb (2 ^ P .carts) set) _ (omega arith) (a8 .1) in
@@ -147,7 +147,7 @@ accepted-rule M P (plainSend s set text) h z =
     let few = ltb-false (mostEntries M) (entries P + count (P .carts) (has set)) (a30 .0) in
     let more = entries-more P s set text ls in
     plain-passes-of M (appended P s set text)
-    (appended-rule M P s set text ls (ltb-false (M .text) (length text) (a4 .0)) (ltb-false (M .last) (P .count s) (a13 .0)) (omega arith) h)
+    (appended-rule M P s set text ls (ltb-false (mostText M) (length text) (a4 .0)) (ltb-false (M .last) (P .count s) (a13 .0)) (omega arith) h)
 accepted-rule M P (plainTake s c) h z = plain-passes-of M (beheaded P s c) (beheaded-rule M P s c h)
 
 -- "on every floor that passes .. the floor it leaves passes again", of the lists

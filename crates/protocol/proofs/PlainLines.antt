@@ -10,13 +10,14 @@ use lib.Dec.{ltb}
 use lib.ListN.{drop, length}
 use borrow.Author.Tests.{ne-eqb}
 use Rattle.protocol.specs.Floor.{Floor, Limits, unstarted}
-use Rattle.protocol.specs.Events.{Answer, Event, Report, accepted, enter, flag, group, move, radio, refused, send, sendGroup, start, wire}
+use Rattle.protocol.specs.Events.{Answer, Event, Report, accepted, enter, flag, group, move, radio, refused, send, sendGroup, sendLong, start, wire}
 use Rattle.protocol.specs.Groups.{asSent}
 use Rattle.protocol.specs.Form.{passesForm}
 use Rattle.protocol.specs.Refusals.{refusal, refusalIf, wrongSize}
 use Rattle.protocol.specs.Step.{accept, answer, step}
 use Rattle.protocol.specs.Frames.{Reading, end, frameOf, refusedFrame, taken}
 use Rattle.protocol.specs.PlainLists.{Exchange, NeverRefused, Plain, PlainCall, callOf, exchanged, exchangesFrom, fed, fedBy, headLine, headLines, plainAnswer, plainBegun, plainRefusal, plainSend, plainSent, plainStart, plainTake, plainTook, plainUnstarted, receiptLine, receiptLinesFrom}
+use Rattle.protocol.specs.Store.{notLong}
 use Rattle.protocol.proofs.Tests.{by-test}
 use Rattle.protocol.proofs.Invariant.{History}
 use Rattle.protocol.proofs.Updates.{append-nil}
@@ -64,6 +65,8 @@ line-met M F P index (flag c b) a m = refl
 line-met M F P index (group g set) a m = refl
 line-met M F P index (sendGroup s g text) (refused r) m = refl
 line-met M F P index (sendGroup s g text) (accepted l) m = refl
+line-met M F P index (sendLong s set text) (refused r) m = refl
+line-met M F P index (sendLong s set text) (accepted l) m = refl
 
 -- BEFORE THE START
 
@@ -144,6 +147,10 @@ first-step M index (sendGroup s g text) =
     by-test (ltb (M .text) (length text))
     (λ w. first-refused M index (sendGroup s g text) 3 (rw w) refl)
     (λ w. first-refused M index (sendGroup s g text) 4 (rw (w, unstarted-breaks M)) refl)
+first-step M index (sendLong s set text) =
+    by-test (notLong M (length text))
+    (λ w. first-refused M index (sendLong s set text) 3 (rw w) refl)
+    (λ w. first-refused M index (sendLong s set text) 4 (rw (w, unstarted-breaks M)) refl)
 
 -- every event
 along-step : (M : Limits) (F : Floor) (P : Plain) (index : ℕ) (e : Event) → Along M F P → Goes-on M F P index e (step M F e) (answer M F e)

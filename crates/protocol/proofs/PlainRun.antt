@@ -1,6 +1,6 @@
 -- The plain lists beside the controller: what a list has is what the cart has yet to receive, so a radio step hands over its head.
 use mathlib.Core.Path.{ap, refl, sym, _∙_, _≡_}
-use mathlib.Core.Bool.{_&&_, Bool, cond, false, not, true}
+use mathlib.Core.Bool.{_&&_, Bool, cond, false, true}
 use mathlib.Core.Option.{Option, none, some}
 use mathlib.Core.List.{_++_, List, [], _∷_, append-assoc}
 use Prim.Native.Nat.{_+_, _*_, _<_, _^_, suc, zero, ℕ, _≤_}
@@ -11,8 +11,8 @@ use lib.ListN.{drop, getD, length, length-append, take, take-append-drop}
 use borrow.Author.Tests.{eq-eqb, le-leb, le-ltb, leb-true, lt-leb, ne-eqb}
 use Rattle.protocol.specs.Folds.{count, sum, update2}
 use Rattle.protocol.specs.CartSets.{has}
-use Rattle.protocol.specs.Floor.{Floor, Limits, at, isHeld, justStarted}
-use Rattle.protocol.specs.Events.{Answer, Event, Report, accepted, enter, flag, move, radio, refused, group, send, sendGroup, start, wire}
+use Rattle.protocol.specs.Floor.{Floor, Limits, at, isHeld, justStarted, mostText}
+use Rattle.protocol.specs.Events.{Answer, Event, Report, accepted, enter, flag, group, move, radio, refused, send, sendGroup, sendLong, start, wire}
 use Rattle.protocol.specs.Groups.{asSent, onGroup}
 use Rattle.protocol.specs.Handoff.{onEnter, onFlag, onMove}
 use Rattle.protocol.specs.Wired.{handle, withMessage}
@@ -159,12 +159,20 @@ carts-of-send : (P : Plain) (F : Floor) (s set : ℕ) (text : List ℕ) (m : ℕ
 unfolding appended withMessage
 carts-of-send P F s set text m e = e
 
-send-passes : (M : Limits) (P : Plain) (s set : ℕ) (text : List ℕ) → length text ≤ M .text → plainPasses M P ≡ true → s < P .stations
+send-passes : (M : Limits) (P : Plain) (s set : ℕ) (text : List ℕ) → length text ≤ mostText M → plainPasses M P ≡ true → s < P .stations
     → set < 2 ^ P .carts → P .count s ≤ M .last → entries P + count (P .carts) (has set) ≤ mostEntries M
     → plainRefusal M P (plainSend s set text) ≡ 0
 unfolding plainRefusal
 send-passes M P s set text fits h ls lc ln le =
-    rw (le-ltb (M .text) (length text) fits, h, lt-leb (P .stations) s ls, lt-leb (2 ^ P .carts) set lc, le-ltb (M .last) (P .count s) ln, le-ltb (mostEntries M) (entries P + count (P .carts) (has set)) le)
+    rw (
+      le-ltb (mostText M) (length text) fits,
+      h,
+      lt-leb (P .stations) s ls,
+      lt-leb (2 ^ P .carts) set lc,
+      le-ltb (M .last) (P .count s) ln,
+      le-ltb
+          (mostEntries M) (entries P + count (P .carts) (has set)) le,
+    )
 
 take-passes : (M : Limits) (P : Plain) (s c : ℕ) (x : Item) (r : List Item) → plainPasses M P ≡ true → s < P .stations → c < P .carts
     → P .list s c ≡ x ∷ r → plainRefusal M P (plainTake s c) ≡ 0
@@ -215,6 +223,7 @@ fed-refused (move c to) r = refl
 fed-refused (flag c b) r = refl
 fed-refused (group g set) r = refl
 fed-refused (sendGroup s g text) r = refl
+fed-refused (sendLong s set text) r = refl
 
 -- what is fed to the lists is not refused, and a radio step hands over the head
 abbrev pub Met : Limits → Plain → Option PlainCall → Answer → Type 0
@@ -265,12 +274,12 @@ module _ (M : Limits) (F : Floor) (G : History) (P : Plain) (B : Beside M F G P)
       → Invariant M (withMessage F m s set text) (noted G s (record { set = set; text = text }))
       → Goes M P (plainStep M P (plainSend s set text)) (noted G s (record { set = set; text = text })) (some (plainSend s set text)) (accepted l)
   send-goes s set text m may l J =
-      let ls : s < P .stations = (let z = B .stations in let y = may .station in omega arith) in
-      let lc : set < 2 ^ P .carts = rw (B .carts) (may .carts) in
+      let ls : s < P .stations = (let z = B .stations in let y = may .names .station in omega arith) in
+      let lc : set < 2 ^ P .carts = rw (B .carts) (may .names .carts) in
       let S = sent-tracks in
       let few' = few (withMessage F m s set text) (noted G s (record { set = set; text = text })) (appended P s set text) J S (same-carts s set text m) (appended-carts s set text) in
       let more = entries-more P s set text ls in
-      let number : P .count s ≤ M .last = (let z = T .counted s in let y = I .sends-counted s in let x = may .number in omega arith) in
+      let number : P .count s ≤ M .last = (let z = T .counted s in let y = I .sends-counted s in let x = may .takes .number in omega arith) in
       let z = send-passes M P s set text (may .fits) (B .passes) ls lc number (omega arith) in
       rw (step-taken M P (plainSend s set text) z)
       (record { tracks = S; stations = appended-stations s set text; carts = appended-carts s set text; met = z })
@@ -329,6 +338,7 @@ module _ (M : Limits) (F : Floor) (G : History) (P : Plain) (B : Beside M F G P)
       (λ c b may J. same-goes (accepted (onFlag F c b .report)))
       (λ g set may J. same-goes (accepted (onGroup F g set .report)))
       (λ s g text m may J. send-goes s (F .groups g) text m may _ J)
+      (λ s set text m may J. send-goes s set text m may _ J)
 
   pub goes : (e : Event) → Goes M P (fed M P (callOf M F e)) (note (asSent F e) (answer M F e) G) (callOf M F e) (answer M F e)
   goes e = step-goes e (reached-step M F G e (B .reached) .fits-history)

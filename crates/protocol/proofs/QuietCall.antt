@@ -1,6 +1,6 @@
 -- The dispatcher's call: what it is refused for, and what its steps write into the lent buffer.
 use mathlib.Core.Path.{refl, sym, _∙_, _≡_}
-use mathlib.Core.Bool.{Bool, false, true}
+use mathlib.Core.Bool.{Bool, false, not, true}
 use mathlib.Core.List.{List, [], _∷_}
 use Prim.Native.Nat.{_<_, ℕ, _≤_}
 use native.Mathlib.Omega.{arith}
@@ -8,7 +8,7 @@ use lib.Dec.{eqb}
 use lib.ListN.{drop, length, length-append, length-drop}
 use borrow.Author.Tests.{le-ltb, lt-ltb, ne-eqb}
 use Rattle.protocol.specs.CartSets.{union}
-use Rattle.protocol.specs.Floor.{Floor, Limits, Record, ackList, delete, deregister, multicast, register}
+use Rattle.protocol.specs.Floor.{Floor, Limits, Record, ackList, delete, deregister, isAt, mostText, multicast, register}
 use Rattle.protocol.specs.Events.{Answer, Done, Event, accepted, bufferAfter, radio, refused, wire}
 use Rattle.protocol.specs.Handoff.{onRegister, roomOf}
 use Rattle.protocol.specs.Deregister.{onDeregister}
@@ -16,7 +16,7 @@ use Rattle.protocol.specs.Wired.{handle, multicastByRow, onAckList, onDe
 use Rattle.protocol.specs.Wireless.{handOver, queueHead}
 use Rattle.protocol.specs.Form.{passesForm}
 use Rattle.protocol.specs.Blank.{BlankBeyond}
-use Rattle.protocol.specs.Refusals.{bufferShort, refusal, refusalIf}
+use Rattle.protocol.specs.Refusals.{bufferShort, check, headLacks, noCart, noStation, refusal, refusalIf}
 use Rattle.protocol.specs.Step.{accept, answer, answers, step}
 use Rattle.protocol.specs.Quiet.{IsWork, Works, buffersAfter, quietAfter, quietBuffer, quietCall, quietFloor, quietRefusal, quietSteps, turnedAway}
 use Rattle.protocol.proofs.Tests.{by-eq, on-cond, on-head, on-option}
@@ -32,13 +32,13 @@ pub broken-is-5 : (M : Limits) (F : Floor) (size : ℕ) → passesForm M F ≡ f
 unfolding quietRefusal
 broken-is-5 M F size h = rw h
 
-pub short-is-21 : (M : Limits) (F : Floor) (size : ℕ) → passesForm M F ≡ true → size < M .text → quietRefusal M F size ≡ 21
+pub short-is-21 : (M : Limits) (F : Floor) (size : ℕ) → passesForm M F ≡ true → size < mostText M → quietRefusal M F size ≡ 21
 unfolding quietRefusal
-short-is-21 M F size h l = rw (h, lt-ltb size (M .text) l)
+short-is-21 M F size h l = rw (h, lt-ltb size (mostText M) l)
 
-pub else-runs : (M : Limits) (F : Floor) (size : ℕ) → passesForm M F ≡ true → M .text ≤ size → quietRefusal M F size ≡ 0
+pub else-runs : (M : Limits) (F : Floor) (size : ℕ) → passesForm M F ≡ true → mostText M ≤ size → quietRefusal M F size ≡ 0
 unfolding quietRefusal
-else-runs M F size h l = rw (h, le-ltb size (M .text) l)
+else-runs M F size h l = rw (h, le-ltb size (mostText M) l)
 
 -- a call that is refused
 pub call-refused : (M : Limits) (F : Floor) (buffer : List ℕ) (r : ℕ) → 0 < r → quietRefusal M F (length buffer) ≡ r
@@ -96,7 +96,7 @@ wire-leaves-buffer M F i j buffer =
 -- no text of a wire or radio step is longer than the longest
 abbrev TextFits : Limits → Event → Answer → Type 0
 TextFits M e (refused r) = Unit {0}
-TextFits M e (accepted l) = IsWork e → length (l .text) ≤ M .text
+TextFits M e (accepted l) = IsWork e → length (l .text) ≤ mostText M
 
 text-fits : (M : Limits) (F : Floor) → F .started ≡ true → Sized M F → (e : Event) → TextFits M e (answer M F e)
 unfolding handOver
@@ -110,9 +110,10 @@ text-fits M F begun S =
     (λ c b may w. absurd w)
     (λ g set may w. absurd w)
     (λ s g text m may w. absurd w)
+    (λ s set text m may w. absurd w)
 
 -- so each leaves the length of a buffer that takes the longest text
-written-length : (M : Limits) (e : Event) (a : Answer) (buffer : List ℕ) → TextFits M e a → IsWork e → M .text ≤ length buffer
+written-length : (M : Limits) (e : Event) (a : Answer) (buffer : List ℕ) → TextFits M e a → IsWork e → mostText M ≤ length buffer
     → length (bufferAfter a buffer) ≡ length buffer
 written-length M e (refused r) buffer f w l = refl
 written-length M e (accepted x) buffer f w l =
@@ -122,7 +123,7 @@ written-length M e (accepted x) buffer f w l =
     omega arith
 
 pub run-leaves-length : (M : Limits) (F : Floor) (es : List Event) (buffer : List ℕ) → BlankBeyond M F → passesForm M F ≡ true → Works M F es
-    → M .text ≤ length buffer
+    → mostText M ≤ length buffer
     → length (buffersAfter (answers M F es) buffer) ≡ length buffer
 unfolding answers
 run-leaves-length M F [] buffer B h w l = refl
@@ -134,12 +135,30 @@ run-leaves-length M F (e ∷ es) buffer B h w l =
     omega arith
 
 -- "the buffer counts as lent anew to each": a radio step is the same with any buffer that takes the longest text
-pub radio-any-buffer : (M : Limits) (F : Floor) (t c size : ℕ) → BlankBeyond M F → passesForm M F ≡ true → M .text ≤ size
-    → refusal M F (radio t c size) ≡ refusal M F (radio t c (M .text))
+pub radio-any-buffer : (M : Limits) (F : Floor) (t c size : ℕ) → BlankBeyond M F → passesForm M F ≡ true → mostText M ≤ size
+    → refusal M F (radio t c size) ≡ refusal M F (radio t c (mostText M))
 unfolding refusal refusalIf
 radio-any-buffer M F t c size B h l =
     let S = sized-of M F B (clauses-of M F h) in
-    let fits : (b : ℕ) → M .text ≤ b → bufferShort M F t b ≡ false =
+    let fits : (b : ℕ) → mostText M ≤ b → bufferShort M F t b ≡ false =
     λ b lb. on-option (λ (x : Bool). x ≡ false) (queueHead M F t) (λ q. refl)
     (λ m q. le-ltb b (length (F .text m)) (let z = S .messages .text m (head-first M F t m q .0) in omega arith)) in
-    rw (fits size l, fits (M .text) (omega arith))
+    rw (fits size l, fits (mostText M) (omega arith))
+
+-- and is never refused for it
+pub never-21 : (M : Limits) (F : Floor) (t c size : ℕ) → BlankBeyond M F → passesForm M F ≡ true → mostText M ≤ size → refusal M F (radio t c size)
+    ≡ 21 → ⊥
+unfolding refusal refusalIf
+never-21 M F t c size B h l =
+    let S = sized-of M F B (clauses-of M F h) in
+    let fits : bufferShort M F t size ≡ false =
+    on-option (λ (x : Bool). x ≡ false) (queueHead M F t) (λ q. refl)
+    (λ m q. le-ltb size (length (F .text m)) (let z = S .messages .text m (head-first M F t m q .0) in omega arith)) in
+    let other : (n : ℕ) (applies : Bool) (rest : ℕ) → (n ≡ 21 → ⊥) → (rest ≡ 21 → ⊥) → check n applies rest ≡ 21 → ⊥ =
+    λ n applies rest a b. on-cond (λ (x : ℕ). x ≡ 21 → ⊥) applies (λ e. a) (λ e. b) in
+    rw (h, fits)
+    (other 8 (noStation F t) _ (λ z. omega arith)
+    (other 9 (noCart F c) _ (λ z. omega arith)
+    (other 16 (not (isAt (F .place c) t)) _ (λ z. omega arith)
+    (other 25 (not (F .steady c)) _ (λ z. omega arith)
+    (other 17 (headLacks M F t c) 0 (λ z. omega arith) (λ z. omega arith))))))

@@ -42,6 +42,7 @@ step-falls M F G I X =
     (λ c b may w. absurd w)
     (λ g set may w. absurd w)
     (λ s g text m may w. absurd w)
+    (λ s set text m may w. absurd w)
 
 -- on every floor that passes the form rule
 pub accepted-falls : (M : Limits) (F : Floor) (e : Event) → BlankBeyond M F → passesForm M F ≡ true → refusal M F e ≡ 0 → IsWork e

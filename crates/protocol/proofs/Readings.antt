@@ -3,16 +3,17 @@ use mathlib.Core.Bool.{_&&_, Bool, cond, false, not, true}
 use mathlib.Core.Logic.{_⊎_, inl, inr}
 use mathlib.Core.Option.{none, some}
 use mathlib.Core.List.{_++_, List, [], _∷_}
-use Prim.Native.Nat.{_+_, _/_, _<_, suc, zero, ℕ, _≤_}
+use Prim.Native.Nat.{_%_, _+_, _/_, _<_, suc, zero, ℕ, _≤_}
 use native.Mathlib.Omega.{arith}
 use lib.Dec.{eqb, leb, ltb}
 use lib.ListN.{length}
 use borrow.Author.Tests.{eqb-true, le-ltb, lt-leb, lt-ltb, ne-eqb, not-true}
-use Rattle.protocol.specs.Folds.{isEmpty, update}
+use Rattle.protocol.specs.Folds.{isEmpty, isNone, sum, update}
 use Rattle.protocol.specs.CartSets.{has, union, without}
 use Rattle.protocol.specs.Floor.{Floor, Limits, Place, ackList, at, entered, isAt, isHeld, isLocal, register, setGroups, setPlace, setTexts}
-use Rattle.protocol.specs.Events.{Done, flag, group, radio, send, sendGroup, start}
+use Rattle.protocol.specs.Events.{Done, flag, group, radio, send, sendGroup, sendLong, start}
 use Rattle.protocol.specs.Groups.{onGroup}
+use Rattle.protocol.specs.Store.{notLong, storeUsed, storedOf}
 use Rattle.protocol.specs.Order.{placeIn}
 use Rattle.protocol.specs.Handoff.{arrive, catchUp, catchUpEach, catchUpStop, entryOf, onMove, onRegister, roomOf, rowOf, struck, withRow}
 use Rattle.protocol.specs.Wired.{buffer, freeRoom, localRow, multicastByRow, onAckList, placeOfNew, unbuffer}
@@ -101,12 +102,36 @@ pub no-text-is-24 : (M : Limits) (F : Floor) (s set : ℕ) → noStation F s ≡
 unfolding refusalIf
 no-text-is-24 M F s set a8 a9 a11 a12 = rw (le-ltb (M .text) 0 (omega arith), a8, a9, a11, a12)
 
+-- texts of no octets take none of the store
+nothing-stored : (M : Limits) (waiting : ℕ → ℕ) (n : ℕ) → sum n (λ m. cond (eqb (waiting m) 0) 0 (storedOf M [])) ≡ 0
+unfolding sum
+nothing-stored M waiting zero = refl
+nothing-stored M waiting (suc n) =
+    let z = nothing-stored M waiting n in
+    let y : cond (eqb (waiting n) 0) 0 (storedOf M []) ≡ 0 = rw (le-ltb (M .text) 0 (omega arith))
+    (on-cond (λ x. x ≡ 0) (eqb (waiting n) 0) (λ e. refl) (λ e. refl)) in
+    omega arith
+
 -- "The form rule still admits them": where it holds, it holds with no text in any room
 pub form-without-texts : (M : Limits) (F : Floor) → True (formRule M F) → True (formRule M (setTexts F (λ m. [])))
 unfolding roomOf
 form-without-texts M F h =
     let room = h .1 .1 .1 .0 in
-    (h .0, (h .1 .0, (h .1 .1 .0, ((λ m l. (room m l .0, (room m l .1 .0, (room m l .1 .1 .0, omega arith)))), h .1 .1 .1 .1))))
+    let held = h .1 .1 .1 .1 in
+    let lines = held .1 .1 .1 in
+    let none = nothing-stored M (F .waiting) (M .held) in (
+      h .0,
+      (
+        h .1 .0,
+        (
+          h .1 .1 .0,
+          (
+            (λ m l. (room m l .0, (room m l .1 .0, (room m l .1 .1 .0, omega arith)))),
+            (held .0, (held .1 .0, (held .1 .1 .0, (lines .0, (lines .1 .0, (lines .1 .1 .0, (lines .1 .1 .1 .0, omega arith))))))),
+          ),
+        ),
+      ),
+    )
 
 -- A DELETED MESSAGE: "from its send until the last station has handled its delete" it is held, and so long it has its text; then it has none. No
 -- other message loses its own
@@ -115,6 +140,27 @@ freed-by-the-last F m t k =
     by-test (eqb k m)
     (λ e. let z = eqb-true k m e in rw (z, eqb-self m) (by-test (eqb (without (F .waiting m) t) 0) (λ b. rw b) (λ b. rw b)))
     (λ e. rw e)
+
+-- FULL CALIBRATION TABLES
+
+-- "27 .., after 14": of a long send that passes all before it
+pub full-is-27 : (M : Limits) (F : Floor) (s set : ℕ) (text : List ℕ) → notLong M (length text) ≡ false → noStation F s ≡ false
+    → strangers F set ≡ false → eqb set 0 ≡ false → neverEntered F set ≡ false → F .sent s ≤ M .last → isNone (freeRoom M F) ≡ false
+    → refusalIf M F false (sendLong s set text) ≡ cond (ltb (M .store) (storeUsed M (F .waiting) (F .text) + length text)) 27 0
+unfolding refusalIf
+full-is-27 M F s set text a4 a8 a9 a11 a12 a13 a14 = rw (a4, a8, a9, a11, a12, le-ltb (M .last) (F .sent s) a13, a14)
+
+-- "the last sixteen of the forty zero bits hold that length": a bit before them, or one of the six-bit length, is 3
+pub stray-is-3 : (M : Limits) (f : Fields) (behind : ℕ) → f .kind ≡ 9 → 0 < f .cart + f .other + f .length + f .zero / 65536
+    → fieldsRefusal M f behind ≡ 3
+unfolding fieldsRefusal unlisted
+stray-is-3 M f behind k l = rw (k, ne-eqb (f .cart + f .other + f .length + f .zero / 65536) 0 (λ z. omega arith))
+
+-- then 4, by those sixteen alone, and then 1
+pub length-is-4 : (M : Limits) (f : Fields) (behind : ℕ) → f .kind ≡ 9 → f .cart + f .other + f .length + f .zero / 65536 ≡ 0
+    → fieldsRefusal M f behind ≡ cond (notLong M (f .zero % 65536)) 4 (cond (ltb behind (f .zero % 65536)) 1 0)
+unfolding fieldsRefusal unlisted
+length-is-4 M f behind k l = rw (k, l)
 
 -- THE LOCAL LIST LOOKED UP ONCE
 

@@ -7,7 +7,7 @@ use lib.Dec.{eqb, leb, ltb}
 use lib.ListN.{drop, length}
 use borrow.Author.Tests.{eqb-true, leb-true, ltb-true, not-false}
 use Rattle.protocol.specs.Floor.{Floor, Limits}
-use Rattle.protocol.specs.Events.{Answer, Event, accepted, enter, flag, move, radio, refused, group, send, sendGroup, start, wire}
+use Rattle.protocol.specs.Events.{Answer, Event, accepted, enter, flag, group, move, radio, refused, send, sendGroup, sendLong, start, wire}
 use Rattle.protocol.specs.Wired.{buffer}
 use Rattle.protocol.specs.Form.{passesForm}
 use Rattle.protocol.specs.Blank.{BlankBeyond}
@@ -15,6 +15,7 @@ use Rattle.protocol.specs.Refusals.{refusal, refusalIf, wrongSize}
 use Rattle.protocol.specs.Step.{accept, answer, answers, floorAfter, step}
 use Rattle.protocol.specs.Frames.{Reading, end, frameOf, refusedFrame, taken}
 use Rattle.protocol.specs.Printed.{lineOf, linesFrom}
+use Rattle.protocol.specs.Store.{notLong}
 use Rattle.protocol.proofs.Tests.{and-left, and-right, by-test, clash, on-cond}
 use Rattle.protocol.proofs.Accepted.{passed-check}
 use Rattle.protocol.proofs.Demand3.{step-size}
@@ -72,6 +73,8 @@ only-start M F b t (radio u c buffer) r = clash b t (passed-check 5 b _ (omega a
 only-start M F b t (move c to) r = clash b t (passed-check 5 b _ (omega arith) r .0)
 only-start M F b t (flag c on) r = clash b t (passed-check 5 b _ (omega arith) r .0)
 only-start M F b t (group g set) r = clash b t (passed-check 5 b _ (omega arith) r .0)
+only-start M F b t (sendLong s set text) r = clash b t (passed-check 5 b _ (omega arith)
+    (passed-check 4 (notLong M (length text)) _ (omega arith) r .1) .0)
 only-start M F b t (sendGroup s g text) r =
     clash b t (passed-check 5 b _ (omega arith) (passed-check 4 (ltb (M .text) (length text)) _ (omega arith) r .1) .0)
 

@@ -7,7 +7,7 @@ use lib.Dec.{eqb}
 use borrow.Author.Tests.{eqb-true}
 use Rattle.protocol.specs.CartSets.{has}
 use Rattle.protocol.specs.Floor.{Floor, Limits}
-use Rattle.protocol.specs.Events.{Answer, Event, accepted, enter, flag, group, move, radio, refused, send, sendGroup, start, wire}
+use Rattle.protocol.specs.Events.{Answer, Event, accepted, enter, flag, group, move, radio, refused, send, sendGroup, sendLong, start, wire}
 use Rattle.protocol.specs.Groups.{asSent}
 use Rattle.protocol.specs.Step.{answer, step}
 use Rattle.protocol.specs.TwoLists.{Item, Lists, item, listsAfter, listsStep}
@@ -39,6 +39,7 @@ one-more (move d to) a L u c rest = refl
 one-more (flag d b) a L u c rest = refl
 one-more (group g set) a L u c rest = refl
 one-more (sendGroup s g text) a L u c rest = refl
+one-more (sendLong s set text) a L u c rest = refl
 
 -- every list of events
 pub sent-is : (M : Limits) (F : Floor) (L : Lists) (es : List Event) (u c : ℕ)

@@ -8,7 +8,7 @@ use lib.Dec.{eqb, eqb·suc-suc, eqb·suc-zero, eqb·zero-suc}
 use lib.Arith.{digits-mod, lt-one}
 use lib.Pow.{pow-lt, pow-mono, pow-pos, shr-shr}
 use lib.Bits.{and-le-l, and-le-r, and-shr, and-step, bitAnd, bitOr, bitXor, differ, or-add-and, or-lt, or-shifted-r, or-shr, or-step, xor-lt, xor-shr, xor-step}
-use borrow.Author.Tests.{eqb-false, eqb-true, ne-eqb, not-false, not-true}
+use borrow.Author.Tests.{eq-eqb, eqb-false, eqb-true, ne-eqb, not-false, not-true}
 use Rattle.protocol.specs.Folds.{every}
 use Rattle.protocol.specs.CartSets.{digit, has, minus, setOf, union, with, without}
 use Rattle.protocol.specs.Floor.{at}
@@ -238,3 +238,10 @@ somebody x e = let ne : x ≡ 0 → ⊥ = eqb-false x 0 e in let r = some-member
 -- and one that has a member is not 0
 pub has-some : (x c : ℕ) → has x c ≡ true → eqb x 0 ≡ false
 has-some x c e = by-test (eqb x 0) (λ q. let z = eqb-true x 0 q in clash (has 0 c) (rw z at e) (has-zero c)) (λ q. q)
+
+-- whoever is waited for without t was waited for before
+pub still-waited : (x t : ℕ) → eqb (without x t) 0 ≡ false → eqb x 0 ≡ false
+still-waited x t e =
+    by-eq x 0
+    (λ z. clash (eqb (without x t) 0) (eq-eqb (without x t) 0 (let less = without-lt 0 x t (omega arith) in omega arith)) e)
+    (λ z. ne-eqb x 0 z)

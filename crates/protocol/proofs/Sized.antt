@@ -6,10 +6,10 @@ use native.Mathlib.Omega.{arith}
 use lib.Dec.{eqb, ltb}
 use lib.ListN.{length}
 use lib.Seq.{sets}
-use borrow.Author.Tests.{eqb-true, ltb-true}
+use borrow.Author.Tests.{eqb-true, ltb-true, ne-eqb}
 use Rattle.protocol.specs.Folds.{update, update2}
 use Rattle.protocol.specs.CartSets.{has, minus, setOf, union, with, without}
-use Rattle.protocol.specs.Floor.{Floor, Limits, Place, Record, ackList, at, behead, between, cartsThat, delete, deregister, entered, isBuffered, justStarted, leaving, multicast, outside, put, register, stationOf, toEvery, travelling}
+use Rattle.protocol.specs.Floor.{Floor, Limits, Place, Record, ackList, at, behead, between, cartsThat, delete, deregister, entered, isBuffered, justStarted, leaving, mostText, multicast, outside, put, register, stationOf, toEvery, travelling}
 use Rattle.protocol.specs.Events.{Done, Event}
 use Rattle.protocol.specs.Groups.{groupCount, onGroup}
 use Rattle.protocol.specs.Handoff.{arrive, catchUpStop, entryOf, onEnter, onFlag, onMove, onRegister, roomOf, rowOf, struck, withRow}
@@ -20,8 +20,9 @@ use Rattle.protocol.specs.Claims.{All}
 use Rattle.protocol.specs.Form.{handoffOf, handoffs, registering}
 use Rattle.protocol.specs.Step.{step}
 use Rattle.protocol.specs.Ranges.{PlaceInRange}
-use Rattle.protocol.proofs.Tests.{and-left, and-right, both-equal, clash, eqb-self, on-cond, on-option, on-update, on-update2}
-use Rattle.protocol.proofs.SetLaws.{has-zero, member-below, minus-lt, setOf-lt, union-lt, with-lt, without-lt, zero-below}
+use Rattle.protocol.specs.Store.{storeUsed, storedOf}
+use Rattle.protocol.proofs.Tests.{and-left, and-right, both-equal, by-eq, by-test, clash, eqb-self, on-cond, on-option, on-update, on-update2}
+use Rattle.protocol.proofs.SetLaws.{has-zero, member-below, minus-lt, setOf-lt, still-waited, union-lt, with-lt, without-lt, zero-below}
 use Rattle.protocol.proofs.FloorLaws.{on-put}
 use Rattle.protocol.proofs.InOrder.{EachOf, completed, deregister-splits, each-map, handedOff, send-each-is, sendEach}
 use Rattle.protocol.proofs.Accepted.{MayGroup, MayMove, MayRadio, MaySend, MayWire, by-step, named-has-entered, unlined}
@@ -30,7 +31,7 @@ use Rattle.protocol.proofs.Updates.{all-append}
 use Rattle.protocol.proofs.CatchUp.{arrive-at-once, catchUpAtOnce, docked, foundIs, one-at-once}
 use Rattle.protocol.proofs.HandoffSteps.{registering-is}
 use Rattle.protocol.proofs.DeregisterStep.{all-go}
-use Rattle.protocol.proofs.Counting.{all-rest}
+use Rattle.protocol.proofs.Counting.{all-rest, sum-bump, sum-mono, sum-zero}
 use Rattle.protocol.proofs.SumRun.{initiator-on-floor}
 
 -- The sizes of what is stored: counts, sets, texts, places and lines stay within the floor; kept by every event.
@@ -55,7 +56,7 @@ pub record MessagesFit (M : Limits) (n k : ℕ) (d a w : ℕ → ℕ) (x : ℕ �
   pub named : (m : ℕ) → m < M .held → d m < 2 ^ k
   pub acked : (m : ℕ) → m < M .held → a m < 2 ^ k
   pub waiting : (m : ℕ) → m < M .held → w m < 2 ^ n
-  pub text : (m : ℕ) → m < M .held → length (x m) ≤ M .text
+  pub text : (m : ℕ) → m < M .held → length (x m) ≤ mostText M
 
 -- a table of sets of carts, one for each room and station
 abbrev pub SetsFit : Limits → ℕ → (ℕ → ℕ → ℕ) → Type 0
@@ -93,6 +94,7 @@ pub record SizedOf (M : Limits) (F : Floor) : Type 0 where
   pub lengths : F .lengthsRight ≡ true
   pub words : F .wordsRight ≡ true
   pub counts : CountsFit M (F .stations) (F .carts)
+  pub store : storeUsed M (F .waiting) (F .text) ≤ M .store
   pub numbers : NumbersFit M (F .sent)
   pub places : PlacesFit (F .stations) (F .place)
   pub messages : MessagesFit M (F .stations) (F .carts) (F .named) (F .acked) (F .waiting) (F .text)
@@ -140,6 +142,33 @@ group-defined F g set may S h lh =
     (λ z. (may .carts, λ c n. named-has-entered F set c (member-below (F .carts) set c (may .carts) n) (may .all-entered) n))
     (λ z. S h lh)
 
+-- THE STORE
+
+-- a send takes octets of the store if its text is long
+store-more : (M : Limits) (F : Floor) (s set : ℕ) (text : List ℕ) (m : ℕ) → MaySend M F s set text m → storeUsed M (F .waiting) (F .text) ≤ M .store
+    → storeUsed M (update (F .waiting) m (setOf (F .stations) (λ t. true))) (update (F .text) m text) ≤ M .store
+store-more M F s set text m may S =
+    let full = setOf (F .stations) (λ t. true) in
+    let f : ℕ → ℕ = λ k. cond (eqb (update (F .waiting) m full k) 0) 0 (storedOf M (update (F .text) m text k)) in
+    let g : ℕ → ℕ = λ k. cond (eqb (F .waiting k) 0) 0 (storedOf M (F .text k)) in
+    let none : g m ≡ 0 = rw (may .takes .free) in
+    let z = sum-bump (M .held) f g m (f m) (may .takes .room) (λ k l ne. rw (ne-eqb k m ne)) (omega arith) in
+    let taken : f m ≤ storedOf M text = rw (eqb-self m) (on-cond (λ x. x ≤ storedOf M text) (eqb full 0) (λ e. omega arith) (λ e. omega arith)) in
+    by-test (ltb (M .text) (length text))
+    (λ e. let y : f m ≤ length text = (let t = taken in rw e at t) in let b = may .stored e in omega arith)
+    (λ e. let y : f m ≤ 0 = (let t = taken in rw e at t) in omega arith)
+
+-- a delete takes none
+store-less : (M : Limits) (F : Floor) (m t : ℕ)
+    → storeUsed M (update (F .waiting) m (without (F .waiting m) t))
+    (update (F .text) m (cond (eqb (without (F .waiting m) t) 0) [] (F .text m))) ≤ storeUsed M (F .waiting) (F .text)
+store-less M F m t =
+    sum-mono (M .held) _ _ (λ k l. by-eq k m
+    (λ z. rw (z, eqb-self m) (by-test (eqb (without (F .waiting m) t) 0)
+    (λ e. rw e (omega arith))
+    (λ e. rw (e, still-waited (F .waiting m) t e) (omega arith))))
+    (λ z. rw (ne-eqb k m z) (omega arith)))
+
 -- SETS
 
 set-update : (M : Limits) (k : ℕ) (sets : ℕ → ℕ → ℕ) (m t x : ℕ) → (m < M .held → t < M .stations → x < 2 ^ k) → SetsFit M k sets → SetsFit M k (update2 sets m t x)
@@ -163,6 +192,7 @@ module _ (M : Limits) where
         };
         lengths = S .lengths;
         words = S .words;
+        store = S .store;
         groups = S .groups;
         counts = S .counts;
         numbers = S .numbers;
@@ -188,6 +218,7 @@ module _ (M : Limits) where
         };
         lengths = S .lengths;
         words = S .words;
+        store = S .store;
         groups = groups-stay (F .carts) (F .place) (F .groups) c (at t) refl (S .groups);
         counts = S .counts;
         numbers = S .numbers;
@@ -210,6 +241,7 @@ module _ (M : Limits) where
             (to-one (F .stations) (F .carts) t (F .initiator m) (ackList (F .number m) (F .acks m t)) lt li (S .copies .acks m t lm lt'));
         lengths = S .lengths;
         words = S .words;
+        store = S .store;
         groups = S .groups;
         counts = S .counts;
         numbers = S .numbers;
@@ -240,13 +272,14 @@ module _ (M : Limits) where
         lines = put-fits (F .stations) (F .carts) (F .lines) (toEvery (F .stations) s) (delete n) (S .lines) (to-every (F .stations) (F .carts) s (delete n) ls tt);
         lengths = S .lengths;
         words = S .words;
+        store = S .store;
         groups = S .groups;
         counts = S .counts;
         numbers = S .numbers;
         places = S .places;
         copies = S .copies;
       })
-      (λ b. record { messages = H; lengths = S .lengths; words = S .words; groups = S .groups; counts = S .counts; numbers = S .numbers; places = S .places; copies = S .copies; lines = S .lines }))
+      (λ b. record { messages = H; lengths = S .lengths; words = S .words; store = S .store; groups = S .groups; counts = S .counts; numbers = S .numbers; places = S .places; copies = S .copies; lines = S .lines }))
 
   -- a cart is handed off
   handed-off-sized : (F : Floor) (i j c : ℕ) → i < F .stations → j < F .stations → Sized M F → Sized M (handedOff M (unlined F i j) i j c)
@@ -263,6 +296,7 @@ module _ (M : Limits) where
             (to-one (F .stations) (F .carts) j i (register c (rowOf M (F .next c))) lj li tt);
         lengths = S .lengths;
         words = S .words;
+        store = S .store;
         groups = groups-stay (F .carts) (F .place) (F .groups) c (travelling j i) refl (S .groups);
         counts = S .counts;
         numbers = S .numbers;
@@ -275,6 +309,7 @@ module _ (M : Limits) where
       lines = behead-fits (F .stations) (F .carts) (F .lines) i j (S .lines);
       lengths = S .lengths;
       words = S .words;
+      store = S .store;
       groups = S .groups;
       counts = S .counts;
       numbers = S .numbers;
@@ -291,7 +326,7 @@ module _ (M : Limits) where
     handled-sized i j (multicast n) l may =
         let P = popped-sized i j in
         on-option Fits (roomOf M F i n)
-        (λ q. record { lengths = P .lengths; words = P .words; groups = P .groups; counts = P .counts; numbers = P .numbers; places = P .places; messages = P .messages; copies = P .copies; lines = P .lines })
+        (λ q. record { lengths = P .lengths; words = P .words; store = P .store; groups = P .groups; counts = P .counts; numbers = P .numbers; places = P .places; messages = P .messages; copies = P .copies; lines = P .lines })
         (λ m q. record {
           copies = record {
             copy = set-update M (F .carts) (F .copy) m j (minus (F .named m) (cartsThat F (isStruck F (localRow F j) m i n)))
@@ -301,6 +336,7 @@ module _ (M : Limits) where
           };
           lengths = P .lengths;
           words = P .words;
+          store = P .store;
           groups = P .groups;
           counts = P .counts;
           numbers = P .numbers;
@@ -319,12 +355,13 @@ module _ (M : Limits) where
             waiting = λ k lk. on-update (λ x. x < 2 ^ F .stations) (F .waiting) m (without (F .waiting m) j) k (λ z. without-lt (F .stations) (F .waiting m) j (S .messages .waiting m (rw z at lk))) (λ z. S .messages .waiting k lk);
             named = S .messages .named;
             acked = S .messages .acked;
-            text = λ k lk. on-update (λ (x : List ℕ). length x ≤ M .text) (F .text) m (cond (eqb (without (F .waiting m) j) 0) [] (F .text m)) k
-                (λ z. on-cond (λ (x : List ℕ). length x ≤ M .text) (eqb (without (F .waiting m) j) 0) (λ e. omega arith)
-                    (λ e. S .messages .text m (rw z at lk))) (λ z. S .messages .text k lk);
+            text = λ k lk. on-update (λ (x : List ℕ). length x ≤ mostText M) (F .text) m (cond (eqb (without (F .waiting m) j) 0) [] (F .text m)) k
+                (λ z. on-cond (λ (x : List ℕ). length x ≤ mostText M) (eqb (without (F .waiting m) j) 0) (λ e. omega arith)
+                (λ e. S .messages .text m (rw z at lk))) (λ z. S .messages .text k lk);
           };
           lengths = P .lengths;
           words = P .words;
+          store = (let z = store-less M F m j in let y = S .store in omega arith);
           groups = P .groups;
           counts = P .counts;
           numbers = P .numbers;
@@ -356,6 +393,7 @@ module _ (M : Limits) where
       };
       lengths = S .lengths;
       words = S .words;
+      store = S .store;
       groups = S .groups;
       counts = S .counts;
       numbers = S .numbers;
@@ -382,17 +420,20 @@ module _ (M : Limits) where
       let blank : (sets : ℕ → ℕ → ℕ) → SetsFit M (F .carts) sets → SetsFit M (F .carts) (λ k t. cond (eqb k m) 0 (sets k t)) =
       λ sets X. set-choice M (F .carts) sets (λ k t. 0) (λ k t. eqb k m) X (λ k t lk lt. zero-below (F .carts)) in
       record {
-        numbers = λ u. on-update (λ x. x ≤ suc (M .last)) (F .sent) s (suc (F .sent s)) u (λ z. let y = may .number in omega arith) (λ z. S .numbers u);
+        numbers = λ u. on-update (λ x. x ≤ suc (M .last)) (F .sent) s (suc (F .sent s)) u (λ z. let y = may .takes .number in omega arith)
+            (λ z. S .numbers u);
         messages = record {
-          named = λ k lk. on-update (λ x. x < 2 ^ F .carts) (F .named) m set k (λ z. may .carts) (λ z. S .messages .named k lk);
+          named = λ k lk. on-update (λ x. x < 2 ^ F .carts) (F .named) m set k (λ z. may .names .carts) (λ z. S .messages .named k lk);
           acked = λ k lk. on-update (λ x. x < 2 ^ F .carts) (F .acked) m 0 k (λ z. zero-below (F .carts)) (λ z. S .messages .acked k lk);
           waiting = λ k lk. on-update (λ x. x < 2 ^ F .stations) (F .waiting) m (setOf (F .stations) (λ t. true)) k (λ z. setOf-lt (F .stations) (λ t. true)) (λ z. S .messages .waiting k lk);
-          text = λ k lk. on-update (λ (x : List ℕ). length x ≤ M .text) (F .text) m text k (λ z. may .fits) (λ z. S .messages .text k lk);
+          text = λ k lk. on-update (λ (x : List ℕ). length x ≤ mostText M) (F .text) m text k (λ z. may .fits) (λ z. S .messages .text k lk);
         };
         copies = record { copy = blank (F .copy) (S .copies .copy); acks = blank (F .acks) (S .copies .acks); queue = blank (F .queue) (S .copies .queue) };
-        lines = put-fits (F .stations) (F .carts) (F .lines) (toEvery (F .stations) s) (multicast (F .sent s)) (S .lines) (to-every (F .stations) (F .carts) s (multicast (F .sent s)) (may .station) tt);
+        lines = put-fits (F .stations) (F .carts) (F .lines) (toEvery (F .stations) s) (multicast (F .sent s)) (S .lines)
+            (to-every (F .stations) (F .carts) s (multicast (F .sent s)) (may .names .station) tt);
         lengths = S .lengths;
         words = S .words;
+        store = store-more M F s set text m may (S .store);
         groups = S .groups;
         counts = S .counts;
         places = S .places;
@@ -408,6 +449,7 @@ module _ (M : Limits) where
         lines = put-fits (F .stations) (F .carts) (F .lines) (between to (stationOf (F .place c))) (deregister c) (S .lines) (to-one (F .stations) (F .carts) to (stationOf (F .place c)) (deregister c) (may .station) old tt);
         lengths = S .lengths;
         words = S .words;
+        store = S .store;
         groups = groups-stay (F .carts) (F .place) (F .groups) c (leaving (stationOf (F .place c)) to) refl (S .groups);
         counts = S .counts;
         numbers = S .numbers;
@@ -422,6 +464,7 @@ grouped-sized M F g set may S =
       groups = group-defined F g set may (S .groups);
       lengths = S .lengths;
       words = S .words;
+      store = S .store;
       counts = S .counts;
       numbers = S .numbers;
       places = S .places;
@@ -443,6 +486,7 @@ step-sized M F G I S =
     (λ c b may. S)
     (λ g set may. grouped-sized M F g set may S)
     (λ s g text m may. sent-sized M F s (F .groups g) text m may S)
+    (λ s set text m may. sent-sized M F s set text m may S)
 
 -- a floor just started
 pub started-sized : (M : Limits) (n k : ℕ) → CountsFit M n k → Sized M (justStarted n k)
@@ -451,6 +495,7 @@ started-sized M n k fit =
       lengths = refl;
       words = refl;
       counts = fit;
+      store = let z = sum-zero (M .held) in omega arith;
       groups = λ g l. (zero-below k, λ c e. clash (has 0 c) e (has-zero c));
       numbers = λ s. omega arith;
       places = λ c. tt;

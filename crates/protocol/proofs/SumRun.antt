@@ -68,6 +68,7 @@ step-sum M F G I =
     (λ c b may. idle M F G I (total F))
     (λ g set may. idle M F G I (total F))
     (λ s g text m may. idle M F G I (total F))
+    (λ s set text m may. idle M F G I (total F))
 
 pub sums : (M : Limits) (F : Floor) (G : History) → Invariant M F G → (es : List Event) → total (floorAfter M F es) ≡ total F + gains M F es
 unfolding floorAfter gains

@@ -3,11 +3,9 @@ use mathlib.Core.Path.{subst, sym, _∙_, _≡_}
 use mathlib.Core.Bool.{false, true}
 use mathlib.Core.List.{List, [], _∷_}
 use Prim.Native.Nat.{ℕ}
-use native.Mathlib.Omega.{arith}
 use lib.Dec.{eqb}
-use borrow.Author.Tests.{eq-eqb, eqb-true, ne-eqb}
 use Rattle.protocol.specs.Folds.{isEmpty}
-use Rattle.protocol.specs.CartSets.{union, without}
+use Rattle.protocol.specs.CartSets.{union}
 use Rattle.protocol.specs.Floor.{Floor, Limits, Record, ackList, delete, deregister, multicast, register}
 use Rattle.protocol.specs.Events.{Done, Event}
 use Rattle.protocol.specs.Groups.{onGroup}
@@ -16,8 +14,8 @@ use Rattle.protocol.specs.Wired.{buffer, handle, multicastByRow, onAckLi
 use Rattle.protocol.specs.Wireless.{allAcked, handOver, receive, sendAcks, sendAcksIfAll}
 use Rattle.protocol.specs.Deregister.{leave}
 use Rattle.protocol.specs.Step.{floorAfter, step}
-use Rattle.protocol.proofs.Tests.{by-eq, by-test, clash, on-cond, on-option}
-use Rattle.protocol.proofs.SetLaws.{without-lt}
+use Rattle.protocol.proofs.Tests.{by-test, on-cond, on-option}
+use Rattle.protocol.proofs.SetLaws.{still-waited}
 use Rattle.protocol.proofs.InOrder.{completed, deregister-is, send-each-is}
 use Rattle.protocol.proofs.Accepted.{MaySend, by-step, unlined}
 use Rattle.protocol.proofs.CatchUp.{arrive-at-once, one-at-once}
@@ -30,13 +28,6 @@ Texts waiting text = (m : ℕ) → eqb (waiting m) 0 ≡ false → isEmpty (text
 -- the same of a floor
 abbrev pub AllTexts : Floor → Type 0
 AllTexts F = Texts (F .waiting) (F .text)
-
--- whoever is waited for without t was waited for before
-still-waited : (x t : ℕ) → eqb (without x t) 0 ≡ false → eqb x 0 ≡ false
-still-waited x t e =
-    by-eq x 0
-    (λ z. clash (eqb (without x t) 0) (eq-eqb (without x t) 0 (let less = without-lt 0 x t (omega arith) in omega arith)) e)
-    (λ z. ne-eqb x 0 z)
 
 module _ (M : Limits) (F : Floor) (T : AllTexts F) where
   sent-text : (s set : ℕ) (text : List ℕ) (m : ℕ) → MaySend M F s set text m → AllTexts (withMessage F m s set text)
@@ -79,6 +70,7 @@ step-text M F begun T =
     (λ c b may. T)
     (λ g set may. T)
     (λ s g text m may. sent-text M F T s (F .groups g) text m may)
+    (λ s set text m may. sent-text M F T s set text m may)
 
 -- and every run
 pub texts-after : (M : Limits) (F : Floor) → F .started ≡ true → AllTexts F → (es : List Event) → AllTexts (floorAfter M F es)

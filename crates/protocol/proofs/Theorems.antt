@@ -1,19 +1,20 @@
-use mathlib.Core.Path.{_≡_, ap, refl, subst, sym, _∙_}
+use mathlib.Core.Path.{ap, ap₂, refl, subst, sym, _∙_, _≡_}
 use mathlib.Core.Bool.{_&&_, Bool, cond, false, not, true, _||_}
 use mathlib.Core.Logic.{_⊎_}
 use mathlib.Core.Option.{none, some}
 use mathlib.Core.List.{_++_, List, [], map, _∷_}
-use Prim.Native.Nat.{_*_, _+_, _-_, _<_, _^_, max, suc, ℕ, _≤_}
+use Prim.Native.Nat.{_%_, _*_, _+_, _-_, _/_, _<_, _^_, max, suc, ℕ, _≤_}
 use native.Mathlib.Nat.{mul-le-mul-left, mul-le-mul-right}
 use native.Mathlib.Omega.{arith}
 use lib.Dec.{eqb, ltb}
 use lib.ListN.{drop, getD, length, replicate, take}
 use borrow.Author.Tests.{le-leb, ne-eqb, not-true}
-use Rattle.protocol.specs.Folds.{count, isEmpty, sum, update}
+use Rattle.protocol.specs.Folds.{count, isEmpty, isNone, sum, update}
 use Rattle.protocol.specs.CartSets.{has}
-use Rattle.protocol.specs.Floor.{Floor, Limits, Place, Product, Record, ackList, at, behead, delete, entered, isAt, isBuffered, isHeld, isLocal, justStarted, kit, limits, limitsOf, mostRecords, multicast, onLines, onTheLines, register, setGroups, setPlace, setSteady, setTexts, stationOf, unstarted}
-use Rattle.protocol.specs.Events.{Event, Report, accepted, bufferAfter, enter, flag, group, move, radio, refused, send, sendGroup, start, wire}
-use Rattle.protocol.specs.Groups.{membersOf, onGroup}
+use Rattle.protocol.specs.Floor.{Floor, Limits, Place, Product, Record, ackList, at, behead, delete, entered, isAt, isBuffered, isHeld, isLocal, isMessage, justStarted, kit, limits, limitsOf, mostRecords, mostText, multicast, onLines, onTheLines, register, setGroups, setPlace, setSteady, setTexts, stationOf, unstarted}
+use Rattle.protocol.specs.Events.{Event, Report, accepted, bufferAfter, enter, flag, group, move, radio, refused, send, sendGroup, sendLong, start, wire}
+use Rattle.protocol.specs.Groups.{asSent, membersOf, onGroup}
+use Rattle.protocol.specs.Store.{notLong, storeUsed}
 use Rattle.protocol.specs.Order.{placeIn}
 use Rattle.protocol.specs.Handoff.{arrive, entryOf, onEnter, onFlag, onRegister, roomOf, rowOf}
 use Rattle.protocol.specs.Wired.{freeRoom, handle, localRow, multicastByRow, onDelete, onMulticast, onWire}
@@ -29,13 +30,16 @@ use Rattle.protocol.specs.Route.{Sending, sendingsOf}
 use Rattle.protocol.specs.TwoLists.{Item, TwoListRule, bothEmpty, item, listsAfter, owes}
 use Rattle.protocol.specs.SumRule.{gains, total}
 use Rattle.protocol.specs.PlainLists.{NeverRefused, Plain, PlainCall, appended, beheaded, callOf, entries, exchanges, plainAfter, plainAfterCalls, plainAnswer, plainPasses, plainRefusal, plainRefused, plainRun, plainStart, plainStarted, plainStep, plainTake, plainTook, plainUnstarted, receiptLinesFrom}
-use Rattle.protocol.specs.Frames.{Fields, fieldsRefusal}
+use Rattle.protocol.specs.Frames.{Fields, Reading, fieldsRefusal, framesFrom, framesIn}
+use Rattle.protocol.specs.Printed.{linesFrom, printedRun}
+use Rattle.protocol.specs.ReadText.{readRefusal, readText}
+use Rattle.protocol.specs.Blur.{blur, blurAnswer, blurEvent, blurPrinted, blurReading}
 use Rattle.protocol.specs.Ranges.{InRange, NumbersBelow, Wide}
 use Rattle.protocol.specs.Examples.{K1frames, allSent, examples, heldOn, octetsOf, outcome, rollsAway}
 use Rattle.protocol.proofs.Tests.{by-eq, clash, on-cond, or-right}
 use Rattle.protocol.proofs.InOrder.{deregister-counts, none-stays, tested-once}
-use Rattle.protocol.proofs.Readings.{above-15-is-26, arrive-keeps-flags, deregister-keeps-flags, emptied-is-undefined, form-without-texts, freed-by-the-last, group-alone, move-keeps-flags, never-entered-is-12, never-in-is-18, no-cart-is-9, no-station-is-8, no-text-is-24, none-free-is-14, not-entered-is-12, not-here-is-16, other-flag-is-3, others-as-they-were, places-not-asked, put-at-the-end, register-is-last, register-keeps-flags, rest-stays, row-kept, row-of-local, strangers-are-9, too-large-is-7, undefined-is-26, unsteady-is-25, used-up-is-13}
-use Rattle.protocol.proofs.Accepted.{MayWire, accepted-passes, accepted-report, may-move, may-radio, may-send, may-wire, passed-check, printed-as-the-send, sent-as-the-send}
+use Rattle.protocol.proofs.Readings.{above-15-is-26, arrive-keeps-flags, deregister-keeps-flags, emptied-is-undefined, form-without-texts, freed-by-the-last, full-is-27, group-alone, length-is-4, move-keeps-flags, never-entered-is-12, never-in-is-18, no-cart-is-9, no-station-is-8, no-text-is-24, none-free-is-14, not-entered-is-12, not-here-is-16, other-flag-is-3, others-as-they-were, places-not-asked, put-at-the-end, register-is-last, register-keeps-flags, rest-stays, row-kept, row-of-local, strangers-are-9, stray-is-3, too-large-is-7, undefined-is-26, unsteady-is-25, used-up-is-13}
+use Rattle.protocol.proofs.Accepted.{MayWire, accepted-passes, accepted-report, is-long, long-as-the-send, may-move, may-radio, may-send, may-wire, passed-check, printed-as-the-send, sent-as-the-send}
 use Rattle.protocol.proofs.Demand3.{nothing, rule-after, started-ok}
 use Rattle.protocol.proofs.Counting.{sum-ext, sum-term}
 use Rattle.protocol.proofs.HandoffSteps.{carried}
@@ -57,13 +61,16 @@ use Rattle.protocol.proofs.Places.{head-place, place-is-position, place
 use Rattle.protocol.proofs.NextEvent.{FirstLine, LowestCart, Quiet, next-is, quiet-refuses}
 use Rattle.protocol.proofs.QuietRun.{accepted-falls, all-work, no-more, potential-most, steps-bounded, stops}
 use Rattle.protocol.proofs.LiveRun.{floor-after-more, historyAfter, none-owed, quiet-holds, reached-run, reached-start}
-use Rattle.protocol.proofs.QuietCall.{broken-is-5, call-refused, call-runs, else-runs, radio-any-buffer, refused-call-keeps, run-leaves-length, short-is-21, wire-leaves-buffer}
+use Rattle.protocol.proofs.QuietCall.{broken-is-5, call-refused, call-runs, else-runs, never-21, radio-any-buffer, refused-call-keeps, run-leaves-length, short-is-21, wire-leaves-buffer}
 use Rattle.protocol.proofs.PlainLaws.{entries-more, plain-form-after, plain-form-kept, refused-call-alone, start-alike}
 use Rattle.protocol.proofs.PlainRun.{beside-run, beside-start, few-beside, goes, met-passes}
 use Rattle.protocol.proofs.PlainLines.{before, head-answered, through}
 use Rattle.protocol.proofs.Found.{ack-list-room, delete-room, multicast-room}
 use Rattle.protocol.proofs.Texts.{texts-after}
 use Rattle.protocol.proofs.Route.{listed, sent-is}
+use Rattle.protocol.proofs.BlurRun.{answers-blurred, floor-blurred}
+use Rattle.protocol.proofs.BlurPrint.{blur-keeps-length, frames-enough, lines-blurred, lines-by-frames, linesOf}
+use Rattle.protocol.proofs.ReadLaws.{read-nothing, step-reads, step-send-reads, unheld-is-28}
 
 -- WHAT IS PROVED of the written steps. Each statement uses names of specs/ alone; M are any limits, `limits` those of the floor.
 
@@ -476,7 +483,7 @@ takes-first-line M F i j n = let z : FirstLine F i j = (let y = next-is M F in r
 -- "with all lines empty, the lowest station at which a radio step would be accepted, and the lowest cart there", with a buffer that takes every text
 pub takes-lowest-cart : (M : Limits) (F : Floor) (t c buffer : ℕ) → nextEvent M F ≡ some (radio t c buffer)
     → ((i j : ℕ) → i < F .stations → j < F .stations → F .lines i j ≡ [])
-    × ((buffer ≡ M .text) × ((wouldReceive M F t c ≡ true)
+    × ((buffer ≡ mostText M) × ((wouldReceive M F t c ≡ true)
     × (((u d : ℕ) → u < t → d < F .carts → wouldReceive M F u d ≡ false) × ((d : ℕ) → d < c → wouldReceive M F t d ≡ false))))
 takes-lowest-cart M F t c buffer n =
     let z : LowestCart M F t c buffer = (let y = next-is M F in rw n at y) in (z .no-record, (z .longest, (z .receives, (z .at-lower, z .lower))))
@@ -567,16 +574,16 @@ unfolding quietEvents
 quiet-works M F B h = all-work M (mostSteps M) F B h
 
 -- "and the buffer counts as lent anew to each": lent whole, however long it is, it changes no radio step
-pub longer-buffer-alike : (M : Limits) (F : Floor) (t c size : ℕ) → BlankBeyond M F → passesForm M F ≡ true → M .text ≤ size
-    → (answer M F (radio t c size) ≡ answer M F (radio t c (M .text))) × (step M F (radio t c size) ≡ step M F (radio t c (M .text)))
+pub longer-buffer-alike : (M : Limits) (F : Floor) (t c size : ℕ) → BlankBeyond M F → passesForm M F ≡ true → mostText M ≤ size
+    → (answer M F (radio t c size) ≡ answer M F (radio t c (mostText M))) × (step M F (radio t c size) ≡ step M F (radio t c (mostText M)))
 unfolding answer step accept
 longer-buffer-alike M F t c size B h l = rw (radio-any-buffer M F t c size B h l) (refl, refl)
 
--- "Checks: 21 if that buffer is shorter than 32, after 5, before the first step": 5, whatever is lent; then 21, whatever is held
+-- "Checks: 21 if that buffer is shorter .., after 5, before the first step", "21 below 512": 5, whatever is lent; then 21, whatever is held
 pub quiet-5-first : (M : Limits) (F : Floor) (buffer : List ℕ) → passesForm M F ≡ false → quietCall M F buffer .answer ≡ turnedAway 5
 quiet-5-first M F buffer h = call-refused M F buffer 5 (omega arith) (broken-is-5 M F (length buffer) h)
 
-pub quiet-21-then : (M : Limits) (F : Floor) (buffer : List ℕ) → passesForm M F ≡ true → length buffer < M .text
+pub quiet-21-then : (M : Limits) (F : Floor) (buffer : List ℕ) → passesForm M F ≡ true → length buffer < mostText M
     → quietCall M F buffer .answer ≡ turnedAway 21
 quiet-21-then M F buffer h l = call-refused M F buffer 21 (omega arith) (short-is-21 M F (length buffer) h l)
 
@@ -586,13 +593,13 @@ pub quiet-refusal-changes-nothing : (M : Limits) (F : Floor) (buffer : List ℕ)
 quiet-refusal-changes-nothing M F buffer r a = refused-call-keeps M F buffer r a
 
 -- else it runs, "and reports how many steps it took, equal to the steps of its written definition"
-pub quiet-runs : (M : Limits) (F : Floor) (buffer : List ℕ) → passesForm M F ≡ true → M .text ≤ length buffer
+pub quiet-runs : (M : Limits) (F : Floor) (buffer : List ℕ) → passesForm M F ≡ true → mostText M ≤ length buffer
     → (quietCall M F buffer .answer ≡ quietAfter (quietSteps M F))
     × ((quietCall M F buffer .floor ≡ quietFloor M F) × (quietCall M F buffer .buffer ≡ buffersAfter (answers M F (quietEvents M F)) buffer))
 quiet-runs M F buffer h l = call-runs M F buffer (else-runs M F (length buffer) h l)
 
 -- and leaves the buffer as long as it was lent
-pub quiet-buffer-length : (M : Limits) (F : Floor) (buffer : List ℕ) → BlankBeyond M F → passesForm M F ≡ true → M .text ≤ length buffer
+pub quiet-buffer-length : (M : Limits) (F : Floor) (buffer : List ℕ) → BlankBeyond M F → passesForm M F ≡ true → mostText M ≤ length buffer
     → length (quietCall M F buffer .buffer) ≡ length buffer
 quiet-buffer-length M F buffer B h l =
     rw (quiet-runs M F buffer h l .1 .1) (run-leaves-length M F (quietEvents M F) buffer B h (quiet-works M F B h) l)
@@ -600,8 +607,8 @@ quiet-buffer-length M F buffer B h l =
 -- the cart that rolls away, closed once it has greeted its new station: the rest of that run is the dispatcher's, and the text that was handed over
 -- then is in the buffer
 pub closing-rolls-away : (quietEvents limits (floorAfter limits unstarted (take 8 rollsAway)) ≡ drop 8 rollsAway)
-    × ((quietCall limits (floorAfter limits unstarted (take 8 rollsAway)) (replicate 32 0) .answer ≡ quietAfter 7)
-    × (quietCall limits (floorAfter limits unstarted (take 8 rollsAway)) (replicate 32 0) .buffer ≡ 0xa1 ∷ replicate 31 0))
+    × ((quietCall limits (floorAfter limits unstarted (take 8 rollsAway)) (replicate 512 0) .answer ≡ quietAfter 7)
+    × (quietCall limits (floorAfter limits unstarted (take 8 rollsAway)) (replicate 512 0) .buffer ≡ 0xa1 ∷ replicate 511 0))
 closing-rolls-away = closed
 
 -- NAMED GROUPS OF CARTS
@@ -782,6 +789,120 @@ plain-prints M l = through M (suc (length l)) unstarted plainUnstarted 0 l (befo
 -- K1's frames have one accepted radio step, of index 9: number 0 of station 1
 pub lists-print-K1 : plainRun limits K1frames ≡ octetsOf "9 1 0\n"
 lists-print-K1 = lists-of-K1
+
+-- FULL CALIBRATION TABLES
+
+-- "Kind 9 is a send": where both are accepted it leaves the floor that kind 2 leaves, and reports the same under its own kind
+pub long-send-is-send : (M : Limits) (F : Floor) (s set : ℕ) (text : List ℕ)
+    → (accept M F (sendLong s set text) .floor ≡ accept M F (send s set text) .floor)
+    × (accept M F (sendLong s set text) .report
+    ≡ (let l = accept M F (send s set text) .report in record { kind = 9; a = l .a; b = l .b; p = l .p; w = l .w; q = l .q; text = l .text }))
+long-send-is-send M F s set text = long-as-the-send M F s set text
+
+-- "whose text has 33 to 512 octets", "for kind 9, 4 for other lengths": whatever the floor
+pub long-send-lengths : (M : Limits) (F : Floor) (s set : ℕ) (text : List ℕ) (l : Report) → answer M F (sendLong s set text) ≡ accepted l
+    → (M .text < length text) × (length text ≤ M .long)
+unfolding refusal refusalIf
+long-send-lengths M F s set text l a =
+    is-long M (length text) (passed-check 4 (notLong M (length text)) _ (omega arith) (accepted-passes M F (sendLong s set text) l a) .0)
+
+pub long-send-4 : (M : Limits) (F : Floor) (s set : ℕ) (text : List ℕ) → notLong M (length text) ≡ true → answer M F (sendLong s set text) ≡ refused 4
+unfolding answer refusal refusalIf
+long-send-4 M F s set text a4 = rw a4
+
+-- "27 free octets in the store, counted together, fewer than the length, after 14": on a floor that passes, a long send that passes all other checks
+-- is 27 exactly if what is taken and its length are more than the store has
+pub store-full-is-27 : (M : Limits) (F : Floor) (s set : ℕ) (text : List ℕ) → passesForm M F ≡ true → notLong M (length text) ≡ false
+    → noStation F s ≡ false → strangers F set ≡ false → eqb set 0 ≡ false → neverEntered F set ≡ false → F .sent s ≤ M .last
+    → isNone (freeRoom M F) ≡ false
+    → refusal M F (sendLong s set text) ≡ cond (ltb (M .store) (storeUsed M (F .waiting) (F .text) + length text)) 27 0
+unfolding refusal
+store-full-is-27 M F s set text h a4 a8 a9 a11 a12 a13 a14 = rw h (full-is-27 M F s set text a4 a8 a9 a11 a12 a13 a14)
+
+-- "one store of 4,096 octets" holds the long texts, on every floor that passes
+pub texts-in-store : (M : Limits) (F : Floor) → BlankBeyond M F → passesForm M F ≡ true → storeUsed M (F .waiting) (F .text) ≤ M .store
+texts-in-store M F B h = numbers-in-range M F B h .stored
+
+-- of a frame: "the last sixteen of the forty zero bits hold that length, and the six-bit length stays zero": 3 where the rest is not zero, then 4,
+-- then 1
+pub long-frame-stray : (M : Limits) (f : Fields) (behind : ℕ) → f .kind ≡ 9 → 0 < f .cart + f .other + f .length + f .zero / 65536
+    → fieldsRefusal M f behind ≡ 3
+long-frame-stray M f behind k l = stray-is-3 M f behind k l
+
+pub long-frame-lengths : (M : Limits) (f : Fields) (behind : ℕ) → f .kind ≡ 9 → f .cart + f .other + f .length + f .zero / 65536 ≡ 0
+    → fieldsRefusal M f behind ≡ cond (notLong M (f .zero % 65536)) 4 (cond (ltb behind (f .zero % 65536)) 1 0)
+long-frame-lengths M f behind k l = length-is-4 M f behind k l
+
+-- "The lent radio and dispatcher buffers must now hold 512 octets to take every text": with such a buffer no radio step is refused for it
+pub buffer-takes-every-text : (M : Limits) (F : Floor) (t c size : ℕ) → BlankBeyond M F → passesForm M F ≡ true → mostText M ≤ size
+    → refusal M F (radio t c size) ≡ 21 → ⊥
+buffer-takes-every-text M F t c size B h l z = never-21 M F t c size B h l z
+
+pub floor-longest-text : mostText limits ≡ 512
+floor-longest-text = refl
+
+pub kit-longest-text : mostText (limitsOf kit) ≡ 512
+kit-longest-text = refl
+
+-- THE READING CALL, "by initiator and number": a refused one gives no octet
+pub refused-reads-nothing : (M : Limits) (F : Floor) (s n : ℕ) → 0 < readRefusal M F s n → readText M F s n ≡ []
+refused-reads-nothing M F s n h = read-nothing M F s n h
+
+-- "28 message not held", after 5 and 8
+pub not-held-is-28 : (M : Limits) (F : Floor) (s n : ℕ) → passesForm M F ≡ true → noStation F s ≡ false
+    → ((m : ℕ) → m < M .held → isMessage F s n m ≡ false) → readRefusal M F s n ≡ 28
+not-held-is-28 M F s n h a8 none-held = unheld-is-28 M F s n h a8 none-held
+
+-- an accepted radio step hands over what the call would have read just before, on every floor that passes
+pub radio-reads : (M : Limits) (F : Floor) (t c buffer : ℕ) (r : Report) → BlankBeyond M F → passesForm M F ≡ true
+    → answer M F (radio t c buffer) ≡ accepted r
+    → (readRefusal M F (r .a) (r .b) ≡ 0) × (readText M F (r .a) (r .b) ≡ r .text)
+radio-reads M F t c buffer r B h a = let z = step-reads M F B h (radio t c buffer) in (rw a at z) refl
+
+-- and right behind an accepted send, of whichever kind, it reads the text that was sent
+pub send-reads : (M : Limits) (F : Floor) (e : Event) (s set : ℕ) (text : List ℕ) (r : Report) → BlankBeyond M F → passesForm M F ≡ true
+    → asSent F e ≡ send s set text → answer M F e ≡ accepted r
+    → (readRefusal M (step M F e) s (r .b) ≡ 0) × (readText M (step M F e) s (r .b) ≡ text)
+send-reads M F e s set text r B h q a =
+    let f = form-kept M F e B h in
+    let z = step-send-reads M F (clauses-of M F h .floor .0) e in
+    (rw a at z) (f .0) (f .1) s set text q
+
+-- "TWO RUNS WHOSE EVENTS DIFFER ONLY IN TEXT OCTETS, lengths equal, print the same but for the text": refused events among them, and from floors that
+-- differ only in text octets too
+pub same-but-text : (M : Limits) (F G : Floor) (es ds : List Event) → blur F ≡ blur G → map blurEvent es ≡ map blurEvent ds
+    → map blurAnswer (answers M F es) ≡ map blurAnswer (answers M G ds)
+same-but-text M F G es ds f e =
+    sym (answers-blurred M F es) ∙ ap₂ (λ (X : Floor) (l : List Event). answers M X l) f e ∙ answers-blurred M G ds
+
+-- and the floors that they leave differ only in text octets
+pub same-floor-but-text : (M : Limits) (F G : Floor) (es ds : List Event) → blur F ≡ blur G → map blurEvent es ≡ map blurEvent ds
+    → blur (floorAfter M F es) ≡ blur (floorAfter M G ds)
+same-floor-but-text M F G es ds f e = sym (floor-blurred M F es) ∙ ap₂ (λ (X : Floor) (l : List Event). floorAfter M X l) f e ∙ floor-blurred M G ds
+
+-- of the printed run: two inputs whose frames differ only in the octets of their texts print the same but for the digits of the texts
+pub same-print-but-text : (M : Limits) (l x : List ℕ) → map blurReading (framesIn M l) ≡ map blurReading (framesIn M x)
+    → blurPrinted 0 (printedRun M l) ≡ blurPrinted 0 (printedRun M x)
+unfolding printedRun framesIn
+same-print-but-text M l x e =
+    let by : (y : List ℕ) → blurPrinted 0 (printedRun M y) ≡ linesOf M (blur unstarted) 0 (map blurReading (framesIn M y)) =
+    λ y. ap (λ (z : List ℕ). blurPrinted 0 z) (lines-by-frames M (suc (length y)) unstarted 0 y) ∙ lines-blurred M unstarted 0 (framesIn M y) in
+    by l ∙ ap (λ (r : List Reading). linesOf M (blur unstarted) 0 r) e ∙ sym (by x)
+
+-- in which no octet is added or taken away
+pub same-print-length : (blanks : ℕ) (l : List ℕ) → length (blurPrinted blanks l) ≡ length l
+same-print-length blanks l = blur-keeps-length blanks l
+
+-- "there are no more frames than octets": looking for more frames finds none, and prints nothing more
+pub frames-with-more : (M : Limits) (k : ℕ) (l : List ℕ) → length l < k → framesFrom M k l ≡ framesIn M l
+unfolding framesIn
+frames-with-more M k l h = frames-enough M k (suc (length l)) l h (omega arith)
+
+pub printed-with-more : (M : Limits) (k : ℕ) (l : List ℕ) → length l < k → linesFrom M k unstarted 0 l ≡ printedRun M l
+unfolding printedRun framesIn
+printed-with-more M k l h =
+    lines-by-frames M k unstarted 0 l ∙ ap (λ (r : List Reading). linesOf M unstarted 0 r) (frames-with-more M k l h)
+    ∙ sym (lines-by-frames M (suc (length l)) unstarted 0 l)
 
 -- THE ROUTE MUST NOT MATTER: "for two runs from the same start in which each station makes the same accepted sends (set or members, and text) in the
 -- same order, with entries, moves, flags, wire and radio steps as they please, and both ending with no message held, every cart has received the same

@@ -4,7 +4,7 @@ use mathlib.Core.List.{List, [], _∷_, _++_}
 use Prim.Native.Nat.{ℕ, zero, suc}
 use lib.ListN.{length, drop, replicate}
 use Rattle.protocol.specs.Folds.{count}
-use Rattle.protocol.specs.Floor.{Limits, Floor, isHeld, unstarted}
+use Rattle.protocol.specs.Floor.{Limits, Floor, isHeld, mostText, unstarted}
 use Rattle.protocol.specs.Step.{step}
 use Rattle.protocol.specs.Quiet.{QuietAnswer, turnedAway, quietAfter, QuietCall, quietCall}
 use Rattle.protocol.specs.Frames.{end, refusedFrame, taken, frameOf}
@@ -25,7 +25,7 @@ closingFields (quietAfter steps) held = field steps ++ field held
 
 -- the call that the program makes: it lends a buffer that takes every text
 abbrev pub closingCall : Limits → Floor → QuietCall
-closingCall M F = quietCall M F (replicate (M .text) 0)
+closingCall M F = quietCall M F (replicate (mostText M) 0)
 
 -- "one line more": of the floor at the end of the input
 unfoldable pub closingLine : Limits → Floor → List ℕ

@@ -1,14 +1,14 @@
--- THE STARRED EXAMPLES K1 to K10, and further ones of a message with no text, of places in rising order, of groups and of the demonstration
--- kit, as rows of one table.
+-- THE STARRED EXAMPLES K1 to K10, and further ones of a message with no text, of places in rising order, of groups, of tables and of the
+-- demonstration kit, as rows of one table.
 use mathlib.Core.Bool.{Bool, true, false, cond, _&&_}
 use mathlib.Core.List.{List, [], _∷_, _++_}
-use Prim.Native.Nat.{ℕ, zero, suc}
+use Prim.Native.Nat.{ℕ, zero, suc, _/_, _%_}
 use Prim.Native.Char.{code}
 use Prim.Native.String.{String, [] as endOfText, _∷_ as _then_}
 use lib.Dec.{eqb, ltb}
 use lib.ListN.{length, drop, replicate}
 use Rattle.protocol.specs.Floor.{Limits, limitsOf, limits, kit, outside, at, Floor, justStarted, onStations, unstarted}
-use Rattle.protocol.specs.Events.{Event, start, enter, send, wire, radio, move, Answer, refused, accepted}
+use Rattle.protocol.specs.Events.{Event, start, enter, send, wire, radio, move, sendLong, Answer, refused, accepted}
 use Rattle.protocol.specs.Form.{passesForm}
 use Rattle.protocol.specs.Step.{floorAfter, answers}
 use Rattle.protocol.specs.Printed.{linesFrom, printedRun}
@@ -237,7 +237,7 @@ abbrev pub noTextGone : Row
 noTextGone = record { within = limits; given = after holdsNoText (radio 0 0 32 ∷ wire 0 0 ∷ wire 0 0 ∷ []); shown = holds 0 }
 
 -- NAMED GROUPS: one station, two carts there. A send to group 3, which is not defined; it gets both carts; a send to it, text A1; it is undefined, and
--- a send to it is 26 again; but both carts receive A1, since "A later change of the group touches no message already sent". Kind 9 ends the run
+-- a send to it is 26 again; but both carts receive A1, since "A later change of the group touches no message already sent". Kind 15 ends the run
 abbrev pub groupChanged : Row
 groupChanged =
     record {
@@ -245,10 +245,38 @@ groupChanged =
       given = frames
           (frame 0x00 0x04 0x00 0 ++ frame 0x10 0x00 0x00 0 ++ frame 0x10 0x04 0x00 0 ++ frame 0x80 0x00 0xc1 0 ++ (0xa0 ∷ [])
           ++ frame 0x70 0x00 0xc0 3 ++ frame 0x80 0x00 0xc1 0 ++ (0xa1 ∷ []) ++ frame 0x70 0x00 0xc0 0 ++ frame 0x80 0x00 0xc1 0 ++ (0xa2 ∷ []) ++ frame 0x30 0x00 0x00 0
-          ++ frame 0x40 0x00 0x00 0 ++ frame 0x40 0x04 0x00 0 ++ frame 0x90 0x00 0x00 0);
+          ++ frame 0x40 0x00 0x00 0 ++ frame 0x40 0x04 0x00 0 ++ frame 0xf0 0x00 0x00 0);
       shown = printed
           (octetsOf "0 0 1 2 0 0 0\n1 1 0 0 0 0 0\n2 1 0 1 0 0 0\n3 no 26\n4 7 3 2 0 0 0\n5 8 0 0 0 1 0\n6 7 3 0 0 0 0\n7 no 26\n8 3 1 0 0 0 1\n9 4 0 0 0 0 0 a1\n10 4 0 0 0 1 0 a1\n11 no 2\n");
     }
+
+-- FULL CALIBRATION TABLES: one station and cart. A table of 33 octets is sent, buffered and handed out; one of 32 is 4, and ends the run. The frame
+-- of kind 9: its length is the last sixteen of the forty zero bits
+abbrev pub tableFrame : ℕ → ℕ → List ℕ
+tableFrame octets set = 0x90 ∷ 0 ∷ 0 ∷ 0 ∷ 0 ∷ 0 ∷ octets / 256 ∷ octets % 256 ∷ replicate 7 0 ++ (set ∷ [])
+
+abbrev pub tableSent : Row
+tableSent =
+    record {
+      within = limits;
+      given = frames
+          (frame 0x00 0x00 0x00 0 ++ frame 0x10 0x00 0x00 0 ++ tableFrame 33 1 ++ replicate 33 0xa1 ++ frame 0x30 0x00 0x00 0 ++ frame 0x40 0x00 0x00 0
+          ++ tableFrame 32 1 ++ replicate 32 0xa1);
+      shown = printed
+          (octetsOf "0 0 1 1 0 0 0\n1 1 0 0 0 0 0\n2 9 0 0 0 1 0\n3 3 1 0 0 0 1\n4 4 0 0 0 1 0 a1a1a1a1a1a1a1a1a1a1a1a1a1a1a1a1a1a1a1a1a1a1a1a1a1a1a1a1a1a1a1a1a1\n5 no 4\n");
+    }
+
+-- eight tables of 512 octets fill the store: one of 33 is 27; after the first one's last delete it is accepted
+abbrev pub tables : List Event
+tables = start 1 1 ∷ enter 0 0 ∷ times 8 (sendLong 0 1 (replicate 512 7))
+
+abbrev pub storeIsFull : Row
+storeIsFull = ask (tables ++ (sendLong 0 1 (replicate 33 7) ∷ [])) 9 (yes 9 0 7 0 1 0 [] ∷ refused 27 ∷ [])
+
+abbrev pub storeIsFree : Row
+storeIsFree =
+    ask (tables ++ times 8 (wire 0 0) ++ (radio 0 0 512 ∷ wire 0 0 ∷ wire 0 0 ∷ sendLong 0 1 (replicate 33 7) ∷ [])) 20
+    (yes 3 3 0 0 0 0 [] ∷ yes 9 0 8 0 1 0 [] ∷ [])
 
 -- THE DEMONSTRATION KIT: "at most 4 stations, 8 carts and 8 held messages"; "Refusals 5 (form rule ..), 7 and 14 use the caller's limits"
 
@@ -278,12 +306,12 @@ abbrev pub examples : List Row
 examples =
     K1 ∷ K2 ∷ K3 ∷ K4 (wire 0 0) (wire 1 0) ∷ K4 (wire 1 0) (wire 0 0) ∷ K5
     ∷ K6form (limitsOf kit) 65534 ∷ K6 (limitsOf kit) 65534 ∷ K6form limits 4294967294 ∷ K6 limits 4294967294 ∷ K7 ∷ K8 ∷ K9 ∷ K10
-    ∷ noTextForm ∷ noText ∷ noTextHeld ∷ noTextGone ∷ rising ∷ groupChanged
+    ∷ noTextForm ∷ noText ∷ noTextHeld ∷ noTextGone ∷ rising ∷ groupChanged ∷ tableSent ∷ storeIsFull ∷ storeIsFree
     ∷ kitLargest ∷ kitTooLarge ∷ kitFull ∷ startedWithin (limitsOf kit) false ∷ startedWithin limits true ∷ []
 
 -- A RUN OF WHICH A THEOREM SPEAKS: "Two carts are local and named. One receives; the other rolls away before it does." Its deregister sends the
 -- first cart's acknowledgement on; it receives at its new station, and every record is handled
 abbrev pub rollsAway : List Event
 rollsAway =
-    start 2 2 ∷ enter 0 0 ∷ enter 0 1 ∷ send 0 3 (0xa1 ∷ []) ∷ wire 0 0 ∷ wire 0 1 ∷ radio 0 0 32 ∷ move 1 1 ∷ wire 1 0 ∷ wire 0 0 ∷ wire 0 1
-    ∷ radio 1 1 32 ∷ wire 1 0 ∷ wire 0 0 ∷ wire 0 1 ∷ []
+    start 2 2 ∷ enter 0 0 ∷ enter 0 1 ∷ send 0 3 (0xa1 ∷ []) ∷ wire 0 0 ∷ wire 0 1 ∷ radio 0 0 512 ∷ move 1 1 ∷ wire 1 0 ∷ wire 0 0 ∷ wire 0 1
+    ∷ radio 1 1 512 ∷ wire 1 0 ∷ wire 0 0 ∷ wire 0 1 ∷ []

@@ -1,7 +1,7 @@
 -- THE FLOOR: "It holds the records of all stations, carts and held messages and the wired lines between stations."
 use mathlib.Core.Bool.{Bool, true, false, cond, _&&_, not}
 use mathlib.Core.List.{List, [], _∷_, _++_}
-use Prim.Native.Nat.{ℕ, _≤_, _+_, _*_}
+use Prim.Native.Nat.{ℕ, _≤_, _+_, _*_, max}
 use native.Mathlib.Omega.{arith}
 use lib.Dec.{eqb, ltb}
 use lib.ListN.{length}
@@ -14,7 +14,10 @@ pub record Limits : Type 0 where
   pub carts : ℕ
   pub held : ℕ
   pub last : ℕ
+  -- the longest text of a send that is not long, the longest long one, and how many octets all long texts together have room for
   pub text : ℕ
+  pub long : ℕ
+  pub store : ℕ
   -- how many next numbers a row has, one for each station that a floor of any limits may have
   pub columns : ℕ
   pub fits : stations ≤ columns
@@ -30,9 +33,20 @@ pub record Product : Type 0 where
   pub held-fit : held ≤ 32
   pub last-fit : last ≤ 4294967294
 
+-- its limits; of texts they are the same for every product: "text 0 to 32 octets", "33 to 512 octets", "one store of 4,096 octets"
 abbrev pub limitsOf : Product → Limits
 limitsOf P =
-    record { stations = P .stations; carts = P .carts; held = P .held; last = P .last; text = 32; columns = 16; fits = P .stations-fit }
+    record {
+      stations = P .stations;
+      carts = P .carts;
+      held = P .held;
+      last = P .last;
+      text = 32;
+      long = 512;
+      store = 4096;
+      columns = 16;
+      fits = P .stations-fit;
+    }
 
 -- "Stations 1 to 16", "Carts 1 to 64", "At most 32 held messages, text 0 to 32 octets"; "the last number being 4,294,967,294"
 abbrev pub wholeFloor : Product
@@ -48,6 +62,10 @@ kit = record { stations = 4; carts = 8; held = 8; last = 65534; stations-fit = o
 -- "at most 32 × (16 + 16 + 64) + 64 = 3,136", "at most 8 × (4 + 4 + 8) + 8 = 136": the records that the lines have room for
 abbrev pub mostRecords : Limits → ℕ
 mostRecords M = M .held * (M .stations + M .stations + M .carts) + M .carts
+
+-- the longest text that a send of any kind may carry: buffers "must now hold 512 octets to take every text"
+abbrev pub mostText : Limits → ℕ
+mostText M = max (M .text) (M .long)
 
 -- "A cart is outside, at a station, leaving (it has greeted a new station, the old one has not heard), or travelling (its register
 -- is on a line)": at s; leaving s for t; travelling from s to t

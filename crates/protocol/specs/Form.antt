@@ -6,8 +6,9 @@ use lib.Dec.{eqb}
 use lib.ListN.{length}
 use Rattle.protocol.specs.Folds.{count, sum, byOption}
 use Rattle.protocol.specs.CartSets.{has}
-use Rattle.protocol.specs.Floor.{Limits, Place, outside, at, leaving, travelling, Record, multicast, ackList, delete, deregister, register, Floor, localTo, entered, isHeld}
+use Rattle.protocol.specs.Floor.{Limits, Place, outside, at, leaving, travelling, Record, multicast, ackList, delete, deregister, register, Floor, localTo, entered, isHeld, mostText}
 use Rattle.protocol.specs.Groups.{groupCount}
+use Rattle.protocol.specs.Store.{storeUsed}
 use Rattle.protocol.specs.Handoff.{roomOf, rowOf}
 use Rattle.protocol.specs.Claims.{Claim, is, le, lt, eq, both, when, all, onLine, test}
 
@@ -150,9 +151,15 @@ module _ (M : Limits) (F : Floor) where
   abbrev pub groupRule : ℕ → Claim
   groupRule g = both (cartsOnly (F .groups g)) (all (F .carts) (λ c. when (is (has (F .groups g) c)) (is (entered (F .place c)))))
 
-  -- EACH ROOM m: its sets are of the floor, and "text 0 to 32 octets"
+  -- EACH ROOM m: its sets are of the floor, and no text is longer than a send may carry
   abbrev pub roomRule : ℕ → Claim
-  roomRule m = both (cartsOnly (F .named m)) (both (cartsOnly (F .acked m)) (both (lt (F .waiting m) (2 ^ F .stations)) (le (length (F .text m)) (M .text))))
+  roomRule m =
+      both (cartsOnly (F .named m)) (both (cartsOnly (F .acked m))
+      (both (lt (F .waiting m) (2 ^ F .stations)) (le (length (F .text m)) (mostText M))))
+
+  -- THE LONG TEXTS "lie in one store of 4,096 octets"
+  abbrev pub storeRule : Claim
+  storeRule = le (storeUsed M (F .waiting) (F .text)) (M .store)
 
   -- in how many places an acknowledgement of cart c for the message in room m stands
   abbrev pub acksOf : ℕ → ℕ → ℕ
@@ -225,8 +232,9 @@ module _ (M : Limits) (F : Floor) where
       both (all (M .held) (λ m. when (is (isHeld F m)) (all (F .stations) (copyRule m)))) (
       both (all (M .columns) (λ i. all (M .columns) (lineRule i))) (
       both (all (M .columns) (λ i. all (F .stations) (orderRule i))) (
-      both (all (M .carts) (λ c. all (F .stations) (λ i. all (F .stations) (handoffRule c i))))
-      (all groupCount groupRule))))))))))
+      both (all (M .carts) (λ c. all (F .stations) (λ i. all (F .stations) (handoffRule c i)))) (
+      both (all groupCount groupRule)
+      storeRule))))))))))
 
   -- its answer
   unfoldable pub passesForm : Bool

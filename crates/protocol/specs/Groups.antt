@@ -4,7 +4,7 @@ use Prim.Native.Nat.{ℕ}
 use Rattle.protocol.specs.Folds.{count, update}
 use Rattle.protocol.specs.CartSets.{has}
 use Rattle.protocol.specs.Floor.{Floor, setGroups}
-use Rattle.protocol.specs.Events.{Event, start, enter, send, wire, radio, move, flag, group, sendGroup, Done, done}
+use Rattle.protocol.specs.Events.{Event, start, enter, send, wire, radio, move, flag, group, sendGroup, sendLong, Done, done}
 
 -- "Sixteen groups", of every caller
 abbrev pub groupCount : ℕ
@@ -20,8 +20,8 @@ unfoldable pub onGroup : Floor → ℕ → ℕ → Done
 onGroup F g set = done (setGroups F (update (F .groups) g set)) 7 g (membersOf F set) 0 0 0 []
 
 -- "Kind 8 .. sends to the members as they are at that send": the event that a group send is on floor F, a send to the members that the group has
--- there; every other event is itself. A group send does not say its members, and its answer does not either, so whatever is built from events and
--- answers ("set or members") is built from this
+-- there; a long text is a text; every other event is itself. A group send does not say its members, and its answer does not either, so whatever is
+-- built from events and answers ("set or members") is built from this
 abbrev pub asSent : Floor → Event → Event
 asSent F (start n k) = start n k
 asSent F (enter t c) = enter t c
@@ -32,3 +32,4 @@ asSent F (move c to) = move c to
 asSent F (flag c b) = flag c b
 asSent F (group g set) = group g set
 asSent F (sendGroup s g text) = send s (F .groups g) text
+asSent F (sendLong s set text) = send s set text

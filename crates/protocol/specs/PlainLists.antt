@@ -8,8 +8,8 @@ use lib.Dec.{eqb, ltb, leb}
 use lib.ListN.{length, drop}
 use Rattle.protocol.specs.Folds.{count, sum, update, update2, byOption, isEmpty}
 use Rattle.protocol.specs.CartSets.{has}
-use Rattle.protocol.specs.Floor.{Limits, Floor, unstarted}
-use Rattle.protocol.specs.Events.{Event, start, enter, send, wire, radio, move, flag, group, sendGroup, Answer, refused, accepted}
+use Rattle.protocol.specs.Floor.{Limits, Floor, mostText, unstarted}
+use Rattle.protocol.specs.Events.{Event, start, enter, send, wire, radio, move, flag, group, sendGroup, sendLong, Answer, refused, accepted}
 use Rattle.protocol.specs.Groups.{asSent}
 use Rattle.protocol.specs.Claims.{Claim, is, le, lt, both, all, test}
 use Rattle.protocol.specs.Refusals.{check, wrongSize}
@@ -101,7 +101,7 @@ headOf (x ∷ l) = plainTook (x .number) (x .text)
 abbrev pub itemsRule : Limits → ℕ → List Item → ℕ → Claim
 itemsRule M low [] high = is true
 itemsRule M low (x ∷ l) high =
-    both (le low (x .number)) (both (lt (x .number) high) (both (le (length (x .text)) (M .text)) (itemsRule M (suc (x .number)) l high)))
+    both (le low (x .number)) (both (lt (x .number) high) (both (le (length (x .text)) (mostText M)) (itemsRule M (suc (x .number)) l high)))
 
 module _ (M : Limits) (P : Plain) where
   -- "their own written form rule": started, with lent parts of the right lengths and words, of a size that a start accepts
@@ -127,7 +127,7 @@ module _ (M : Limits) (P : Plain) where
   unfoldable pub plainRefusal : PlainCall → ℕ
   plainRefusal (plainStart n k) = check 5 (not (P .lengthsRight)) (check 6 (P .started) (check 7 (wrongSize M n k) 0))
   plainRefusal (plainSend s set text) =
-      check 4 (ltb (M .text) (length text))
+      check 4 (ltb (mostText M) (length text))
       (check 5 (not plainPasses)
       (check 8 (leb (P .stations) s)
       (check 9 (leb (2 ^ P .carts) set)
@@ -166,7 +166,7 @@ plainAfterCalls M P (call ∷ calls) = plainAfterCalls M (plainStep M P call) ca
 -- BESIDE THE CONTROLLER
 
 -- "with lists started alike and given exactly the accepted sends (set or members) and radio steps in their order": the call that an event and its
--- answer make. A group send comes here as the send to its members that it was (`asSent`), so the arm of its own gives nothing
+-- answer make. A group send and a long send come here as the sends that they were (`asSent`), so the arms of their own give nothing
 abbrev pub fedBy : Event → Answer → Option PlainCall
 fedBy (start n k) (refused r) = none
 fedBy (start n k) (accepted l) = some (plainStart n k)
@@ -180,6 +180,7 @@ fedBy (move c to) a = none
 fedBy (flag c b) a = none
 fedBy (group g set) a = none
 fedBy (sendGroup s g text) a = none
+fedBy (sendLong s set text) a = none
 
 -- the call that event e makes on floor F
 abbrev pub callOf : Limits → Floor → Event → Option PlainCall
@@ -265,6 +266,7 @@ receiptLine index (move c to) a = []
 receiptLine index (flag c b) a = []
 receiptLine index (group g set) a = []
 receiptLine index (sendGroup s g text) a = []
+receiptLine index (sendLong s set text) a = []
 
 -- of the frames in these octets, at most so many, from a floor and an index
 unfoldable pub receiptLinesFrom : Limits → ℕ → Floor → ℕ → List ℕ → List ℕ

@@ -8,8 +8,8 @@ use Prim.Native.Nat.{ℕ, zero, suc, _+_, _*_}
 use lib.Dec.{eqb, ltb}
 use lib.ListN.{length}
 use Rattle.protocol.specs.Folds.{first, byOption, isNone, isEmpty}
-use Rattle.protocol.specs.Floor.{Limits, Floor, entered}
-use Rattle.protocol.specs.Events.{Event, start, enter, send, wire, radio, move, flag, group, sendGroup, Answer, bufferAfter}
+use Rattle.protocol.specs.Floor.{Limits, Floor, mostText, entered}
+use Rattle.protocol.specs.Events.{Event, start, enter, send, wire, radio, move, flag, group, sendGroup, sendLong, Answer, bufferAfter}
 use Rattle.protocol.specs.Form.{passesForm}
 use Rattle.protocol.specs.Refusals.{check, refusal}
 use Rattle.protocol.specs.Step.{step, floorAfter, answers}
@@ -31,7 +31,7 @@ wireFrom F i = byOption (busyTo F i) none (λ j. some (wire i j))
 module _ (M : Limits) where
   -- "a radio step would be accepted", of cart c at station t, with a buffer that takes every text
   abbrev pub wouldReceive : Floor → ℕ → ℕ → Bool
-  wouldReceive F t c = eqb (refusal M F (radio t c (M .text))) 0
+  wouldReceive F t c = eqb (refusal M F (radio t c (mostText M))) 0
 
   -- "and the lowest cart there"
   unfoldable pub firstCart : Floor → ℕ → Option ℕ
@@ -43,7 +43,7 @@ module _ (M : Limits) where
 
   -- the radio step of the lowest cart at station t
   abbrev pub radioAt : Floor → ℕ → Option Event
-  radioAt F t = byOption (firstCart F t) none (λ c. some (radio t c (M .text)))
+  radioAt F t = byOption (firstCart F t) none (λ c. some (radio t c (mostText M)))
 
   -- "A dispatcher takes the first nonempty line ..; with all lines empty, the lowest station ..": its next event; none, and the floor is quiet
   unfoldable pub nextEvent : Floor → Option Event
@@ -92,10 +92,10 @@ pub record QuietCall : Type 0 where
   pub buffer : List ℕ
 
 module _ (M : Limits) where
-  -- "Checks: 21 if that buffer is shorter than 32, after 5, before the first step": by the buffer's length and the longest text, whatever is held;
-  -- 0 if it runs
+  -- "Checks: 21 if that buffer is shorter than 32, after 5, before the first step", and with long texts "21 below 512": by the buffer's length and
+  -- the longest text, whatever is held; 0 if it runs
   unfoldable pub quietRefusal : Floor → ℕ → ℕ
-  quietRefusal F size = check 5 (not (passesForm M F)) (check 21 (ltb size (M .text)) 0)
+  quietRefusal F size = check 5 (not (passesForm M F)) (check 21 (ltb size (mostText M)) 0)
 
   -- the lent buffer after the dispatcher's steps
   abbrev pub quietBuffer : Floor → List ℕ → List ℕ
@@ -121,6 +121,7 @@ IsWork (move c to) = ⊥
 IsWork (flag c b) = ⊥
 IsWork (group g set) = ⊥
 IsWork (sendGroup s g text) = ⊥
+IsWork (sendLong s set text) = ⊥
 
 -- each event of a list is one, and is accepted on the floor that those before it leave
 abbrev pub Works : Limits → Floor → List Event → Type 0

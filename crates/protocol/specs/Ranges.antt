@@ -3,8 +3,9 @@ use mathlib.Core.Path.{_≡_}
 use mathlib.Core.List.{List, [], _∷_}
 use Prim.Native.Nat.{ℕ, suc, _^_, _<_, _≤_}
 use lib.ListN.{length}
-use Rattle.protocol.specs.Floor.{Limits, Place, outside, at, leaving, travelling, Record, multicast, ackList, delete, deregister, register, Floor}
+use Rattle.protocol.specs.Floor.{Limits, Place, outside, at, leaving, travelling, Record, multicast, ackList, delete, deregister, register, Floor, mostText}
 use Rattle.protocol.specs.Groups.{groupCount}
+use Rattle.protocol.specs.Store.{storeUsed}
 use Rattle.protocol.specs.Claims.{All}
 
 -- a place at, or between, stations below n
@@ -36,7 +37,8 @@ pub record InRange (M : Limits) (F : Floor) : Type 0 where
   pub named : (m : ℕ) → m < M .held → F .named m < 2 ^ F .carts
   pub acked : (m : ℕ) → m < M .held → F .acked m < 2 ^ F .carts
   pub waiting : (m : ℕ) → m < M .held → F .waiting m < 2 ^ F .stations
-  pub text : (m : ℕ) → m < M .held → length (F .text m) ≤ M .text
+  pub text : (m : ℕ) → m < M .held → length (F .text m) ≤ mostText M
+  pub stored : storeUsed M (F .waiting) (F .text) ≤ M .store
   pub copy : (m t : ℕ) → m < M .held → t < M .stations → F .copy m t < 2 ^ F .carts
   pub acks : (m t : ℕ) → m < M .held → t < M .stations → F .acks m t < 2 ^ F .carts
   pub queue : (m t : ℕ) → m < M .held → t < M .stations → F .queue m t < 2 ^ F .carts

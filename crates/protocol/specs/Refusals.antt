@@ -1,14 +1,15 @@
 -- WHERE EACH REFUSAL IS MET: "Checks run down the table; the first that applies is the answer."
 use mathlib.Core.Bool.{Bool, true, false, cond, _&&_, _||_, not}
 use mathlib.Core.List.{List}
-use Prim.Native.Nat.{ℕ, _^_}
+use Prim.Native.Nat.{ℕ, _+_, _^_}
 use lib.Dec.{eqb, ltb, leb}
 use lib.ListN.{length}
 use Rattle.protocol.specs.Folds.{every, byOption, isNone, isEmpty}
 use Rattle.protocol.specs.CartSets.{has}
 use Rattle.protocol.specs.Floor.{Limits, Floor, isAt, entered, moving}
-use Rattle.protocol.specs.Events.{Event, start, enter, send, wire, radio, move, flag, group, sendGroup}
+use Rattle.protocol.specs.Events.{Event, start, enter, send, wire, radio, move, flag, group, sendGroup, sendLong}
 use Rattle.protocol.specs.Groups.{groupCount}
+use Rattle.protocol.specs.Store.{notLong, storeUsed}
 use Rattle.protocol.specs.Wired.{freeRoom}
 use Rattle.protocol.specs.Wireless.{queueHead}
 use Rattle.protocol.specs.Form.{passesForm}
@@ -54,17 +55,36 @@ module _ (M : Limits) (F : Floor) where
   abbrev pub bufferShort : ℕ → ℕ → Bool
   bufferShort t buffer = byOption (queueHead M F t) false (λ m. ltb buffer (length (F .text m)))
 
-  -- the last checks of a send, of whatever kind: "24, 13, 14". "13 now speaks of the caller's last number; its place is unchanged"
+  -- 27: "free octets in the store, counted together, fewer than the length"
+  abbrev pub storeFull : List ℕ → Bool
+  storeFull text = ltb (M .store) (storeUsed M (F .waiting) (F .text) + length text)
+
+  -- the first checks of a send to a set, behind 4, and what follows them
+  abbrev pub firstOfSend : Bool → ℕ → ℕ → ℕ → ℕ
+  firstOfSend broken s set rest =
+      check 5 broken
+      (check 8 (noStation F s)
+      (check 9 (strangers F set)
+      (check 11 (eqb set 0)
+      (check 12 (neverEntered F set)
+      rest))))
+
+  -- has the station a number, and the floor a room, for one more message? "13 now speaks of the caller's last number; its place is unchanged"
+  abbrev pub numberAndRoom : ℕ → ℕ → ℕ
+  numberAndRoom s rest =
+      check 13 (ltb (M .last) (F .sent s))
+      (check 14 (isNone (freeRoom M F))
+      rest)
+
+  -- the last checks of a send that is not long: "24, 13, 14"
   abbrev pub lastOfSend : ℕ → List ℕ → ℕ
-  lastOfSend s text =
-      check 24 (isEmpty text)
-      (check 13 (ltb (M .last) (F .sent s))
-      (check 14 (isNone (freeRoom M F)) 0))
+  lastOfSend s text = check 24 (isEmpty text) (numberAndRoom s 0)
 
   -- the refusal of an event, 0 if it is accepted; `broken`: "not started, or the lent floor breaks the written form rule". "Start skips 8
   -- and 9, and of 5 it keeps only this: a lent part of the floor has the wrong length, met before 6". A number above 21 came later, with its
   -- place: "24 empty text, after 12 and before 13"; "for radio, 25 not steady, after 16 and before 17". For a flag: "18 if never entered, after 9";
-  -- for a group "12 after 9, then 26 for a library group above 15"; for a group send "26 group not defined or above 15, after 8, then 24, 13, 14"
+  -- for a group "12 after 9, then 26 for a library group above 15"; for a group send "26 group not defined or above 15, after 8, then 24, 13, 14";
+  -- for kind 9 "4 for other lengths; 27 .., after 14", and 24 cannot be
   unfoldable pub refusalIf : Bool → Event → ℕ
   refusalIf broken (start n k) = check 5 (not (F .lengthsRight)) (check 6 (F .started) (check 7 (wrongSize M n k) 0))
   refusalIf broken (enter t c) =
@@ -74,12 +94,7 @@ module _ (M : Limits) (F : Floor) where
       (check 10 (entered (F .place c)) 0)))
   refusalIf broken (send s set text) =
       check 4 (ltb (M .text) (length text))
-      (check 5 broken
-      (check 8 (noStation F s)
-      (check 9 (strangers F set)
-      (check 11 (eqb set 0)
-      (check 12 (neverEntered F set)
-      (lastOfSend s text))))))
+      (firstOfSend broken s set (lastOfSend s text))
   refusalIf broken (wire i j) =
       check 5 broken
       (check 8 (noStation F i || noStation F j)
@@ -114,6 +129,9 @@ module _ (M : Limits) (F : Floor) where
       (check 8 (noStation F s)
       (check 26 (undefined F g)
       (lastOfSend s text))))
+  refusalIf broken (sendLong s set text) =
+      check 4 (notLong M (length text))
+      (firstOfSend broken s set (numberAndRoom s (check 27 (storeFull text) 0)))
 
   -- the refusal of an event, 0 if it is accepted
   unfoldable pub refusal : Event → ℕ

@@ -5,7 +5,7 @@ use mathlib.Core.List.{List, [], _∷_, _++_}
 use Prim.Native.Nat.{ℕ}
 use lib.Dec.{eqb}
 use Rattle.protocol.specs.Floor.{Limits, Floor}
-use Rattle.protocol.specs.Events.{Event, start, enter, send, wire, radio, move, flag, group, sendGroup, Answer, refused, accepted}
+use Rattle.protocol.specs.Events.{Event, start, enter, send, wire, radio, move, flag, group, sendGroup, sendLong, Answer, refused, accepted}
 use Rattle.protocol.specs.Groups.{asSent}
 use Rattle.protocol.specs.Step.{step, answer}
 
@@ -14,8 +14,8 @@ pub record Sending : Type 0 where
   pub set : ℕ
   pub text : List ℕ
 
--- what an event and its answer add to the accepted sends of station u. A group send comes here as the send to its members that it was (`asSent`), so the
--- arm of its own adds nothing
+-- what an event and its answer add to the accepted sends of station u. A group send and a long send come here as the sends that they were (`asSent`), so
+-- the arms of their own add nothing
 abbrev pub sendingOf : ℕ → Event → Answer → List Sending
 sendingOf u (start n k) a = []
 sendingOf u (enter t c) a = []
@@ -27,6 +27,7 @@ sendingOf u (move c to) a = []
 sendingOf u (flag c b) a = []
 sendingOf u (group g set) a = []
 sendingOf u (sendGroup s g text) a = []
+sendingOf u (sendLong s set text) a = []
 
 -- "accepted sends (set or members, and text) in the same order": those of station u over a list of events, from a floor
 unfoldable pub sendingsOf : Limits → Floor → List Event → ℕ → List Sending

@@ -6,7 +6,7 @@ use Prim.Native.Nat.{ℕ, suc}
 use lib.Dec.{eqb, ltb}
 use Rattle.protocol.specs.Folds.{count, first, update, update2, byOption, byHead}
 use Rattle.protocol.specs.CartSets.{has, union, minus, without, setOf}
-use Rattle.protocol.specs.Floor.{Limits, Record, multicast, ackList, delete, deregister, register, Floor, onStations, onMessages, onCopies, onLines, setExpected, setNext, setAcked, setWaiting, setCopy, setQueue, behead, toEvery, push, isLocal, cartsThat, setTexts}
+use Rattle.protocol.specs.Floor.{Limits, Record, multicast, ackList, delete, deregister, register, Floor, onStations, onMessages, onCopies, onLines, setExpected, setNext, setAcked, setWaiting, setTexts, setCopy, setQueue, behead, toEvery, push, isLocal, cartsThat}
 use Rattle.protocol.specs.Events.{Done, done}
 use Rattle.protocol.specs.Order.{placeIn}
 use Rattle.protocol.specs.Handoff.{roomOf, onRegister}
@@ -81,14 +81,14 @@ addAcks F m carts = setAcked F (update (F .acked) m (union (F .acked m) carts))
 abbrev pub unbuffer : Floor → ℕ → ℕ → Floor
 unbuffer F m t =
     setTexts (setWaiting F (update (F .waiting) m (without (F .waiting m) t)))
-        (update (F .text) m (cond (eqb (without (F .waiting m) t) 0) [] (F .text m)))
+    (update (F .text) m (cond (eqb (without (F .waiting m) t) 0) [] (F .text m)))
 
 module _ (M : Limits) where
   -- a room for a new message: "Its room is then used again"
   unfoldable pub freeRoom : Floor → Option ℕ
   freeRoom F = first (M .held) (λ m. eqb (F .waiting m) 0)
 
-  -- "Send (station, set, text)"; "kind 8 prints as a send, under its own kind"
+  -- "Send (station, set, text)"; "kind 8 prints as a send, under its own kind", and so does kind 9
   unfoldable pub onSend : Floor → (kind : ℕ) → ℕ → ℕ → List ℕ → Done
   onSend F kind s set text =
       byOption (freeRoom F) (done F kind s 0 0 0 0 []) (λ m. done (withMessage F m s set text) kind s (F .sent s) 0 (F .stations) 0 [])
