@@ -25,10 +25,10 @@ module _ (L : Lent) (buffer : List ℕ) where
   quiet-broken h = refused 5 (omega arith) (broken-is-5 (limitsOf (L .product)) (floorIn L) (length buffer) h)
 
   module _ (h : passesForm (limitsOf (L .product)) (floorIn L) ≡ true) where
-    pub quiet-short : length buffer < 32 → QuietMet L L buffer buffer (Refused 21)
+    pub quiet-short : length buffer < 512 → QuietMet L L buffer buffer (Refused 21)
     quiet-short l = refused 21 (omega arith) (short-is-21 (limitsOf (L .product)) (floorIn L) (length buffer) h l)
 
-    pub quiet-ran : (L′ : Lent) (buffer′ : List ℕ) (steps : ℕ) → 32 ≤ length buffer → Quieted L L′ buffer buffer′ steps → QuietMet L L′ buffer buffer′ (After steps)
+    pub quiet-ran : (L′ : Lent) (buffer′ : List ℕ) (steps : ℕ) → 512 ≤ length buffer → Quieted L L′ buffer buffer′ steps → QuietMet L L′ buffer buffer′ (After steps)
     quiet-ran L′ buffer′ steps l q =
         let a = call-runs (limitsOf (L .product)) (floorIn L) buffer (else-runs (limitsOf (L .product)) (floorIn L) (length buffer) h l) in
         record {

@@ -96,9 +96,9 @@ code-none none c low e l = refl
 code-none (some k) c low e l = absurd (let z : c ≡ k = e in let y = low k refl in omega arith)
 
 -- A FLOOR THAT PASSES
-module _ (P : Product) (S C M W T : List ℕ) (p : passesForm (limitsOf P) (floorIn (lent P S C M W T)) ≡ true) where
+module _ (P : Product) (S C M W T O : List ℕ) (p : passesForm (limitsOf P) (floorIn (lent P S C M W T O)) ≡ true) where
   abbrev L : Lent
-  L = lent P S C M W T
+  L = lent P S C M W T O
 
   abbrev F : Floor
   F = floorIn L
@@ -194,12 +194,12 @@ module _ (P : Product) (S C M W T : List ℕ) (p : passesForm (limitsOf P) (floo
     none-before t on before k l = ap (λ (o : Option ℕ). not (isNone o)) (before k l (omega arith))
 
     -- and somebody there
-    radio-next : (t c : ℕ) → t < F .stations → Nobody t → c ≡ cartCode (firstCart N F t) → c < 64 → nextEvent N F ≡ some (radio t c 32)
+    radio-next : (t c : ℕ) → t < F .stations → Nobody t → c ≡ cartCode (firstCart N F t) → c < 64 → nextEvent N F ≡ some (radio t c 512)
     unfolding firstStation
     radio-next t c lt before e l =
         let here : firstCart N F t ≡ some c = code-some (firstCart N F t) c e l in
         let station : firstStation N F ≡ some t = first-is (F .stations) (λ u. not (isNone (firstCart N F u))) t lt (ap (λ (o : Option ℕ). not (isNone o)) here) (none-before t (omega arith) before) in
-        by-radio ∙ ap (λ (o : Option ℕ). byOption o none (radioAt N F)) station ∙ ap (λ (o : Option ℕ). byOption o none (λ d. some (radio t d 32))) here
+        by-radio ∙ ap (λ (o : Option ℕ). byOption o none (radioAt N F)) station ∙ ap (λ (o : Option ℕ). byOption o none (λ d. some (radio t d 512))) here
 
     -- or nobody either
     nobody-more : (t c : ℕ) → t < F .stations → Nobody t → c ≡ cartCode (firstCart N F t) → 64 ≤ c → Nobody (t + 1)
@@ -225,7 +225,7 @@ module _ (P : Product) (S C M W T : List ℕ) (p : passesForm (limitsOf P) (floo
         is-on : t < F .stations
         is-on = Q .on-floor t (ahead-member 64 queued left k t A pos e)
 
-        pub radio-found : (c : ℕ) → c ≡ cartCode (firstCart N F t) → c < 64 → nextEvent N F ≡ some (radio t c 32)
+        pub radio-found : (c : ℕ) → c ≡ cartCode (firstCart N F t) → c < 64 → nextEvent N F ≡ some (radio t c 512)
         radio-found c is l = radio-next t c is-on nobody-skipped is l
 
         pub nobody-found : (c : ℕ) → c ≡ cartCode (firstCart N F t) → 64 ≤ c → Nobody (t + 1)

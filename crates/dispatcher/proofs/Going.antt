@@ -103,54 +103,54 @@ module _ (M : Limits) where
           let octets₁ : buffersAfter (answers M (step M F e) (dispatched M k (step M F e))) (bufferAfter (answer M F e) buffer) ≡ quietBuffer M F₀ buffer₀ = rw one at octets in
           rw (f, o) (record { left = k; total = omega arith; count = omega arith; floor = floor₁; octets = octets₁ })
 
--- THE LOOP, over the lent parts: S₀, C₀, M₀, W₀ are the words at the start, and T the texts, which no step writes
-abbrev pub Passes : Product → List ℕ → List ℕ → List ℕ → List ℕ → List ℕ → Type 0
-Passes P S C M W T = passesForm (limitsOf P) (floorIn (lent P S C M W T)) ≡ true
+-- THE LOOP, over the lent parts: S₀, C₀, M₀, W₀ are the words at the start, and T and O the texts and the store, which no step writes
+abbrev pub Passes : Product → List ℕ → List ℕ → List ℕ → List ℕ → List ℕ → List ℕ → Type 0
+Passes P S C M W T O = passesForm (limitsOf P) (floorIn (lent P S C M W T O)) ≡ true
 
-pub record Running (S₀ C₀ M₀ W₀ S C M W T : List ℕ) (buffer₀ buffer : List ℕ) (steps : ℕ) (b : Busy) (queued : ℕ) (n : Next) : Type 0 where
-  pub passes : (P : Product) → Passes P S₀ C₀ M₀ W₀ T → Passes P S C M W T
-  pub going : (P : Product) → Passes P S₀ C₀ M₀ W₀ T
-      → Going (limitsOf P) (floorIn (lent P S₀ C₀ M₀ W₀ T)) (floorIn (lent P S C M W T)) buffer₀ buffer steps
-  pub next : (P : Product) → Passes P S₀ C₀ M₀ W₀ T → nextEvent (limitsOf P) (floorIn (lent P S C M W T)) ≡ nextIn n
+pub record Running (S₀ C₀ M₀ W₀ S C M W T O : List ℕ) (buffer₀ buffer : List ℕ) (steps : ℕ) (b : Busy) (queued : ℕ) (n : Next) : Type 0 where
+  pub passes : (P : Product) → Passes P S₀ C₀ M₀ W₀ T O → Passes P S C M W T O
+  pub going : (P : Product) → Passes P S₀ C₀ M₀ W₀ T O
+      → Going (limitsOf P) (floorIn (lent P S₀ C₀ M₀ W₀ T O)) (floorIn (lent P S C M W T O)) buffer₀ buffer steps
+  pub next : (P : Product) → Passes P S₀ C₀ M₀ W₀ T O → nextEvent (limitsOf P) (floorIn (lent P S C M W T O)) ≡ nextIn n
   pub busy : IsBusy (linesIn W) b
   pub queues : QueuedIn S queued
   pub kept : length buffer ≡ length buffer₀
 
 -- the lines of a floor that passes are whole
-pub chains-of : (P : Product) (S C M W T : List ℕ) → Passes P S C M W T → form W ≡ true
-chains-of P S C M W T p = standing (lent P S C M W T) p .laid .chains
+pub chains-of : (P : Product) (S C M W T O : List ℕ) → Passes P S C M W T O → form W ≡ true
+chains-of P S C M W T O p = standing (lent P S C M W T O) p .laid .chains
 
-module _ (S₀ C₀ M₀ W₀ T buffer₀ : List ℕ) where
+module _ (S₀ C₀ M₀ W₀ T O buffer₀ : List ℕ) where
   -- what is asked of the table for the first look at the queues
-  pub first-queues : (P : Product) → Passes P S₀ C₀ M₀ W₀ T → HasHead S₀ × (headIn S₀ .stations ≤ 16) × (116 + headIn S₀ .stations * 116 ≤ length S₀)
+  pub first-queues : (P : Product) → Passes P S₀ C₀ M₀ W₀ T O → HasHead S₀ × (headIn S₀ .stations ≤ 16) × (116 + headIn S₀ .stations * 116 ≤ length S₀)
   first-queues P p =
-      let X = standing (lent P S₀ C₀ M₀ W₀ T) p in
+      let X = standing (lent P S₀ C₀ M₀ W₀ T O) p in
       let size = X .lengths .stations in
       let most = X .sized .counts .stations in
-      (omega arith, few-stations (lent P S₀ C₀ M₀ W₀ T) X, omega arith)
+      (omega arith, few-stations (lent P S₀ C₀ M₀ W₀ T O) X, omega arith)
 
   pub running-first : (b : Busy) (queued : ℕ) (n : Next) → IsBusy (linesIn W₀) b → QueuedIn S₀ queued
       → OfEach S₀ C₀ M₀ (λ N F. IsBusy (F .lines) b → nextEvent N F ≡ nextIn n)
-      → Running S₀ C₀ M₀ W₀ S₀ C₀ M₀ W₀ T buffer₀ buffer₀ 0 b queued n
+      → Running S₀ C₀ M₀ W₀ S₀ C₀ M₀ W₀ T O buffer₀ buffer₀ 0 b queued n
   running-first b queued n right Q next = record {
     passes = λ P p. p;
-    going = λ P p. going-first (limitsOf P) (floorIn (lent P S₀ C₀ M₀ W₀ T)) buffer₀;
-    next = λ P p. next P W₀ T p right;
+    going = λ P p. going-first (limitsOf P) (floorIn (lent P S₀ C₀ M₀ W₀ T O)) buffer₀;
+    next = λ P p. next P W₀ T O p right;
     busy = right;
     queues = Q;
     kept = refl;
   }
 
-  module _ (S C M W buffer : List ℕ) (steps : ℕ) (b : Busy) (queued : ℕ) (n : Next) (R : Running S₀ C₀ M₀ W₀ S C M W T buffer₀ buffer steps b queued n) where
-    module _ (P : Product) (p : Passes P S₀ C₀ M₀ W₀ T) where
-      pub still-due : Due (lent P S C M W T) n
+  module _ (S C M W buffer : List ℕ) (steps : ℕ) (b : Busy) (queued : ℕ) (n : Next) (R : Running S₀ C₀ M₀ W₀ S C M W T O buffer₀ buffer steps b queued n) where
+    module _ (P : Product) (p : Passes P S₀ C₀ M₀ W₀ T O) where
+      pub still-due : Due (lent P S C M W T O) n
       still-due = record { passes = R .passes P p; next = R .next P p }
 
-      lengths-first : Lengths (lent P S₀ C₀ M₀ W₀ T)
-      lengths-first = standing (lent P S₀ C₀ M₀ W₀ T) p .lengths
+      lengths-first : Lengths (lent P S₀ C₀ M₀ W₀ T O)
+      lengths-first = standing (lent P S₀ C₀ M₀ W₀ T O) p .lengths
 
-      lengths-now : Lengths (lent P S C M W T)
-      lengths-now = standing (lent P S C M W T) (R .passes P p) .lengths
+      lengths-now : Lengths (lent P S C M W T O)
+      lengths-now = standing (lent P S C M W T O) (R .passes P p) .lengths
 
       pub same-stations : length S ≡ length S₀
       same-stations = lengths-now .stations ∙ sym (lengths-first .stations)
@@ -164,34 +164,34 @@ module _ (S₀ C₀ M₀ W₀ T buffer₀ : List ℕ) where
       pub same-lines : length W ≡ length W₀
       same-lines = lengths-now .lines ∙ sym (lengths-first .lines)
 
-      blank-first : BlankBeyond (limitsOf P) (floorIn (lent P S₀ C₀ M₀ W₀ T))
-      blank-first = nothing-beyond (lent P S₀ C₀ M₀ W₀ T) lengths-first (standing (lent P S₀ C₀ M₀ W₀ T) p .laid)
+      blank-first : BlankBeyond (limitsOf P) (floorIn (lent P S₀ C₀ M₀ W₀ T O))
+      blank-first = nothing-beyond (lent P S₀ C₀ M₀ W₀ T O) lengths-first (standing (lent P S₀ C₀ M₀ W₀ T O) p .laid)
 
-      blank-now : BlankBeyond (limitsOf P) (floorIn (lent P S C M W T))
-      blank-now = nothing-beyond (lent P S C M W T) lengths-now (standing (lent P S C M W T) (R .passes P p) .laid)
+      blank-now : BlankBeyond (limitsOf P) (floorIn (lent P S C M W T O))
+      blank-now = nothing-beyond (lent P S C M W T O) lengths-now (standing (lent P S C M W T O) (R .passes P p) .laid)
 
       -- a step is taken, and one was left
       module _ (e : Event) (q : nextIn n ≡ some e) where
         pub step-left : steps < 5248
         step-left =
             let few = few-steps P in
-            let room = going-room (limitsOf P) (floorIn (lent P S₀ C₀ M₀ W₀ T)) (floorIn (lent P S C M W T)) buffer₀ buffer steps e blank-first p (R .going P p) (R .next P p ∙ q) in
+            let room = going-room (limitsOf P) (floorIn (lent P S₀ C₀ M₀ W₀ T O)) (floorIn (lent P S C M W T O)) buffer₀ buffer steps e blank-first p (R .going P p) (R .next P p ∙ q) in
             omega arith
 
-        module _ (S′ C′ M′ W′ buffer′ : List ℕ) (records : ℕ) (taken : StepTaken (lent P S C M W T) (lent P S′ C′ M′ W′ T) e buffer buffer′ records) where
-          passes-on : Passes P S′ C′ M′ W′ T
-          passes-on = subst (λ (Y : Floor). passesForm (limitsOf P) Y ≡ true) (sym (taken .floor)) (form-kept (limitsOf P) (floorIn (lent P S C M W T)) e blank-now (R .passes P p) .1)
+        module _ (S′ C′ M′ W′ buffer′ : List ℕ) (records : ℕ) (taken : StepTaken (lent P S C M W T O) (lent P S′ C′ M′ W′ T O) e buffer buffer′ records) where
+          passes-on : Passes P S′ C′ M′ W′ T O
+          passes-on = subst (λ (Y : Floor). passesForm (limitsOf P) Y ≡ true) (sym (taken .floor)) (form-kept (limitsOf P) (floorIn (lent P S C M W T O)) e blank-now (R .passes P p) .1)
 
           -- no text is longer than the buffer
-          kept-on : 32 ≤ length buffer → length buffer′ ≡ length buffer
+          kept-on : 512 ≤ length buffer → length buffer′ ≡ length buffer
           unfolding answers
           kept-on long =
               let N = limitsOf P in
-              let F = floorIn (lent P S C M W T) in
+              let F = floorIn (lent P S C M W T O) in
               let a = next-accepted N F e (R .passes P p) (R .next P p ∙ q) in
               ap length (taken .octets) ∙ run-leaves-length N F (e ∷ []) buffer blank-now (R .passes P p) (a .0, (a .1, tt)) long
 
-          goes-on : Going (limitsOf P) (floorIn (lent P S₀ C₀ M₀ W₀ T)) (floorIn (lent P S′ C′ M′ W′ T)) buffer₀ buffer′ (steps + 1)
+          goes-on : Going (limitsOf P) (floorIn (lent P S₀ C₀ M₀ W₀ T O)) (floorIn (lent P S′ C′ M′ W′ T O)) buffer₀ buffer′ (steps + 1)
           goes-on = going-on (limitsOf P) _ _ _ buffer₀ buffer buffer′ steps e blank-first p (R .going P p) (R .next P p ∙ q) (taken .floor) (taken .octets)
 
     -- something is next, as the code asked
@@ -209,59 +209,59 @@ module _ (S₀ C₀ M₀ W₀ T buffer₀ : List ℕ) where
     -- A TURN
     module _ (asked : Bool) (is : asked ≡ isStep n) where
       module _ (t : asked ≡ true) where
-        pub turn-left : (P : Product) → Passes P S₀ C₀ M₀ W₀ T → steps < 5248
+        pub turn-left : (P : Product) → Passes P S₀ C₀ M₀ W₀ T O → steps < 5248
         turn-left P p = let s = some-event asked is t in step-left P p (s .0) (s .1)
 
         module _ (S′ C′ M′ W′ buffer′ : List ℕ) (records : ℕ)
-            (taken : TakenByEach (λ P. lent P S C M W T) (λ P. lent P S′ C′ M′ W′ T) n buffer buffer′ records) where
-          taken-by : (P : Product) → Passes P S₀ C₀ M₀ W₀ T → StepTaken (lent P S C M W T) (lent P S′ C′ M′ W′ T) (some-event asked is t .0) buffer buffer′ records
+            (taken : TakenByEach (λ P. lent P S C M W T O) (λ P. lent P S′ C′ M′ W′ T O) n buffer buffer′ records) where
+          taken-by : (P : Product) → Passes P S₀ C₀ M₀ W₀ T O → StepTaken (lent P S C M W T O) (lent P S′ C′ M′ W′ T O) (some-event asked is t .0) buffer buffer′ records
           taken-by P p = let s = some-event asked is t in taken P (s .0) (still-due P p) (s .1)
 
-          pub passes-then : (P : Product) → Passes P S₀ C₀ M₀ W₀ T → Passes P S′ C′ M′ W′ T
+          pub passes-then : (P : Product) → Passes P S₀ C₀ M₀ W₀ T O → Passes P S′ C′ M′ W′ T O
           passes-then P p = let s = some-event asked is t in passes-on P p (s .0) (s .1) S′ C′ M′ W′ buffer′ records (taken-by P p)
 
           -- what is asked for the look at what it changed
-          pub look-asks : (P : Product) → Passes P S₀ C₀ M₀ W₀ T → (form W′ ≡ true) × HasPlaces S′ n
+          pub look-asks : (P : Product) → Passes P S₀ C₀ M₀ W₀ T O → (form W′ ≡ true) × HasPlaces S′ n
           look-asks P p =
-              let now-size = standing (lent P S C M W T) (R .passes P p) .lengths .stations in
-              let then-size = standing (lent P S′ C′ M′ W′ T) (passes-then P p) .lengths .stations in
-              (chains-of P S′ C′ M′ W′ T (passes-then P p), places-there (lent P S C M W T) S′ n (still-due P p) (then-size ∙ sym now-size))
+              let now-size = standing (lent P S C M W T O) (R .passes P p) .lengths .stations in
+              let then-size = standing (lent P S′ C′ M′ W′ T O) (passes-then P p) .lengths .stations in
+              (chains-of P S′ C′ M′ W′ T O (passes-then P p), places-there (lent P S C M W T O) S′ n (still-due P p) (then-size ∙ sym now-size))
 
           -- what was kept, and was looked at
           module _ (b′ : Busy) (queued′ : ℕ) (seen : b′ ≡ busyAfter (linesIn W′) b n records) (queue-seen : queued′ ≡ queuedAfter S′ queued n) where
-            busy-then : (P : Product) → Passes P S₀ C₀ M₀ W₀ T → IsBusy (linesIn W′) b′
+            busy-then : (P : Product) → Passes P S₀ C₀ M₀ W₀ T O → IsBusy (linesIn W′) b′
             busy-then P p =
                 let s = some-event asked is t in
                 subst (λ (x : Busy). IsBusy (linesIn W′) x) (sym seen)
-                (busy-again (lent P S C M W T) (lent P S′ C′ M′ W′ T) buffer buffer′ records n (s .0) (still-due P p) (s .1) (taken-by P p) b (R .busy))
+                (busy-again (lent P S C M W T O) (lent P S′ C′ M′ W′ T O) buffer buffer′ records n (s .0) (still-due P p) (s .1) (taken-by P p) b (R .busy))
 
-            queues-then : (P : Product) → Passes P S₀ C₀ M₀ W₀ T → QueuedIn S′ queued′
+            queues-then : (P : Product) → Passes P S₀ C₀ M₀ W₀ T O → QueuedIn S′ queued′
             queues-then P p =
                 let s = some-event asked is t in
                 subst (λ (x : ℕ). QueuedIn S′ x) (sym queue-seen)
-                (queued-again (lent P S C M W T) (lent P S′ C′ M′ W′ T) buffer buffer′ records n (s .0) (still-due P p) (s .1) (taken-by P p) queued (R .queues))
+                (queued-again (lent P S C M W T O) (lent P S′ C′ M′ W′ T O) buffer buffer′ records n (s .0) (still-due P p) (s .1) (taken-by P p) queued (R .queues))
 
-            pub watched-then : (P : Product) → Passes P S₀ C₀ M₀ W₀ T → Watched S′ C′ M′ b′ × QueuedIn S′ queued′
+            pub watched-then : (P : Product) → Passes P S₀ C₀ M₀ W₀ T O → Watched S′ C′ M′ b′ × QueuedIn S′ queued′
             watched-then P p =
-                (record { floor = record { product = P; lines = W′; texts = T; passes = passes-then P p }; busy = busy-then P p }, queues-then P p)
+                (record { floor = record { product = P; lines = W′; texts = T; store = O; passes = passes-then P p }; busy = busy-then P p }, queues-then P p)
 
-            pub running-on : (P : Product) → Passes P S₀ C₀ M₀ W₀ T → 32 ≤ length buffer₀ → (n′ : Next)
+            pub running-on : (P : Product) → Passes P S₀ C₀ M₀ W₀ T O → 512 ≤ length buffer₀ → (n′ : Next)
                 → OfEach S′ C′ M′ (λ N F. IsBusy (F .lines) b′ → nextEvent N F ≡ nextIn n′)
-                → Running S₀ C₀ M₀ W₀ S′ C′ M′ W′ T buffer₀ buffer′ (steps + 1) b′ queued′ n′
+                → Running S₀ C₀ M₀ W₀ S′ C′ M′ W′ T O buffer₀ buffer′ (steps + 1) b′ queued′ n′
             running-on P p long n′ next =
                 let s = some-event asked is t in
                 let same = kept-on P p (s .0) (s .1) S′ C′ M′ W′ buffer′ records (taken-by P p) (let k = R .kept in omega arith) in
                 record {
                   passes = passes-then;
                   going = λ Q r. goes-on Q r (s .0) (s .1) S′ C′ M′ W′ buffer′ records (taken-by Q r);
-                  next = λ Q r. next Q W′ T (passes-then Q r) (busy-then P p);
+                  next = λ Q r. next Q W′ T O (passes-then Q r) (busy-then P p);
                   busy = busy-then P p;
                   queues = queues-then P p;
                   kept = same ∙ R .kept;
                 }
 
       -- THE END
-      pub running-last : asked ≡ false → QuietedByEach (λ P. lent P S₀ C₀ M₀ W₀ T) (λ P. lent P S C M W T) buffer₀ buffer steps
+      pub running-last : asked ≡ false → QuietedByEach (λ P. lent P S₀ C₀ M₀ W₀ T O) (λ P. lent P S C M W T O) buffer₀ buffer steps
       running-last t P p =
-          let z = going-last (limitsOf P) (floorIn (lent P S₀ C₀ M₀ W₀ T)) (floorIn (lent P S C M W T)) buffer₀ buffer steps (R .going P p) (R .next P p ∙ no-event asked is t) in
+          let z = going-last (limitsOf P) (floorIn (lent P S₀ C₀ M₀ W₀ T O)) (floorIn (lent P S C M W T O)) buffer₀ buffer steps (R .going P p) (R .next P p ∙ no-event asked is t) in
           record { product = refl; count = z .0; floor = z .1 .0; octets = z .1 .1 }

@@ -35,7 +35,7 @@ use Rattle.view.specs.View.{Lent, floorIn}
 use Rattle.view.proofs.Lengths.{lengths-right, nothing-beyond}
 use Rattle.view.proofs.Standing.{Standing, standing, few-stations}
 use Rattle.event_answers.specs.declared.Outcome.{Outcome}
-use Rattle.event_answers.specs.declared.Outcome.the-variants.{Started, Entered, Sent, Buffered, Acknowledged, Deleted, Deregistered, Registered, Received, Moved, Flagged, Grouped, SentToGroup}
+use Rattle.event_answers.specs.declared.Outcome.the-variants.{Started, Entered, Sent, Buffered, Acknowledged, Deleted, Deregistered, Registered, Received, Moved, Flagged, Grouped, SentToGroup, SentLong}
 use Rattle.event_answers.specs.declared.Answer.{Answer}
 use Rattle.event_answers.specs.declared.Answer.the-variants.{Refused, Accepted}
 use Rattle.event_answers.specs.Answers.{reportOf, answerIn}
@@ -67,6 +67,7 @@ effect-reported (Moved c to) f = refl
 effect-reported (Flagged c b) f = refl
 effect-reported (Grouped g members) f = refl
 effect-reported (SentToGroup s n) f = refl
+effect-reported (SentLong s n) f = refl
 
 records-told : (a : Answer) (octets : List ℕ) → recordsIn a ≡ recordsPut (answerIn a octets)
 records-told (Refused r) octets = refl
@@ -165,7 +166,7 @@ module _ (L : Lent) (i j : ℕ) (p : passesForm (limitsOf (L .product)) (floorIn
         (λ m u n. ap (λ (Y : Floor). Y .queue m u) is-handled ∙ wire-queues K G i j (may-take .0) m u n)
 
 -- A RADIO STEP: "the buffer counts as lent anew to each", and takes every text
-module _ (L : Lent) (t c : ℕ) (p : passesForm (limitsOf (L .product)) (floorIn L) ≡ true) (due : nextEvent (limitsOf (L .product)) (floorIn L) ≡ some (radio t c 32)) where
+module _ (L : Lent) (t c : ℕ) (p : passesForm (limitsOf (L .product)) (floorIn L) ≡ true) (due : nextEvent (limitsOf (L .product)) (floorIn L) ≡ some (radio t c 512)) where
   abbrev H : Floor
   H = floorIn L
 
@@ -174,7 +175,7 @@ module _ (L : Lent) (t c : ℕ) (p : passesForm (limitsOf (L .product)) (floorIn
 
   may-receive : (m : ℕ) × MayRadio J H t c m
   unfolding refusal
-  may-receive = may-radio J H (not (passesForm J H)) t c 32 (taken-accepted L (radio t c 32) p due)
+  may-receive = may-radio J H (not (passesForm J H)) t c 512 (taken-accepted L (radio t c 512) p due)
 
   pub radio-low : t < 16
   radio-low = let few = few-stations L (standing L p) in let a = may-receive .1 .station in omega arith
@@ -186,21 +187,21 @@ module _ (L : Lent) (t c : ℕ) (p : passesForm (limitsOf (L .product)) (floorIn
   handed = handOver J H (may-receive .0) t c
 
   -- with a buffer of so many octets
-  module _ (size : ℕ) (long : 32 ≤ size) where
+  module _ (size : ℕ) (long : 512 ≤ size) where
     any-buffer : refusal J H (radio t c size) ≡ 0
-    any-buffer = radio-any-buffer J H t c size (blank L (radio t c 32) p due) p long ∙ taken-accepted L (radio t c 32) p due
+    any-buffer = radio-any-buffer J H t c size (blank L (radio t c 512) p due) p long ∙ taken-accepted L (radio t c 512) p due
 
     handing : accept J H (radio t c size) ≡ handed
     unfolding accept onRadio
     handing = rw (may-receive .1 .is-head) refl
 
-    same-step : step J H (radio t c size) ≡ step J H (radio t c 32)
+    same-step : step J H (radio t c size) ≡ step J H (radio t c 512)
     unfolding step accept
-    same-step = rw (any-buffer, taken-accepted L (radio t c 32) p due) refl
+    same-step = rw (any-buffer, taken-accepted L (radio t c 512) p due) refl
 
-    same-answer : answer J H (radio t c size) ≡ answer J H (radio t c 32)
+    same-answer : answer J H (radio t c size) ≡ answer J H (radio t c 512)
     unfolding answer accept
-    same-answer = rw (any-buffer, taken-accepted L (radio t c 32) p due) refl
+    same-answer = rw (any-buffer, taken-accepted L (radio t c 512) p due) refl
 
     hands : step J H (radio t c size) ≡ handed .floor
     unfolding step
@@ -210,8 +211,8 @@ module _ (L : Lent) (t c : ℕ) (p : passesForm (limitsOf (L .product)) (floorIn
     unfolding answer
     says-handed = rw any-buffer (ap (λ (d : Done). accepted (d .report)) handing)
 
-  module _ (L′ : Lent) (a : Answer) (buffer buffer′ : List ℕ) (long : 32 ≤ length buffer) (done : Delivered L L′ t c a buffer buffer′) where
-    pub radio-taken : StepTaken L L′ (radio t c 32) buffer buffer′ (recordsIn a)
+  module _ (L′ : Lent) (a : Answer) (buffer buffer′ : List ℕ) (long : 512 ≤ length buffer) (done : Delivered L L′ t c a buffer buffer′) where
+    pub radio-taken : StepTaken L L′ (radio t c 512) buffer buffer′ (recordsIn a)
     radio-taken = record {
       floor = done .met .floor ∙ same-step (length buffer) long;
       octets = done .octets ∙ ap (λ (x : events.Answer). bufferAfter x buffer) (same-answer (length buffer) long);
@@ -219,24 +220,24 @@ module _ (L : Lent) (t c : ℕ) (p : passesForm (limitsOf (L .product)) (floorIn
     }
 
   -- what is kept is right again
-  module _ (L′ : Lent) (left : floorIn L′ ≡ step J H (radio t c 32)) where
+  module _ (L′ : Lent) (left : floorIn L′ ≡ step J H (radio t c 512)) where
     is-handed : floorIn L′ ≡ handed .floor
-    is-handed = left ∙ hands 32 (omega arith)
+    is-handed = left ∙ hands 512 (omega arith)
 
     lines-handed : floorIn L′ .lines ≡ handed .floor .lines
     lines-handed = ap (λ (Y : Floor). Y .lines) is-handed
 
-    pub radio-busy : (records : ℕ) → records ≡ recordsPut (answer J H (radio t c 32)) → (b : Busy) → IsBusy (H .lines) b
+    pub radio-busy : (records : ℕ) → records ≡ recordsPut (answer J H (radio t c 512)) → (b : Busy) → IsBusy (H .lines) b
         → IsBusy (linesIn (L′ .lines)) (renewed (linesIn (L′ .lines)) b t records)
     radio-busy records put b right =
         busy-after-radio (H .lines) (linesIn (L′ .lines)) b right t radio-low records
         (λ k h n. ap isEmpty (ap (λ (f : ℕ → ℕ → List Record). f k h) lines-handed ∙ radio-elsewhere J H (may-receive .0) t c k h n))
-        (λ z k h. ap isEmpty (ap (λ (f : ℕ → ℕ → List Record). f k h) (lines-handed ∙ radio-puts-none J H (may-receive .0) t c (sym (put ∙ ap recordsPut (says-handed 32 (omega arith))) ∙ z))))
+        (λ z k h. ap isEmpty (ap (λ (f : ℕ → ℕ → List Record). f k h) (lines-handed ∙ radio-puts-none J H (may-receive .0) t c (sym (put ∙ ap recordsPut (says-handed 512 (omega arith))) ∙ z))))
 
     pub radio-queued : (queued : ℕ) → QueuedIn (L .stations) queued → QueuedIn (L′ .stations) (queuedWith (L′ .stations) queued t)
     radio-queued queued Q =
         queued-after (L .stations) (L′ .stations) queued t Q (may-receive .1 .station)
-        (ap (λ (Y : Floor). Y .stations) left ∙ step-size J H (begun L (radio t c 32) p due) (radio t c 32) .stations)
+        (ap (λ (Y : Floor). Y .stations) left ∙ step-size J H (begun L (radio t c 512) p due) (radio t c 512) .stations)
         (λ m u n. ap (λ (Y : Floor). Y .queue m u) is-handed ∙ radio-queues J H (may-receive .0) t c m u n)
 
 -- AS THE CODE TAKES IT, by what was chosen: what it asks of the events, and what it comes to
@@ -257,19 +258,19 @@ module _ (L : Lent) (n : Next) (d : Due L n) (from to : Station) (is : n ≡ Wir
       (wire-taken L (from .0) (to .0) (d .passes) wire-due L′ a met buffer))
 
 module _ (L : Lent) (n : Next) (d : Due L n) (station : Station) (cart : CartNumber) (is : n ≡ Radio station cart) where
-  radio-due : nextEvent (limitsOf (L .product)) (floorIn L) ≡ some (radio (station .0) (cart .0) 32)
+  radio-due : nextEvent (limitsOf (L .product)) (floorIn L) ≡ some (radio (station .0) (cart .0) 512)
   radio-due = d .next ∙ ap nextIn is
 
   pub radio-ready : Ready L
-  radio-ready = ready L (radio (station .0) (cart .0) 32) (d .passes) radio-due
+  radio-ready = ready L (radio (station .0) (cart .0) 512) (d .passes) radio-due
 
-  pub radio-comes : (L′ : Lent) (a : Answer) (buffer buffer′ : List ℕ) → Delivered L L′ (station .0) (cart .0) a buffer buffer′ → 32 ≤ length buffer
+  pub radio-comes : (L′ : Lent) (a : Answer) (buffer buffer′ : List ℕ) → Delivered L L′ (station .0) (cart .0) a buffer buffer′ → 512 ≤ length buffer
       → (r : ℕ) → r ≡ recordsIn a → (e : Event) → nextIn n ≡ some e → StepTaken L L′ e buffer buffer′ r
   radio-comes L′ a buffer buffer′ done long r put e q =
-      let some-e : some (radio (station .0) (cart .0) 32) ≡ some e = ap nextIn (sym is) ∙ q in
-      let this : radio (station .0) (cart .0) 32 ≡ e = cc in
+      let some-e : some (radio (station .0) (cart .0) 512) ≡ some e = ap nextIn (sym is) ∙ q in
+      let this : radio (station .0) (cart .0) 512 ≡ e = cc in
       subst (λ (f : Event). StepTaken L L′ f buffer buffer′ r) this
-      (subst (λ (k : ℕ). StepTaken L L′ (radio (station .0) (cart .0) 32) buffer buffer′ k) (sym put)
+      (subst (λ (k : ℕ). StepTaken L L′ (radio (station .0) (cart .0) 512) buffer buffer′ k) (sym put)
       (radio-taken L (station .0) (cart .0) (d .passes) radio-due L′ a buffer buffer′ long done))
 
 -- where nothing was chosen there is no event
@@ -292,8 +293,8 @@ module _ (L L′ : Lent) (buffer buffer′ : List ℕ) (records : ℕ) where
       let this : wire (from .0) (to .0) ≡ e = cc in
       wire-busy L (from .0) (to .0) (d .passes) (d .next) L′ (left-by (wire (from .0) (to .0)) e this taken) records (put-by (wire (from .0) (to .0)) e this taken) b right
   busy-again (Radio t c) e d q taken b right =
-      let this : radio (t .0) (c .0) 32 ≡ e = cc in
-      radio-busy L (t .0) (c .0) (d .passes) (d .next) L′ (left-by (radio (t .0) (c .0) 32) e this taken) records (put-by (radio (t .0) (c .0) 32) e this taken) b right
+      let this : radio (t .0) (c .0) 512 ≡ e = cc in
+      radio-busy L (t .0) (c .0) (d .passes) (d .next) L′ (left-by (radio (t .0) (c .0) 512) e this taken) records (put-by (radio (t .0) (c .0) 512) e this taken) b right
   busy-again Nothing e d q taken b right = absurd (let y : _≡_ {A = ℕ} 0 1 = cc in omega arith)
 
   pub queued-again : (n : Next) (e : Event) → Due L n → nextIn n ≡ some e → StepTaken L L′ e buffer buffer′ records → (queued : ℕ) → QueuedIn (L .stations) queued
@@ -302,8 +303,8 @@ module _ (L L′ : Lent) (buffer buffer′ : List ℕ) (records : ℕ) where
       let this : wire (from .0) (to .0) ≡ e = cc in
       wire-queued L (from .0) (to .0) (d .passes) (d .next) L′ (left-by (wire (from .0) (to .0)) e this taken) queued Q
   queued-again (Radio t c) e d q taken queued Q =
-      let this : radio (t .0) (c .0) 32 ≡ e = cc in
-      radio-queued L (t .0) (c .0) (d .passes) (d .next) L′ (left-by (radio (t .0) (c .0) 32) e this taken) queued Q
+      let this : radio (t .0) (c .0) 512 ≡ e = cc in
+      radio-queued L (t .0) (c .0) (d .passes) (d .next) L′ (left-by (radio (t .0) (c .0) 512) e this taken) queued Q
   queued-again Nothing e d q taken queued Q = absurd (let y : _≡_ {A = ℕ} 0 1 = cc in omega arith)
 
 -- there are words for the stations of the step, in a table as long as it was

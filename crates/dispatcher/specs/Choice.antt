@@ -16,10 +16,10 @@ use Rattle.dispatcher.specs.declared.Next.{Next}
 use Rattle.dispatcher.specs.declared.Next.the-variants.{Wire, Radio, Nothing}
 use Rattle.dispatcher.specs.Busy.{Busy, IsBusy}
 
--- the event, if any: "The library lends the dispatcher a text buffer of 32 octets"
+-- the event, if any: "The lent radio and dispatcher buffers must now hold 512 octets to take every text"
 abbrev pub nextIn : Next → Option Event
 nextIn (Wire i j) = some (wire (i .0) (j .0))
-nextIn (Radio t c) = some (radio (t .0) (c .0) 32)
+nextIn (Radio t c) = some (radio (t .0) (c .0) 512)
 nextIn Nothing = none
 
 -- is there one
@@ -40,7 +40,8 @@ pub record OfFloor (S C M : List ℕ) : Type 0 where
   pub product : Product
   pub lines : List ℕ
   pub texts : List ℕ
-  pub passes : passesForm (limitsOf product) (floorIn (lent product S C M lines texts)) ≡ true
+  pub store : List ℕ
+  pub passes : passesForm (limitsOf product) (floorIn (lent product S C M lines texts store)) ≡ true
 
 -- and of its lines it is known which are not empty
 pub record Watched (S C M : List ℕ) (b : Busy) : Type 0 where
@@ -50,7 +51,7 @@ pub record Watched (S C M : List ℕ) (b : Busy) : Type 0 where
 -- it is so of each that passes the form rule of a product, with that product's limits
 abbrev pub OfEach : List ℕ → List ℕ → List ℕ → (Limits → Floor → Type 0) → Type 0
 OfEach S C M Q =
-    (P : Product) (W T : List ℕ) → passesForm (limitsOf P) (floorIn (lent P S C M W T)) ≡ true → Q (limitsOf P) (floorIn (lent P S C M W T))
+    (P : Product) (W T O : List ℕ) → passesForm (limitsOf P) (floorIn (lent P S C M W T O)) ≡ true → Q (limitsOf P) (floorIn (lent P S C M W T O))
 
 -- "with all lines empty"
 abbrev pub AllEmpty : Floor → Type 0

@@ -248,15 +248,16 @@ fn take_step(
     messages: &mut [u64],
     lines: &mut [u64],
     texts: &[u8],
+    store: &[u8],
     buffer: &mut [u8],
     next: Next,
 ) -> u64
-    requires { ⌜ DueBySome (λ P. lent P (now stations) (now carts) (now messages) (now lines) (now texts)) next × (32 ≤ length (now buffer)) ⌝ }
-    ensures { λ r. ⌜ TakenByEach (λ P. lent P (now (stations .entry)) (now (carts .entry)) (now (messages .entry)) (now (lines .entry)) (now (texts .entry))) (λ P. lent P (now (stations .exit)) (now (carts .exit)) (now (messages .exit)) (now (lines .exit)) (now (texts .entry))) next (now (buffer .entry)) (now (buffer .exit)) r ⌝ }
+    requires { ⌜ DueBySome (λ P. lent P (now stations) (now carts) (now messages) (now lines) (now texts) (now store)) next × (512 ≤ length (now buffer)) ⌝ }
+    ensures { λ r. ⌜ TakenByEach (λ P. lent P (now (stations .entry)) (now (carts .entry)) (now (messages .entry)) (now (lines .entry)) (now (texts .entry)) (now (store .entry))) (λ P. lent P (now (stations .exit)) (now (carts .exit)) (now (messages .exit)) (now (lines .exit)) (now (texts .entry)) (now (store .entry))) next (now (buffer .entry)) (now (buffer .exit)) r ⌝ }
 {
     match next {
         Next::Wire(from, to) => {
-            let answer = event_wire::wire(stations, carts, messages, lines, texts, from, to);
+            let answer = event_wire::wire(stations, carts, messages, lines, texts, store, from, to);
             records_of(answer)
         }
         Next::Radio(station, cart) => {
@@ -266,6 +267,7 @@ fn take_step(
                 messages,
                 lines,
                 texts,
+                store,
                 station,
                 cart,
                 buffer,
@@ -313,10 +315,11 @@ pub fn run_until_quiet(
     messages: &mut [u64],
     lines: &mut [u64],
     texts: &[u8],
+    store: &[u8],
     buffer: &mut [u8],
 ) -> u64
-    requires { ⌜ PassesBySome (λ P. lent P (now stations) (now carts) (now messages) (now lines) (now texts)) × (32 ≤ length (now buffer)) ⌝ }
-    ensures { λ r. ⌜ QuietedByEach (λ P. lent P (now (stations .entry)) (now (carts .entry)) (now (messages .entry)) (now (lines .entry)) (now (texts .entry))) (λ P. lent P (now (stations .exit)) (now (carts .exit)) (now (messages .exit)) (now (lines .exit)) (now (texts .entry))) (now (buffer .entry)) (now (buffer .exit)) r ⌝ }
+    requires { ⌜ PassesBySome (λ P. lent P (now stations) (now carts) (now messages) (now lines) (now texts) (now store)) × (512 ≤ length (now buffer)) ⌝ }
+    ensures { λ r. ⌜ QuietedByEach (λ P. lent P (now (stations .entry)) (now (carts .entry)) (now (messages .entry)) (now (lines .entry)) (now (texts .entry)) (now (store .entry))) (λ P. lent P (now (stations .exit)) (now (carts .exit)) (now (messages .exit)) (now (lines .exit)) (now (texts .entry)) (now (store .entry))) (now (buffer .entry)) (now (buffer .exit)) r ⌝ }
 {
     let mut steps: u64 = 0;
     let mut targets = [0u64; 16];
@@ -325,7 +328,7 @@ pub fn run_until_quiet(
     let mut pending = Pending { sources, queued };
     let mut next = next_step(stations, carts, messages, &targets, pending);
     while is_step(next) {
-        let records = take_step(stations, carts, messages, lines, texts, buffer, next);
+        let records = take_step(stations, carts, messages, lines, texts, store, buffer, next);
         pending = seen_after(&mut targets, stations, lines, pending, next, records);
         steps += 1;
         next = next_step(stations, carts, messages, &targets, pending);

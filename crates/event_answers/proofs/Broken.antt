@@ -6,9 +6,9 @@ use mathlib.Core.List.{List}
 use Prim.Native.Nat.{ℕ, _≤_, _<_}
 use native.Mathlib.Omega.{arith}
 use lib.ListN.{length}
-use borrow.Author.Tests.{lt-ltb, le-ltb}
+use borrow.Author.Tests.{lt-ltb, le-ltb, lt-leb, le-leb}
 use Rattle.protocol.specs.Floor.{limitsOf}
-use Rattle.protocol.specs.Events.{Event, enter, send, wire, radio, move, flag, group, sendGroup, refused}
+use Rattle.protocol.specs.Events.{Event, enter, send, wire, radio, move, flag, group, sendGroup, sendLong, refused}
 use Rattle.protocol.specs.Form.{passesForm}
 use Rattle.protocol.specs.Refusals.{refusal, refusalIf}
 use Rattle.view.specs.View.{Lent, floorIn}
@@ -54,6 +54,11 @@ module _ (L : Lent) (tested : Bool) (test-is : tested ≡ passesForm (limitsOf (
   unfolding refusalIf
   broken-send-group s g text l = meets-broken L (sendGroup s g text) tested test-is no (rw (le-ltb 32 (length text) l) refl)
 
+  -- a long one
+  pub broken-send-long : (s set : ℕ) (text : List ℕ) → 32 < length text → length text ≤ 512 → Met L L (sendLong s set text) (refused 5)
+  unfolding refusalIf
+  broken-send-long s set text a b = meets-broken L (sendLong s set text) tested test-is no (rw (lt-leb (length text) 32 a, le-ltb 512 (length text) b) refl)
+
 -- 4: "text longer than 32", whatever floor is lent
 pub long-send : (L : Lent) (s set : ℕ) (text : List ℕ) → 32 < length text → Met L L (send s set text) (refused 4)
 unfolding refusal refusalIf
@@ -62,3 +67,12 @@ long-send L s set text l = meets-refused L (send s set text) 4 (rw (lt-ltb 32 (l
 pub long-send-group : (L : Lent) (s g : ℕ) (text : List ℕ) → 32 < length text → Met L L (sendGroup s g text) (refused 4)
 unfolding refusal refusalIf
 long-send-group L s g text l = meets-refused L (sendGroup s g text) 4 (rw (lt-ltb 32 (length text) l) refl) (λ z. omega arith)
+
+-- "for kind 9, 4 for other lengths" than "33 to 512 octets"
+pub short-send-long : (L : Lent) (s set : ℕ) (text : List ℕ) → length text ≤ 32 → Met L L (sendLong s set text) (refused 4)
+unfolding refusal refusalIf
+short-send-long L s set text l = meets-refused L (sendLong s set text) 4 (rw (le-leb (length text) 32 l) refl) (λ z. omega arith)
+
+pub long-send-long : (L : Lent) (s set : ℕ) (text : List ℕ) → 512 < length text → Met L L (sendLong s set text) (refused 4)
+unfolding refusal refusalIf
+long-send-long L s set text l = meets-refused L (sendLong s set text) 4 (rw (lt-leb (length text) 32 (omega arith), lt-ltb 512 (length text) l) refl) (λ z. omega arith)

@@ -35,6 +35,8 @@ pub enum Outcome {
     Grouped(u64, u64),
     // The station, the number of the message that went to a group's members.
     SentToGroup(Station, MessageNumber),
+    // The station, the number of the message that has a long text.
+    SentLong(Station, MessageNumber),
 }
 
 // The answer to an event.
@@ -84,6 +86,7 @@ fn report_of(outcome: Outcome, effect: Effect) -> Report
         Outcome::Flagged(cart, steady) => report(6, cart.0, flag_number(steady), effect),
         Outcome::Grouped(group, members) => report(7, group, members, effect),
         Outcome::SentToGroup(station, number) => report(8, station.0, number.0, effect),
+        Outcome::SentLong(station, number) => report(9, station.0, number.0, effect),
     }
 }
 

@@ -1,4 +1,4 @@
--- THE CHECKS OF AN ENTER, down the table, on the tables of the stations (S) and of the carts (C), whatever the other parts (M, W, T) are.
+-- THE CHECKS OF AN ENTER, down the table, on the tables of the stations (S) and of the carts (C), whatever the other parts (M, W, T, O) are.
 use mathlib.Core.Path.{_≡_, refl, sym}
 use mathlib.Core.Bool.{false}
 use mathlib.Core.List.{List, [], _∷_}
@@ -18,9 +18,9 @@ use Rattle.carts.specs.View.{cartsIn}
 use Rattle.carts.proofs.Place.{the-type as place-type}
 use Rattle.view.specs.View.{lent, floorIn}
 
-module _ (S C : List ℕ) (t c : ℕ) (P : Product) (M W T : List ℕ) where
+module _ (S C : List ℕ) (t c : ℕ) (P : Product) (M W T O : List ℕ) where
   abbrev F : Floor
-  F = floorIn (lent P S C M W T)
+  F = floorIn (lent P S C M W T O)
 
   pub enter-no-station : headIn S .stations ≤ t → 8 ≡ refusalIf (limitsOf P) F false (enter t c)
   unfolding refusalIf

@@ -23,9 +23,9 @@ use Rattle.event_answers.specs.Answers.{says}
 use Rattle.event_answers.specs.Met.{Met}
 use Rattle.event_answers.proofs.Meets.{refusal-standing, meets-done, meets-counted}
 
-module _ (P : Product) (S C M W T : List ℕ) (t c : ℕ) (p : passesForm (limitsOf P) (floorIn (lent P S C M W T)) ≡ true) (free : 0 ≡ refusalIf (limitsOf P) (floorIn (lent P S C M W T)) false (enter t c)) where
+module _ (P : Product) (S C M W T O : List ℕ) (t c : ℕ) (p : passesForm (limitsOf P) (floorIn (lent P S C M W T O)) ≡ true) (free : 0 ≡ refusalIf (limitsOf P) (floorIn (lent P S C M W T O)) false (enter t c)) where
   abbrev L : Lent
-  L = lent P S C M W T
+  L = lent P S C M W T O
 
   X : Standing L
   X = standing L p
@@ -37,9 +37,9 @@ module _ (P : Product) (S C M W T : List ℕ) (t c : ℕ) (p : passesForm (limit
   enter-asks = (enter-ready L X t c may, (enter-fits L X t c may, enter-rooms L X t c may))
 
   pub meets-enter : (S′ C′ : List ℕ) (f : Effect) → Entered S S′ C C′ M t c (f .passed) (f .place) → f ≡ queueing (f .passed) (f .place)
-      → Met L (lent P S′ C′ M W T) (enter t c) (says 1 t c f)
+      → Met L (lent P S′ C′ M W T O) (enter t c) (says 1 t c f)
   unfolding accept
   meets-enter S′ C′ f entered counted =
-      meets-counted L (lent P S′ C′ M W T) (enter t c) 1 t c f (queueing (f .passed) (f .place)) counted
-      (meets-done L (enter t c) (lent P S′ C′ M W T) _ refl (refusal-standing L (enter t c) p ∙ sym free)
-      (enter-is S S′ C C′ M W T t c (f .passed) (f .place) X may entered) (sym (enter-reports S S′ C C′ M W T t c (f .passed) (f .place) X may entered)))
+      meets-counted L (lent P S′ C′ M W T O) (enter t c) 1 t c f (queueing (f .passed) (f .place)) counted
+      (meets-done L (enter t c) (lent P S′ C′ M W T O) _ refl (refusal-standing L (enter t c) p ∙ sym free)
+      (enter-is S S′ C C′ M W T O t c (f .passed) (f .place) X may entered) (sym (enter-reports S S′ C C′ M W T O t c (f .passed) (f .place) X may entered)))

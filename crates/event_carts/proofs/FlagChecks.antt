@@ -1,4 +1,4 @@
--- THE CHECKS OF A FLAG, down the table, on the tables of the stations (S) and of the carts (C), whatever the other parts (M, W, T) are.
+-- THE CHECKS OF A FLAG, down the table, on the tables of the stations (S) and of the carts (C), whatever the other parts (M, W, T, O) are.
 use mathlib.Core.Path.{_≡_, refl, sym}
 use mathlib.Core.Bool.{Bool, false, not}
 use mathlib.Core.List.{List, [], _∷_}
@@ -18,9 +18,9 @@ use Rattle.carts.specs.View.{cartsIn}
 use Rattle.carts.proofs.Place.{the-type as place-type}
 use Rattle.view.specs.View.{lent, floorIn}
 
-module _ (S C : List ℕ) (c : ℕ) (P : Product) (M W T : List ℕ) (b : Bool) where
+module _ (S C : List ℕ) (c : ℕ) (P : Product) (M W T O : List ℕ) (b : Bool) where
   abbrev F : Floor
-  F = floorIn (lent P S C M W T)
+  F = floorIn (lent P S C M W T O)
 
   pub flag-no-cart : headIn S .carts ≤ c → 9 ≡ refusalIf (limitsOf P) F false (flag c b)
   unfolding refusalIf

@@ -20,9 +20,9 @@ use Rattle.event_answers.specs.Answers.{says}
 use Rattle.event_answers.specs.Met.{Met}
 use Rattle.event_answers.proofs.Meets.{refusal-standing, meets-done, meets-counted}
 
-module _ (P : Product) (S C M W T : List ℕ) (c : ℕ) (b : Bool) (p : passesForm (limitsOf P) (floorIn (lent P S C M W T)) ≡ true) (free : 0 ≡ refusalIf (limitsOf P) (floorIn (lent P S C M W T)) false (flag c b)) where
+module _ (P : Product) (S C M W T O : List ℕ) (c : ℕ) (b : Bool) (p : passesForm (limitsOf P) (floorIn (lent P S C M W T O)) ≡ true) (free : 0 ≡ refusalIf (limitsOf P) (floorIn (lent P S C M W T O)) false (flag c b)) where
   abbrev L : Lent
-  L = lent P S C M W T
+  L = lent P S C M W T O
 
   X : Standing L
   X = standing L p
@@ -33,9 +33,9 @@ module _ (P : Product) (S C M W T : List ℕ) (c : ℕ) (b : Bool) (p : passesFo
   pub has-row : HasRow C c
   has-row = flag-ready L X c may
 
-  pub meets-flag : (C′ : List ℕ) (f : Effect) → Flagged C C′ c b → f ≡ nothing → Met L (lent P S C′ M W T) (flag c b) (says 6 c (cond b 1 0) f)
+  pub meets-flag : (C′ : List ℕ) (f : Effect) → Flagged C C′ c b → f ≡ nothing → Met L (lent P S C′ M W T O) (flag c b) (says 6 c (cond b 1 0) f)
   unfolding accept
   meets-flag C′ f flagged counted =
-      meets-counted L (lent P S C′ M W T) (flag c b) 6 c (cond b 1 0) f nothing counted
-      (meets-done L (flag c b) (lent P S C′ M W T) _ refl (refusal-standing L (flag c b) p ∙ sym free)
-      (flag-is S C C′ M W T c b X flagged) (sym (flag-reports (floorIn L) c b)))
+      meets-counted L (lent P S C′ M W T O) (flag c b) 6 c (cond b 1 0) f nothing counted
+      (meets-done L (flag c b) (lent P S C′ M W T O) _ refl (refusal-standing L (flag c b) p ∙ sym free)
+      (flag-is S C C′ M W T O c b X flagged) (sym (flag-reports (floorIn L) c b)))

@@ -1,4 +1,4 @@
--- THE CHECKS OF A MOVE, down the table, on the tables of the stations (S) and of the carts (C), whatever the other parts (M, W, T) are.
+-- THE CHECKS OF A MOVE, down the table, on the tables of the stations (S) and of the carts (C), whatever the other parts (M, W, T, O) are.
 use mathlib.Core.Path.{_≡_, refl, sym, ap, _∙_}
 use mathlib.Core.Bool.{false, not}
 use mathlib.Core.List.{List, [], _∷_}
@@ -21,9 +21,9 @@ use Rattle.stations.specs.View.{headIn}
 use Rattle.carts.specs.View.{cartsIn}
 use Rattle.view.specs.View.{lent, floorIn}
 
-module _ (S C : List ℕ) (c to : ℕ) (P : Product) (M W T : List ℕ) where
+module _ (S C : List ℕ) (c to : ℕ) (P : Product) (M W T O : List ℕ) where
   abbrev F : Floor
-  F = floorIn (lent P S C M W T)
+  F = floorIn (lent P S C M W T O)
 
   pub move-no-station : headIn S .stations ≤ to → 8 ≡ refusalIf (limitsOf P) F false (move c to)
   unfolding refusalIf

@@ -25,9 +25,9 @@ use Rattle.event_answers.specs.Answers.{says}
 use Rattle.event_answers.specs.Met.{Met}
 use Rattle.event_answers.proofs.Meets.{refusal-standing, meets-done, meets-counted}
 
-module _ (P : Product) (S C M W T : List ℕ) (c to : ℕ) (p : passesForm (limitsOf P) (floorIn (lent P S C M W T)) ≡ true) (free : 0 ≡ refusalIf (limitsOf P) (floorIn (lent P S C M W T)) false (move c to)) where
+module _ (P : Product) (S C M W T O : List ℕ) (c to : ℕ) (p : passesForm (limitsOf P) (floorIn (lent P S C M W T O)) ≡ true) (free : 0 ≡ refusalIf (limitsOf P) (floorIn (lent P S C M W T O)) false (move c to)) where
   abbrev L : Lent
-  L = lent P S C M W T
+  L = lent P S C M W T O
 
   X : Standing L
   X = standing L p
@@ -46,10 +46,10 @@ module _ (P : Product) (S C M W T : List ℕ) (c to : ℕ) (p : passesForm (limi
     pub move-asks : (HasRow C c × (c < 64) × (cartsIn C .place c ≡ at old)) × ((form W ≡ true) × (used W < capacity W) × (old < 16) × (to < 16))
     move-asks = (move-ready L X c to may old here, deregister-fits L X c to may old here)
 
-    pub meets-move : (C′ W′ : List ℕ) (f : Effect) → Moved C C′ W W′ c old to → f ≡ putting 1 → Met L (lent P S C′ M W′ T) (move c to) (says 5 c to f)
+    pub meets-move : (C′ W′ : List ℕ) (f : Effect) → Moved C C′ W W′ c old to → f ≡ putting 1 → Met L (lent P S C′ M W′ T O) (move c to) (says 5 c to f)
     unfolding accept
     meets-move C′ W′ f moved counted =
         let a = move-asks in
-        meets-counted L (lent P S C′ M W′ T) (move c to) 5 c to f (putting 1) counted
-        (meets-done L (move c to) (lent P S C′ M W′ T) _ refl (refusal-standing L (move c to) p ∙ sym free)
-        (move-is S C C′ M W W′ T c old to X (a .0 .1) (a .1 .2) (a .1 .3) here moved) (sym (move-reports (floorIn L) c to)))
+        meets-counted L (lent P S C′ M W′ T O) (move c to) 5 c to f (putting 1) counted
+        (meets-done L (move c to) (lent P S C′ M W′ T O) _ refl (refusal-standing L (move c to) p ∙ sym free)
+        (move-is S C C′ M W W′ T O c old to X (a .0 .1) (a .1 .2) (a .1 .3) here moved) (sym (move-reports (floorIn L) c to)))

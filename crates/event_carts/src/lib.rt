@@ -23,7 +23,7 @@ ghost use Rattle.event_answers.specs.Met.{ReadyBySome, MetByEach};
 // The refusal of an enter, 8 to 10, or 0.
 fn enter_refusal(stations: &[u64], carts: &[u64], station: Station, cart: CartNumber) -> u64
     requires { ⌜ HasHead (now stations) × (headIn (now stations) .carts * 19 ≤ length (now carts)) ⌝ }
-    ensures { λ r. ⌜ ((P : Product) (M W T : List ℕ) → r ≡ refusalIf (limitsOf P) (floorIn (lent P (now (stations .entry)) (now (carts .entry)) M W T)) false (enter (station .0) (cart .0))) ⌝ }
+    ensures { λ r. ⌜ ((P : Product) (M W T O : List ℕ) → r ≡ refusalIf (limitsOf P) (floorIn (lent P (now (stations .entry)) (now (carts .entry)) M W T O)) false (enter (station .0) (cart .0))) ⌝ }
 {
     if stations::station_count(stations) <= station.0 {
         return 8;
@@ -45,11 +45,12 @@ pub fn enter(
     messages: &[u64],
     lines: &[u64],
     texts: &[u8],
+    store: &[u8],
     station: Station,
     cart: CartNumber,
 ) -> Answer
-    requires { ⌜ ReadyBySome (λ P. lent P (now stations) (now carts) (now messages) (now lines) (now texts)) ⌝ }
-    ensures { λ a. ⌜ MetByEach (λ P. lent P (now (stations .entry)) (now (carts .entry)) (now (messages .entry)) (now (lines .entry)) (now (texts .entry))) (λ P. lent P (now (stations .exit)) (now (carts .exit)) (now (messages .entry)) (now (lines .entry)) (now (texts .entry))) (enter (station .0) (cart .0)) (answerIn a []) ⌝ }
+    requires { ⌜ ReadyBySome (λ P. lent P (now stations) (now carts) (now messages) (now lines) (now texts) (now store)) ⌝ }
+    ensures { λ a. ⌜ MetByEach (λ P. lent P (now (stations .entry)) (now (carts .entry)) (now (messages .entry)) (now (lines .entry)) (now (texts .entry)) (now (store .entry))) (λ P. lent P (now (stations .exit)) (now (carts .exit)) (now (messages .entry)) (now (lines .entry)) (now (texts .entry)) (now (store .entry))) (enter (station .0) (cart .0)) (answerIn a []) ⌝ }
 {
     if !stations::is_started(stations) {
         return Answer::Refused(5);
@@ -65,7 +66,7 @@ pub fn enter(
 // The refusal of a move, 8, 9 and 18 to 20, or 0.
 fn move_refusal(stations: &[u64], carts: &[u64], cart: CartNumber, to: Station) -> u64
     requires { ⌜ HasHead (now stations) × (headIn (now stations) .carts * 19 ≤ length (now carts)) ⌝ }
-    ensures { λ r. ⌜ ((P : Product) (M W T : List ℕ) → r ≡ refusalIf (limitsOf P) (floorIn (lent P (now (stations .entry)) (now (carts .entry)) M W T)) false (move (cart .0) (to .0))) ⌝ }
+    ensures { λ r. ⌜ ((P : Product) (M W T O : List ℕ) → r ≡ refusalIf (limitsOf P) (floorIn (lent P (now (stations .entry)) (now (carts .entry)) M W T O)) false (move (cart .0) (to .0))) ⌝ }
 {
     if stations::station_count(stations) <= to.0 {
         return 8;
@@ -101,11 +102,12 @@ pub fn move_cart(
     messages: &[u64],
     lines: &mut [u64],
     texts: &[u8],
+    store: &[u8],
     cart: CartNumber,
     to: Station,
 ) -> Answer
-    requires { ⌜ ReadyBySome (λ P. lent P (now stations) (now carts) (now messages) (now lines) (now texts)) ⌝ }
-    ensures { λ a. ⌜ MetByEach (λ P. lent P (now (stations .entry)) (now (carts .entry)) (now (messages .entry)) (now (lines .entry)) (now (texts .entry))) (λ P. lent P (now (stations .entry)) (now (carts .exit)) (now (messages .entry)) (now (lines .exit)) (now (texts .entry))) (move (cart .0) (to .0)) (answerIn a []) ⌝ }
+    requires { ⌜ ReadyBySome (λ P. lent P (now stations) (now carts) (now messages) (now lines) (now texts) (now store)) ⌝ }
+    ensures { λ a. ⌜ MetByEach (λ P. lent P (now (stations .entry)) (now (carts .entry)) (now (messages .entry)) (now (lines .entry)) (now (texts .entry)) (now (store .entry))) (λ P. lent P (now (stations .entry)) (now (carts .exit)) (now (messages .entry)) (now (lines .exit)) (now (texts .entry)) (now (store .entry))) (move (cart .0) (to .0)) (answerIn a []) ⌝ }
 {
     if !stations::is_started(stations) {
         return Answer::Refused(5);
@@ -122,7 +124,7 @@ pub fn move_cart(
 // The refusal of a flag, 9 or 18, or 0: "for kind 6, 18 if never entered, after 9". A cart on its way is told as any other.
 fn flag_refusal(stations: &[u64], carts: &[u64], cart: CartNumber) -> u64
     requires { ⌜ HasHead (now stations) × (headIn (now stations) .carts * 19 ≤ length (now carts)) ⌝ }
-    ensures { λ r. ⌜ ((P : Product) (M W T : List ℕ) (steady : Bool) → r ≡ refusalIf (limitsOf P) (floorIn (lent P (now (stations .entry)) (now (carts .entry)) M W T)) false (flag (cart .0) steady)) ⌝ }
+    ensures { λ r. ⌜ ((P : Product) (M W T O : List ℕ) (steady : Bool) → r ≡ refusalIf (limitsOf P) (floorIn (lent P (now (stations .entry)) (now (carts .entry)) M W T O)) false (flag (cart .0) steady)) ⌝ }
 {
     if stations::cart_count(stations) <= cart.0 {
         return 9;
@@ -141,11 +143,12 @@ pub fn flag_cart(
     messages: &[u64],
     lines: &[u64],
     texts: &[u8],
+    store: &[u8],
     cart: CartNumber,
     steady: bool,
 ) -> Answer
-    requires { ⌜ ReadyBySome (λ P. lent P (now stations) (now carts) (now messages) (now lines) (now texts)) ⌝ }
-    ensures { λ a. ⌜ MetByEach (λ P. lent P (now (stations .entry)) (now (carts .entry)) (now (messages .entry)) (now (lines .entry)) (now (texts .entry))) (λ P. lent P (now (stations .entry)) (now (carts .exit)) (now (messages .entry)) (now (lines .entry)) (now (texts .entry))) (flag (cart .0) steady) (answerIn a []) ⌝ }
+    requires { ⌜ ReadyBySome (λ P. lent P (now stations) (now carts) (now messages) (now lines) (now texts) (now store)) ⌝ }
+    ensures { λ a. ⌜ MetByEach (λ P. lent P (now (stations .entry)) (now (carts .entry)) (now (messages .entry)) (now (lines .entry)) (now (texts .entry)) (now (store .entry))) (λ P. lent P (now (stations .entry)) (now (carts .exit)) (now (messages .entry)) (now (lines .entry)) (now (texts .entry)) (now (store .entry))) (flag (cart .0) steady) (answerIn a []) ⌝ }
 {
     if !stations::is_started(stations) {
         return Answer::Refused(5);

@@ -20,8 +20,9 @@ use Rattle.sets.specs.Masks.{size}
 use Rattle.stations.specs.View.{HasHead, Stations, headIn, stationsIn, withGroup}
 use Rattle.carts.specs.View.{cartsIn}
 use Rattle.messages.specs.View.{roomsIn}
+use Rattle.store.specs.Texts.{textOf}
 use Rattle.view.specs.Records.{linesIn}
-use Rattle.view.specs.View.{Lent, lent, textsIn, floorOf, floorIn}
+use Rattle.view.specs.View.{Lent, lent, floorOf, floorIn}
 use Rattle.view.proofs.Lengths.{Lengths, lengths-right}
 use Rattle.view.proofs.Laid.{Laid, words-right, laid-stations}
 use Rattle.view.proofs.Standing.{Standing, standing, few-carts}
@@ -44,9 +45,9 @@ members-counted : (k n set : ℕ) → set < 2 ^ k → k ≤ n → size n set ≡
 unfolding size
 members-counted k n set low few = count-within k n (has set) (λ c l. no-member k set c low l) few
 
-module _ (P : Product) (S C M W T : List ℕ) (p : passesForm (limitsOf P) (floorIn (lent P S C M W T)) ≡ true) where
+module _ (P : Product) (S C M W T O : List ℕ) (p : passesForm (limitsOf P) (floorIn (lent P S C M W T O)) ≡ true) where
   abbrev L : Lent
-  L = lent P S C M W T
+  L = lent P S C M W T O
 
   X : Standing L
   X = standing L p
@@ -71,7 +72,7 @@ module _ (P : Product) (S C M W T : List ℕ) (p : passesForm (limitsOf P) (floo
     -- S with the group's other members is S′
     module _ (S′ : List ℕ) (top : headIn S′ ≡ withGroup (headIn S) g set) (stations : stationsIn S′ ≡ stationsIn S) (words : length S′ ≡ length S) where
       abbrev L′ : Lent
-      L′ = lent P S′ C M W T
+      L′ = lent P S′ C M W T O
 
       lengths : Lengths L′
       lengths =
@@ -81,11 +82,12 @@ module _ (P : Product) (S C M W T : List ℕ) (p : passesForm (limitsOf P) (floo
             messages = X .lengths .messages;
             lines = X .lengths .lines;
             texts = X .lengths .texts;
+            store = X .lengths .store;
           }
 
       laid : Laid L′
       laid =
-          laid-stations S C M W T (X .laid) S′ (λ t l. ap (λ (Y : Stations). Y .local t) stations)
+          laid-stations S C M W T O (X .laid) S′ (λ t l. ap (λ (Y : Stations). Y .local t) stations)
           (λ t m lt lm l. let was = X .laid .few t m lt lm l in
           (ap (λ (Y : Stations). Y .copy m t) stations ∙ was .0, ap (λ (Y : Stations). Y .queue m t) stations ∙ was .1))
 
@@ -94,7 +96,7 @@ module _ (P : Product) (S C M W T : List ℕ) (p : passesForm (limitsOf P) (floo
       unfolding onGroup
       group-is =
           λ i. floorOf ((lengths-right L′ lengths ∙ sym (lengths-right L (X .lengths))) i) ((words-right L′ laid ∙ sym (words-right L (X .laid))) i)
-          (top i) (stations i) (cartsIn C) (roomsIn M) (textsIn T (roomsIn M)) (linesIn W)
+          (top i) (stations i) (cartsIn C) (roomsIn M) (textOf T O (roomsIn M)) (linesIn W)
 
       -- "Kind 7 prints group and number of members"
       members-are : (n : ℕ) → n ≡ size 64 set → n ≡ membersOf (floorIn L) set

@@ -25,7 +25,7 @@ fn number_refusal(group: u64) -> u64
 // The refusal of a group, 9, "12 after 9, then 26", or 0.
 fn group_refusal(stations: &[u64], carts: &[u64], group: u64, set: u64) -> u64
     requires { ⌜ HasHead (now stations) × (headIn (now stations) .carts * 19 ≤ length (now carts)) × (headIn (now stations) .carts ≤ 64) ⌝ }
-    ensures { λ r. ⌜ ((P : Product) (M W T : List ℕ) → r ≡ refusalIf (limitsOf P) (floorIn (lent P (now (stations .entry)) (now (carts .entry)) M W T)) false (events.group group set)) ⌝ }
+    ensures { λ r. ⌜ ((P : Product) (M W T O : List ℕ) → r ≡ refusalIf (limitsOf P) (floorIn (lent P (now (stations .entry)) (now (carts .entry)) M W T O)) false (events.group group set)) ⌝ }
 {
     let of_set = event_send::named_refusal(stations, carts, set);
     let of_number = number_refusal(group);
@@ -39,11 +39,12 @@ pub fn define_group(
     messages: &[u64],
     lines: &[u64],
     texts: &[u8],
+    store: &[u8],
     group: u64,
     set: u64,
 ) -> Answer
-    requires { ⌜ ReadyBySome (λ P. lent P (now stations) (now carts) (now messages) (now lines) (now texts)) ⌝ }
-    ensures { λ a. ⌜ MetByEach (λ P. lent P (now (stations .entry)) (now (carts .entry)) (now (messages .entry)) (now (lines .entry)) (now (texts .entry))) (λ P. lent P (now (stations .exit)) (now (carts .entry)) (now (messages .entry)) (now (lines .entry)) (now (texts .entry))) (events.group group set) (answerIn a []) ⌝ }
+    requires { ⌜ ReadyBySome (λ P. lent P (now stations) (now carts) (now messages) (now lines) (now texts) (now store)) ⌝ }
+    ensures { λ a. ⌜ MetByEach (λ P. lent P (now (stations .entry)) (now (carts .entry)) (now (messages .entry)) (now (lines .entry)) (now (texts .entry)) (now (store .entry))) (λ P. lent P (now (stations .exit)) (now (carts .entry)) (now (messages .entry)) (now (lines .entry)) (now (texts .entry)) (now (store .entry))) (events.group group set) (answerIn a []) ⌝ }
 {
     if !stations::is_started(stations) {
         return Answer::Refused(5);

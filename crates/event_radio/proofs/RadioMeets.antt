@@ -3,11 +3,11 @@ use mathlib.Core.Path.{_≡_, refl, sym, ap, _∙_}
 use mathlib.Core.Bool.{Bool, true, false, not}
 use mathlib.Core.List.{List}
 use mathlib.Core.Option.{Option, some, none}
-use Prim.Native.Nat.{ℕ, zero, suc, _*_, _≤_, _<_}
+use Prim.Native.Nat.{ℕ, zero, suc, _≤_, _<_}
 use native.Mathlib.Omega.{arith}
 use lib.Dec.{leb, ltb}
-use lib.ListN.{length, take, drop}
-use borrow.Author.Tests.{leb-false, ltb-false, lt-leb, not-false}
+use lib.ListN.{length, take}
+use borrow.Author.Tests.{eqb-false, leb-false, ltb-false, lt-leb, not-false}
 use Rattle.protocol.specs.Folds.{byOption}
 use Rattle.protocol.specs.CartSets.{has}
 use Rattle.protocol.specs.Floor.{Product, limitsOf, Floor, isAt}
@@ -16,19 +16,21 @@ use Rattle.protocol.specs.Wireless.{headWith, headAmong, queueHead}
 use Rattle.protocol.specs.Form.{passesForm}
 use Rattle.protocol.specs.Refusals.{check, refusalIf}
 use Rattle.protocol.specs.Step.{accept}
-use Rattle.protocol.proofs.Tests.{by-lt}
+use Rattle.protocol.proofs.Tests.{by-test, by-lt}
 use Rattle.protocol.proofs.SetLaws.{some-member}
 use Rattle.protocol.proofs.Accepted.{passed-check, MayRadio}
 use Rattle.stations.specs.View.{HasStation, headIn, stationsIn}
 use Rattle.carts.specs.Words.{HasRow}
 use Rattle.carts.specs.View.{cartsIn}
 use Rattle.messages.specs.View.{HasRoom, roomsIn}
-use Rattle.messages.specs.Texts.{longest, HasText, textIn}
-use Rattle.messages.proofs.TextLaws.{length-text}
+use Rattle.store.specs.Texts.{HasParts, textOf}
+use Rattle.store.proofs.Counted.{text-most}
+use Rattle.store.proofs.HeldText.{held-length, whole-text}
+use Rattle.store.proofs.Room.{has-parts}
 use Rattle.lines.specs.Form.{form}
 use Rattle.lines.specs.Lines.{used}
 use Rattle.lines.specs.Words.{capacity}
-use Rattle.view.specs.View.{Lent, lent, floorIn, textsIn}
+use Rattle.view.specs.View.{Lent, lent, floorIn}
 use Rattle.view.proofs.Standing.{Standing, standing, few-stations, few-carts, held-number}
 use Rattle.queue.specs.Rooms.{tablesFloor, roomCount, HasRooms, QueueRooms, roomCode, roomIn}
 use Rattle.queue.specs.Keys.{Keyed}
@@ -111,9 +113,9 @@ first-four false false true f rest r e n = e
 first-four false false false true rest r e n = e
 first-four false false false false rest r e n = absurd (n e)
 
-module _ (P : Product) (S C M W T : List ℕ) (t c buffer : ℕ) (p : passesForm (limitsOf P) (floorIn (lent P S C M W T)) ≡ true) where
+module _ (P : Product) (S C M W T O : List ℕ) (t c buffer : ℕ) (p : passesForm (limitsOf P) (floorIn (lent P S C M W T O)) ≡ true) where
   abbrev L : Lent
-  L = lent P S C M W T
+  L = lent P S C M W T O
 
   X : Standing L
   X = standing L p
@@ -152,12 +154,23 @@ module _ (P : Product) (S C M W T : List ℕ) (t c buffer : ℕ) (p : passesForm
           let d = few-carts L X in
           (head-asks .0, λ l. let a = X .lengths .messages in let b = room-low L t X (is-here .0) m found l in omega arith, omega arith, room-fits L t m found)
 
-      -- a text has as many octets as its row says
+      -- the row and the text's part of a room
+      parts-there : (k : ℕ) → k < P .held → HasParts M T O k
+      parts-there = has-parts (P .held) M T O (record { rows = X .lengths .messages; right = X .laid .texts }) (X .lengths .texts) (X .lengths .store)
+
+      -- whoever is queued waits for a held message
+      queued-held : (k : ℕ) → has (stationsIn S .queue k t) c ≡ true → roomsIn M .waiting k ≡ 0 → ⊥
+      queued-held k q = eqb-false (roomsIn M .waiting k) 0 (X .facts .queues k t c q .held .some)
+
+      -- the text of whoever is queued has as many octets as its row says
       same-checks : (o : Option ℕ) → Below (P .held) o
           → check 17 (byOption o true (λ m. not (has (stationsIn S .queue m t) c))) (check 21 (byOption o false (λ m. ltb buffer (roomsIn M .length m))) 0)
-          ≡ check 17 (byOption o true (λ m. not (has (stationsIn S .queue m t) c))) (check 21 (byOption o false (λ m. ltb buffer (length (textsIn T (roomsIn M) m)))) 0)
+          ≡ check 17 (byOption o true (λ m. not (has (stationsIn S .queue m t) c))) (check 21 (byOption o false (λ m. ltb buffer (length (textOf T O (roomsIn M) m)))) 0)
       same-checks none l = refl
-      same-checks (some k) l = rw (length-text T (roomsIn M .length k) k (let a = X .lengths .texts in omega arith) (X .laid .short k l)) refl
+      same-checks (some k) l =
+          by-test (has (stationsIn S .queue k t) c)
+          (λ q. rw (q, held-length M T O k (parts-there k l) (queued-held k q)) refl)
+          (λ q. rw q refl)
 
       below : Below (P .held) (roomIn m)
       below = by-lt m 32 (λ l. rw (room-in m l) (room-low L t X (is-here .0) m found l)) (λ l. rw (no-room-in m l) (omega arith))
@@ -215,23 +228,26 @@ module _ (P : Product) (S C M W T : List ℕ) (t c buffer : ℕ) (p : passesForm
 
           -- and how many octets its text has
           module _ (size : ℕ) (ez : size ≡ roomsIn M .length m) where
+            in-table : m < P .held
+            in-table = room-low L t X (is-here .0) m found is-room
+
             -- where its text lies
-            pub text-lies : (size ≤ longest) × (size ≤ buffer) × HasText T m
+            pub text-lies : (size ≤ 512) × (size ≤ buffer) × HasParts M T O m × (roomsIn M .waiting m ≡ 0 → ⊥) × (size ≡ roomsIn M .length m)
             text-lies =
-                let here = room-low L t X (is-here .0) m found is-room in
-                let short = X .laid .short m here in
-                let octets = X .lengths .texts in
+                let most = text-most (P .held) T O (roomsIn M) (X .laid .texts) m in-table in
+                let held = queued-held m (is-served .0) in
+                let octets = held-length M T O m (parts-there m in-table) held in
                 let served = is-served .1 in
-                (omega arith, omega arith, omega arith)
+                (omega arith, omega arith, parts-there m in-table, held, ez)
 
             pub in-a-room : m < 32
             in-a-room = is-room
 
             pub meets-radio : (S′ C′ W′ : List ℕ) (f : Effect) → HandedOver S S′ C C′ M W W′ m s n t c (f .passed) (f .records) (f .place)
-                → Met L (lent P S′ C′ M W′ T) (radio t c buffer) (acceptedIn (values 4 s n f) (take size (drop (m * longest) T)))
-            unfolding accept textIn
+                → Met L (lent P S′ C′ M W′ T O) (radio t c buffer) (acceptedIn (values 4 s n f) (take size (textOf T O (roomsIn M) m)))
+            unfolding accept
             meets-radio S′ C′ W′ f over =
                 let over₀ : HandedOver S S′ C C′ M W W′ m (roomsIn M .initiator m) (roomsIn M .number m) t c (f .passed) (f .records) (f .place) = rw (es, en) at over in
-                meets-done L (radio t c buffer) (lent P S′ C′ M W′ T) _ refl (refusal-standing L (radio t c buffer) p ∙ sym served-is ∙ free)
-                (radio-is S S′ C C′ M W W′ T m t c (f .passed) (f .records) (f .place) X may over₀)
-                (rw (es, en, ez) (sym (radio-reports S S′ C C′ M W W′ T m t c (f .passed) (f .records) (f .place) X may over₀)))
+                meets-done L (radio t c buffer) (lent P S′ C′ M W′ T O) _ refl (refusal-standing L (radio t c buffer) p ∙ sym served-is ∙ free)
+                (radio-is S S′ C C′ M W W′ T O m t c (f .passed) (f .records) (f .place) X may over₀)
+                (rw (es, en, whole-text M T O m (parts-there m in-table) (queued-held m (is-served .0)) size ez) (sym (radio-reports S S′ C C′ M W W′ T O m t c (f .passed) (f .records) (f .place) X may over₀)))

@@ -21,8 +21,8 @@ ghost use Rattle.event_answers.specs.Delivered.{DeliveredByEach};
 ghost use Rattle.event_radio.specs.Checks.{notAt, notSteady, notHere, notServed};
 ghost use Rattle.event_radio.specs.Handed.{handedIn, Lies, Laid};
 
-// What a radio step comes to: its answer, and the room of the message that was handed over. The text stays in that room's part of the lent octets;
-// `deliver` copies it, and a printed line is made from it where it lies.
+// What a radio step comes to: its answer, and the room of the message that was handed over. The text stays where it lies, in that room's part of the
+// lent octets or in the store; `deliver` copies it, and a printed line is made from it there.
 pub struct Handed {
     pub answer: Answer,
     pub room: usize,
@@ -108,13 +108,14 @@ pub fn radio(
     messages: &[u64],
     lines: &mut [u64],
     texts: &[u8],
+    store: &[u8],
     station: Station,
     cart: CartNumber,
     buffer: usize,
 ) -> Handed
-    requires { ⌜ ReadyBySome (λ P. lent P (now stations) (now carts) (now messages) (now lines) (now texts)) ⌝ }
-    ensures { λ h. ⌜ MetByEach (λ P. lent P (now (stations .entry)) (now (carts .entry)) (now (messages .entry)) (now (lines .entry)) (now (texts .entry))) (λ P. lent P (now (stations .exit)) (now (carts .exit)) (now (messages .entry)) (now (lines .exit)) (now (texts .entry))) (radio (station .0) (cart .0) buffer) (handedIn (now (texts .entry)) h) ⌝ }
-    ensures { λ h. ⌜ Lies (now (texts .entry)) buffer h ⌝ }
+    requires { ⌜ ReadyBySome (λ P. lent P (now stations) (now carts) (now messages) (now lines) (now texts) (now store)) ⌝ }
+    ensures { λ h. ⌜ MetByEach (λ P. lent P (now (stations .entry)) (now (carts .entry)) (now (messages .entry)) (now (lines .entry)) (now (texts .entry)) (now (store .entry))) (λ P. lent P (now (stations .exit)) (now (carts .exit)) (now (messages .entry)) (now (lines .exit)) (now (texts .entry)) (now (store .entry))) (radio (station .0) (cart .0) buffer) (handedIn (now (messages .entry)) (now (texts .entry)) (now (store .entry)) h) ⌝ }
+    ensures { λ h. ⌜ Lies (now (messages .entry)) (now (texts .entry)) (now (store .entry)) buffer h ⌝ }
 {
     if !stations::is_started(stations) {
         return refused(5);
@@ -149,16 +150,16 @@ pub fn radio(
 }
 
 // The text that was handed over, into the lent buffer.
-fn deliver(texts: &[u8], handed: Handed, buffer: &mut [u8])
-    requires { ⌜ Lies (now texts) (length (now buffer)) handed ⌝ }
-    ensures { λ _. ⌜ Laid (now (texts .entry)) handed (now (buffer .entry)) (now (buffer .exit)) ⌝ }
+fn deliver(messages: &[u64], texts: &[u8], store: &[u8], handed: Handed, buffer: &mut [u8])
+    requires { ⌜ Lies (now messages) (now texts) (now store) (length (now buffer)) handed ⌝ }
+    ensures { λ _. ⌜ Laid (now (messages .entry)) (now (texts .entry)) (now (store .entry)) handed (now (buffer .entry)) (now (buffer .exit)) ⌝ }
 {
     let answer = handed.answer;
     let told = event_answers::told_of(answer);
     if told.is_refused {
         return;
     }
-    messages::copy_text(texts, handed.room, told.size, buffer);
+    store::copy_text(messages, texts, store, handed.room, buffer);
 }
 
 // "Radio (station, cart)", with a lent buffer: "writes the text at the front of the lent buffer and leaves the rest"; a refusal "changes no octet
@@ -169,15 +170,26 @@ pub fn radio_into(
     messages: &[u64],
     lines: &mut [u64],
     texts: &[u8],
+    store: &[u8],
     station: Station,
     cart: CartNumber,
     buffer: &mut [u8],
 ) -> Answer
-    requires { ⌜ ReadyBySome (λ P. lent P (now stations) (now carts) (now messages) (now lines) (now texts)) ⌝ }
-    ensures { λ a. ⌜ DeliveredByEach (λ P. lent P (now (stations .entry)) (now (carts .entry)) (now (messages .entry)) (now (lines .entry)) (now (texts .entry))) (λ P. lent P (now (stations .exit)) (now (carts .exit)) (now (messages .entry)) (now (lines .exit)) (now (texts .entry))) (station .0) (cart .0) a (now (buffer .entry)) (now (buffer .exit)) ⌝ }
+    requires { ⌜ ReadyBySome (λ P. lent P (now stations) (now carts) (now messages) (now lines) (now texts) (now store)) ⌝ }
+    ensures { λ a. ⌜ DeliveredByEach (λ P. lent P (now (stations .entry)) (now (carts .entry)) (now (messages .entry)) (now (lines .entry)) (now (texts .entry)) (now (store .entry))) (λ P. lent P (now (stations .exit)) (now (carts .exit)) (now (messages .entry)) (now (lines .exit)) (now (texts .entry)) (now (store .entry))) (station .0) (cart .0) a (now (buffer .entry)) (now (buffer .exit)) ⌝ }
 {
     let room = buffer.len();
-    let handed = radio(stations, carts, messages, lines, texts, station, cart, room);
-    deliver(texts, handed, buffer);
+    let handed = radio(
+        stations,
+        carts,
+        messages,
+        lines,
+        texts,
+        store,
+        station,
+        cart,
+        room,
+    );
+    deliver(messages, texts, store, handed, buffer);
     handed.answer
 }

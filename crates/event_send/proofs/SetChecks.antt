@@ -1,5 +1,5 @@
 -- THE CHECKS OF THE CARTS THAT AN EVENT NAMES, down the table, on the tables of the stations (S) and of the carts (C), whatever the other parts (M, W,
--- T) are.
+-- T, O) are.
 use mathlib.Core.Path.{_≡_, refl, sym, ap, _∙_}
 use mathlib.Core.Bool.{Bool, true, false, not}
 use mathlib.Core.List.{List}
@@ -16,9 +16,9 @@ use Rattle.view.specs.View.{lent, floorIn}
 use Rattle.form_groups.proofs.Entered.{allEntered, entered-wider, within-all, beyond-all}
 use Rattle.event_send.specs.Checks.{namedChecks, setChecks}
 
-module _ (S C : List ℕ) (set most : ℕ) (P : Product) (M W T : List ℕ) (e : most ≡ setOf (headIn S .carts) (λ c. true)) where
+module _ (S C : List ℕ) (set most : ℕ) (P : Product) (M W T O : List ℕ) (e : most ≡ setOf (headIn S .carts) (λ c. true)) where
   abbrev F : Floor
-  F = floorIn (lent P S C M W T)
+  F = floorIn (lent P S C M W T O)
 
   pub named-stranger : most < set → 9 ≡ namedChecks F set
   named-stranger l = rw (le-leb (2 ^ headIn S .carts) set (beyond-all (headIn S .carts) set most e l)) refl

@@ -41,9 +41,9 @@ module _ (M : Limits) (n k : ℕ) where
       (λ h. rw (le-ltb most k h, lt-ltb 0 n (omega arith), le-leb n (M .stations) l, lt-ltb 0 k (omega arith), le-leb k (M .carts) (omega arith)) refl)
 
 -- the checks of a start, down the table
-module _ (P : Product) (S C M W T : List ℕ) (n k : ℕ) (ok : Bool) (lengths-are : ok ≡ lengthsIn (lent P S C M W T)) where
+module _ (P : Product) (S C M W T O : List ℕ) (n k : ℕ) (ok : Bool) (lengths-are : ok ≡ lengthsIn (lent P S C M W T O)) where
   abbrev L : Lent
-  L = lent P S C M W T
+  L = lent P S C M W T O
 
   pub start-lengths : ok ≡ false → Met L L (start n k) (refused 5)
   unfolding refusal refusalIf
@@ -85,11 +85,11 @@ module _ (P : Product) (S C M W T : List ℕ) (n k : ℕ) (ok : Bool) (lengths-a
 
       -- "it writes all the rest afresh"
       pub meets-start : wrong ≡ false → (S′ C′ M′ W′ : List ℕ) (f : Effect) → Begun S S′ C C′ M M′ W W′ n k → f ≡ nothing
-          → Met L (lent P S′ C′ M′ W′ T) (start n k) (says 0 n k f)
+          → Met L (lent P S′ C′ M′ W′ T O) (start n k) (says 0 n k f)
       unfolding refusal refusalIf accept
       meets-start e S′ C′ M′ W′ f begun counted =
-          meets-counted L (lent P S′ C′ M′ W′ T) (start n k) 0 n k f nothing counted
-          (meets-done L (start n k) (lent P S′ C′ M′ W′ T) _ refl met (accepted-start S S′ C C′ M M′ W W′ T n k lengths begun (floorIn L)) says-so)
+          meets-counted L (lent P S′ C′ M′ W′ T O) (start n k) 0 n k f nothing counted
+          (meets-done L (start n k) (lent P S′ C′ M′ W′ T O) _ refl met (accepted-start S S′ C C′ M M′ W W′ T O n k lengths begun (floorIn L)) says-so)
         where
           met : refusal (limitsOf P) (floorIn L) (start n k) ≡ 0
           met = rw (right, ne-eqb (headIn S .mark) 1 fresh, sym size-is, e) refl

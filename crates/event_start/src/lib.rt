@@ -36,14 +36,15 @@ pub fn start(
     messages: &mut [u64],
     lines: &mut [u64],
     texts: &[u8],
+    store: &[u8],
     n: u64,
     k: u64,
     bounds: Bounds,
 ) -> Answer
     requires { ⌜ Fits bounds ⌝ }
-    ensures { λ a. ⌜ ((P : Product) → NumbersOf P bounds → Met (lent P (now (stations .entry)) (now (carts .entry)) (now (messages .entry)) (now (lines .entry)) (now (texts .entry))) (lent P (now (stations .exit)) (now (carts .exit)) (now (messages .exit)) (now (lines .exit)) (now (texts .entry))) (start n k) (answerIn a [])) ⌝ }
+    ensures { λ a. ⌜ ((P : Product) → NumbersOf P bounds → Met (lent P (now (stations .entry)) (now (carts .entry)) (now (messages .entry)) (now (lines .entry)) (now (texts .entry)) (now (store .entry))) (lent P (now (stations .exit)) (now (carts .exit)) (now (messages .exit)) (now (lines .exit)) (now (texts .entry)) (now (store .entry))) (start n k) (answerIn a [])) ⌝ }
 {
-    if !form_test::lengths_ok(stations, carts, messages, lines, texts, bounds) {
+    if !form_test::lengths_ok(stations, carts, messages, lines, texts, store, bounds) {
         return Answer::Refused(5);
     }
     if stations::mark_of(stations) == stations::STARTED {

@@ -28,9 +28,9 @@ some-words : (rows : ℕ → ℕ → ℕ) (l : List word.Record) (r : Record) (k
 some-words rows [] r k e = clash true refl (ap isEmpty e)
 some-words rows (x ∷ l) r k e = omega arith
 
-module _ (P : Product) (S C M W T : List ℕ) (i j : ℕ) (p : passesForm (limitsOf P) (floorIn (lent P S C M W T)) ≡ true) where
+module _ (P : Product) (S C M W T O : List ℕ) (i j : ℕ) (p : passesForm (limitsOf P) (floorIn (lent P S C M W T O)) ≡ true) where
   abbrev L : Lent
-  L = lent P S C M W T
+  L = lent P S C M W T O
 
   X : Standing L
   X = standing L p
@@ -53,8 +53,8 @@ module _ (P : Product) (S C M W T : List ℕ) (i j : ℕ) (p : passesForm (limit
         (li, lj, X .laid .chains, some-words (registersIn W) (recordsOn W (i * 16 + j)) (may .0) (may .1) (sym (line-in W i j li lj) ∙ z .line))
 
     module _ (W₁ : List ℕ) (said : word.Record) (top : recordsOn W (i * 16 + j) ≡ said ∷ drop 1 (recordsOn W (i * 16 + j))) (popped : Popped W W₁ (i * 16 + j)) where
-      pub taken-off : TakenOff P S C M W W₁ T i j said
+      pub taken-off : TakenOff P S C M W W₁ T O i j said
       taken-off = record { passes = p; from = may .2 .from; to = may .2 .to; top = top; popped = popped }
 
       pub is-off : IsOff S C M W₁ i j said
-      is-off = record { product = P; lines = W; texts = T; taken = taken-off }
+      is-off = record { product = P; lines = W; texts = T; store = O; taken = taken-off }

@@ -1,4 +1,4 @@
--- THE CHECKS OF A WIRE EVENT, down the table, on the tables of the stations (S) and the lines (W), whatever the other parts (C, M, T) are.
+-- THE CHECKS OF A WIRE EVENT, down the table, on the tables of the stations (S) and the lines (W), whatever the other parts (C, M, T, O) are.
 use mathlib.Core.Path.{_≡_, refl, sym, _∙_}
 use mathlib.Core.Bool.{true, false}
 use mathlib.Core.List.{List}
@@ -16,9 +16,9 @@ use Rattle.stations.specs.View.{headIn}
 use Rattle.view.specs.View.{lent, floorIn}
 use Rattle.view.proofs.LinesView.{line-empty}
 
-module _ (S W : List ℕ) (i j : ℕ) (P : Product) (C M T : List ℕ) where
+module _ (S W : List ℕ) (i j : ℕ) (P : Product) (C M T O : List ℕ) where
   abbrev F : Floor
-  F = floorIn (lent P S C M W T)
+  F = floorIn (lent P S C M W T O)
 
   pub wire-no-from : headIn S .stations ≤ i → 8 ≡ refusalIf (limitsOf P) F false (wire i j)
   unfolding refusalIf

@@ -45,9 +45,9 @@ use Rattle.event_answers.specs.Met.{Met}
 use Rattle.event_answers.proofs.Meets.{meets-done, meets-counted}
 use Rattle.event_wire.specs.Off.{TakenOff}
 
-module _ (P : Product) (S C M W W₁ T : List ℕ) (i j : ℕ) (said : word.Record) (off : TakenOff P S C M W W₁ T i j said) where
+module _ (P : Product) (S C M W W₁ T O : List ℕ) (i j : ℕ) (said : word.Record) (off : TakenOff P S C M W W₁ T O i j said) where
   abbrev L : Lent
-  L = lent P S C M W T
+  L = lent P S C M W T O
 
   abbrev F : Floor
   F = floorIn L
@@ -91,38 +91,38 @@ module _ (P : Product) (S C M W W₁ T : List ℕ) (i j : ℕ) (said : word.Reco
 
   pub multicast-asks : kindOf (said .0) ≡ 1
       → (HasStation S j × (i < 16) × (stationsIn S .expected j i < 4294967296)) × (((c : ℕ) → has (stationsIn S .local j) c ≡ true → HasRow C c) × HasRoom M m × (m < 32) × (n < 4294967296) × HasRooms M)
-  multicast-asks k = asks.multicast-asks S C M W W₁ T X i j (off .from) (off .to) said rest (off .top) (off .popped) k
+  multicast-asks k = asks.multicast-asks S C M W W₁ T O X i j (off .from) (off .to) said rest (off .top) (off .popped) k
 
   pub meets-multicast : kindOf (said .0) ≡ 1 → (S′ C′ : List ℕ) (x : ℕ) (f : Effect) → x ≡ n → Buffered S S′ C C′ M (stationsIn S .local j) m n i j (f .passed) (f .place) → f ≡ queueing (f .passed) (f .place)
-      → Met L (lent P S′ C′ M W₁ T) (wire i j) (says 3 1 x f)
+      → Met L (lent P S′ C′ M W₁ T O) (wire i j) (says 3 1 x f)
   meets-multicast k S′ C′ x f e b counted =
-      meets (lent P S′ C′ M W₁ T) 1 x f (queueing (f .passed) (f .place)) refl counted
-      (multicast-is S S′ C C′ M W W₁ T X i j (off .from) (off .to) said rest (off .top) k (off .popped) (f .passed) (f .place) b)
-      (rw e (multicast-report S S′ C C′ M W W₁ T X i j (off .from) (off .to) said rest (off .top) k (off .popped) (f .passed) (f .place) b))
+      meets (lent P S′ C′ M W₁ T O) 1 x f (queueing (f .passed) (f .place)) refl counted
+      (multicast-is S S′ C C′ M W W₁ T O X i j (off .from) (off .to) said rest (off .top) k (off .popped) (f .passed) (f .place) b)
+      (rw e (multicast-report S S′ C C′ M W W₁ T O X i j (off .from) (off .to) said rest (off .top) k (off .popped) (f .passed) (f .place) b))
 
   -- AN ACK LIST; y is how many stations the code read
   pub ack-list-asks : kindOf (said .0) ≡ 2 → (y : ℕ) → y ≡ headIn S .stations
       → (HasRoom M m × (m < 32) × (n < 4294967296)) × (((j < 16) × (y ≤ 16) × (form W₁ ≡ true))
       × (union (roomsIn M .acked m) (said .1) ≡ roomsIn M .named m → used W₁ + y ≤ capacity W₁))
-  ack-list-asks k y e = rw e (asks.ack-list-asks S C M W W₁ T X i j (off .from) (off .to) said rest (off .top) (off .popped) k)
+  ack-list-asks k y e = rw e (asks.ack-list-asks S C M W W₁ T O X i j (off .from) (off .to) said rest (off .top) (off .popped) k)
 
   pub meets-ack-list : kindOf (said .0) ≡ 2 → (M′ W′ : List ℕ) (x y : ℕ) (f : Effect) → x ≡ n → y ≡ headIn S .stations
-      → Acknowledged M M′ W₁ W′ m n (said .1) j y (f .records) → f ≡ putting (f .records) → Met L (lent P S C M′ W′ T) (wire i j) (says 3 2 x f)
+      → Acknowledged M M′ W₁ W′ m n (said .1) j y (f .records) → f ≡ putting (f .records) → Met L (lent P S C M′ W′ T O) (wire i j) (says 3 2 x f)
   meets-ack-list k M′ W′ x y f e count b counted =
       let b′ : Acknowledged M M′ W₁ W′ m n (said .1) j (headIn S .stations) (f .records) = subst (λ (z : ℕ). Acknowledged M M′ W₁ W′ m n (said .1) j z (f .records)) count b in
-      meets (lent P S C M′ W′ T) 2 x f (putting (f .records)) refl counted
-      (ack-list-is S C M W W₁ T X i j (off .from) (off .to) said rest (off .top) k (off .popped) M′ W′ (f .records) b′)
-      (rw e (ack-list-report S C M W W₁ T X i j (off .from) (off .to) said rest (off .top) k (off .popped) M′ W′ (f .records) b′))
+      meets (lent P S C M′ W′ T O) 2 x f (putting (f .records)) refl counted
+      (ack-list-is S C M W W₁ T O X i j (off .from) (off .to) said rest (off .top) k (off .popped) M′ W′ (f .records) b′)
+      (rw e (ack-list-report S C M W W₁ T O X i j (off .from) (off .to) said rest (off .top) k (off .popped) M′ W′ (f .records) b′))
 
   -- A DELETE
   pub delete-asks : kindOf (said .0) ≡ 3 → HasRoom M m × (j < 16)
-  delete-asks k = asks.delete-asks S C M W W₁ T X i j (off .from) (off .to) said rest (off .top) (off .popped) k
+  delete-asks k = asks.delete-asks S C M W W₁ T O X i j (off .from) (off .to) said rest (off .top) (off .popped) k
 
   pub meets-delete : kindOf (said .0) ≡ 3 → (M′ : List ℕ) (x : ℕ) (f : Effect) → x ≡ n → Deleted M M′ m j → f ≡ nothing
-      → Met L (lent P S C M′ W₁ T) (wire i j) (says 3 3 x f)
+      → Met L (lent P S C M′ W₁ T O) (wire i j) (says 3 3 x f)
   meets-delete k M′ x f e b counted =
-      meets (lent P S C M′ W₁ T) 3 x f nothing refl counted (delete-is S C M M′ W W₁ T X i j (off .from) (off .to) said rest (off .top) k (off .popped) b)
-      (rw e (delete-report S C M M′ W W₁ T X i j (off .from) (off .to) said rest (off .top) k (off .popped) b))
+      meets (lent P S C M′ W₁ T O) 3 x f nothing refl counted (delete-is S C M M′ W W₁ T O X i j (off .from) (off .to) said rest (off .top) k (off .popped) b)
+      (rw e (delete-report S C M M′ W W₁ T O X i j (off .from) (off .to) said rest (off .top) k (off .popped) b))
 
   -- a record of a cart that the code read as x
   module _ (x : ℕ) (is : x ≡ m) where
@@ -142,11 +142,11 @@ module _ (P : Product) (S C M W W₁ T : List ℕ) (i j : ℕ) (said : word.Reco
     deregister-asks k = (deregister-ready L X x i j left (may-deregister k), register-has-room L X x i j left (may-deregister k) W₁ (off .popped))
 
     pub meets-deregister : kindOf (said .0) ≡ 4 → (S′ C′ W′ : List ℕ) (f : Effect) → Left S S′ C C′ M W₁ W′ x j i (f .records) → f ≡ putting (f .records)
-        → Met L (lent P S′ C′ M W′ T) (wire i j) (says 3 4 x f)
+        → Met L (lent P S′ C′ M W′ T O) (wire i j) (says 3 4 x f)
     meets-deregister k S′ C′ W′ f b counted =
-        meets (lent P S′ C′ M W′ T) 4 x f (putting (f .records)) refl counted
-        (deregister-is S S′ C C′ M W W₁ W′ T x i j (f .records) left X (may-deregister k) (off .popped) b)
-        (deregister-reports S S′ C C′ M W W₁ W′ T x i j (f .records) left X (may-deregister k) (off .popped) b)
+        meets (lent P S′ C′ M W′ T O) 4 x f (putting (f .records)) refl counted
+        (deregister-is S S′ C C′ M W W₁ W′ T O x i j (f .records) left X (may-deregister k) (off .popped) b)
+        (deregister-reports S S′ C C′ M W W₁ W′ T O x i j (f .records) left X (may-deregister k) (off .popped) b)
 
     -- A REGISTER: what is none of the other four
     module _ (n1 : kindOf (said .0) ≡ 1 → ⊥) (n2 : kindOf (said .0) ≡ 2 → ⊥) (n3 : kindOf (said .0) ≡ 3 → ⊥) (n4 : kindOf (said .0) ≡ 4 → ⊥) where
@@ -173,10 +173,10 @@ module _ (P : Product) (S C M W W₁ T : List ℕ) (i j : ℕ) (said : word.Reco
 
       -- where the code read it, once the record is off its line
       pub meets-register : (S′ C′ r : List ℕ) (f : Effect) → r ≡ listOf 16 (registersIn W₁ x) → Arrived S S′ C C′ M j x r (f .passed) (f .place) → f ≡ queueing (f .passed) (f .place)
-          → Met L (lent P S′ C′ M W₁ T) (wire i j) (says 3 5 x f)
+          → Met L (lent P S′ C′ M W₁ T O) (wire i j) (says 3 5 x f)
       meets-register S′ C′ r f e b counted =
           let same : r ≡ row = e ∙ ap (λ (g : ℕ → ℕ → ℕ). listOf 16 (g x)) (off .popped .registers) in
           let b′ : Arrived S S′ C C′ M j x row (f .passed) (f .place) = subst (λ (z : List ℕ). Arrived S S′ C C′ M j x z (f .passed) (f .place)) same b in
-          meets (lent P S′ C′ M W₁ T) 5 x f (queueing (f .passed) (f .place)) refl counted
-          (register-is S S′ C C′ M W W₁ T x i j (f .passed) (f .place) row left X may-register (off .popped) b′)
-          (register-reports S S′ C C′ M W W₁ T x i j (f .passed) (f .place) row left X may-register (off .popped) b′)
+          meets (lent P S′ C′ M W₁ T O) 5 x f (queueing (f .passed) (f .place)) refl counted
+          (register-is S S′ C C′ M W W₁ T O x i j (f .passed) (f .place) row left X may-register (off .popped) b′)
+          (register-reports S S′ C C′ M W W₁ T O x i j (f .passed) (f .place) row left X may-register (off .popped) b′)

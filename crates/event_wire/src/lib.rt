@@ -23,7 +23,7 @@ ghost use Rattle.event_wire.specs.Off.{TakenOff, IsOff};
 // The refusal of a wire event, 8 or 15, or 0.
 fn wire_refusal(stations: &[u64], lines: &[u64], from: Station, to: Station) -> u64
     requires { ⌜ HasHead (now stations) × (headIn (now stations) .stations ≤ 16) × (form (now lines) ≡ true) ⌝ }
-    ensures { λ r. ⌜ ((P : Product) (C M T : List ℕ) → r ≡ refusalIf (limitsOf P) (floorIn (lent P (now (stations .entry)) C M (now (lines .entry)) T)) false (wire (from .0) (to .0))) ⌝ }
+    ensures { λ r. ⌜ ((P : Product) (C M T O : List ℕ) → r ≡ refusalIf (limitsOf P) (floorIn (lent P (now (stations .entry)) C M (now (lines .entry)) T O)) false (wire (from .0) (to .0))) ⌝ }
 {
     let n = stations::station_count(stations);
     if n <= from.0 {
@@ -52,7 +52,7 @@ fn handle(
     to: Station,
 ) -> Answer
     requires { ⌜ IsOff (now stations) (now carts) (now messages) (now lines) (from .0) (to .0) said ⌝ }
-    ensures { λ a. ⌜ ((P : Product) (W T : List ℕ) → TakenOff P (now (stations .entry)) (now (carts .entry)) (now (messages .entry)) W (now (lines .entry)) T (from .0) (to .0) said → Met (lent P (now (stations .entry)) (now (carts .entry)) (now (messages .entry)) W T) (lent P (now (stations .exit)) (now (carts .exit)) (now (messages .exit)) (now (lines .exit)) T) (wire (from .0) (to .0)) (answerIn a [])) ⌝ }
+    ensures { λ a. ⌜ ((P : Product) (W T O : List ℕ) → TakenOff P (now (stations .entry)) (now (carts .entry)) (now (messages .entry)) W (now (lines .entry)) T O (from .0) (to .0) said → Met (lent P (now (stations .entry)) (now (carts .entry)) (now (messages .entry)) W T O) (lent P (now (stations .exit)) (now (carts .exit)) (now (messages .exit)) (now (lines .exit)) T O) (wire (from .0) (to .0)) (answerIn a [])) ⌝ }
 {
     let kind = view::kind_of(said);
     if kind <= view::DELETE {
@@ -86,11 +86,12 @@ pub fn wire(
     messages: &mut [u64],
     lines: &mut [u64],
     texts: &[u8],
+    store: &[u8],
     from: Station,
     to: Station,
 ) -> Answer
-    requires { ⌜ ReadyBySome (λ P. lent P (now stations) (now carts) (now messages) (now lines) (now texts)) ⌝ }
-    ensures { λ a. ⌜ MetByEach (λ P. lent P (now (stations .entry)) (now (carts .entry)) (now (messages .entry)) (now (lines .entry)) (now (texts .entry))) (λ P. lent P (now (stations .exit)) (now (carts .exit)) (now (messages .exit)) (now (lines .exit)) (now (texts .entry))) (wire (from .0) (to .0)) (answerIn a []) ⌝ }
+    requires { ⌜ ReadyBySome (λ P. lent P (now stations) (now carts) (now messages) (now lines) (now texts) (now store)) ⌝ }
+    ensures { λ a. ⌜ MetByEach (λ P. lent P (now (stations .entry)) (now (carts .entry)) (now (messages .entry)) (now (lines .entry)) (now (texts .entry)) (now (store .entry))) (λ P. lent P (now (stations .exit)) (now (carts .exit)) (now (messages .exit)) (now (lines .exit)) (now (texts .entry)) (now (store .entry))) (wire (from .0) (to .0)) (answerIn a []) ⌝ }
 {
     if !stations::is_started(stations) {
         return Answer::Refused(5);

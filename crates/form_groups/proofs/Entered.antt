@@ -15,7 +15,7 @@ use Rattle.ids.specs.declared.Station.{Station}
 use Rattle.carts.specs.declared.Place.{Place}
 use Rattle.carts.specs.declared.Place.the-variants.{Outside, At, Leaving, Travelling}
 use Rattle.carts.specs.Records.{seen}
-use Rattle.form_tables.proofs.Answers.{same-answer}
+use Rattle.protocol.proofs.Answers.{same-answer}
 use Rattle.form_tables.proofs.Walks.{over}
 
 -- THE PLACE that the code met: outside or not

@@ -14,7 +14,7 @@ use Rattle.stations.specs.View.{headIn}
 use Rattle.carts.specs.View.{cartsIn}
 use Rattle.form_tables.specs.Tables.{tables}
 use Rattle.form_tables.specs.Parts.{Collects}
-use Rattle.form_tables.proofs.Answers.{no, same-answer}
+use Rattle.protocol.proofs.Answers.{no, same-answer}
 use Rattle.form_tables.proofs.Queues.{members-lt}
 use Rattle.form_groups.proofs.Entered.{allEntered, within-all, beyond-all}
 

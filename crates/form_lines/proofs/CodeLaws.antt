@@ -28,19 +28,19 @@ module _ (R : Rooms) (s x m : ℕ) where
 -- A TABLE OF WHOLE ROWS
 module _ (M : List ℕ) (W : WholeRooms M) (m : ℕ) where
   -- no room beyond it is taken, or has acknowledgements
-  pub none-waiting : length M < m * 6 + 6 → 0 ≡ roomsIn M .waiting m
+  pub none-waiting : length M < m * 7 + 7 → 0 ≡ roomsIn M .waiting m
   none-waiting l = let e = W .words in sym (waiting-past M m (omega arith))
 
-  pub none-acked : length M < m * 6 + 6 → 0 ≡ roomsIn M .acked m
+  pub none-acked : length M < m * 7 + 7 → 0 ≡ roomsIn M .acked m
   unfolding roomsIn
-  none-acked l = let e = W .words in sym (cell-past 6 M m 3 (omega arith))
+  none-acked l = let e = W .words in sym (cell-past 7 M m 3 (omega arith))
 
   -- so a taken room is in it
   pub room-there : (roomsIn M .waiting m ≡ 0 → ⊥) → HasRoom M m
-  room-there h = by-lt (length M) (m * 6 + 6) (λ l. absurd (h (sym (none-waiting l)))) (λ l. omega arith)
+  room-there h = by-lt (length M) (m * 7 + 7) (λ l. absurd (h (sym (none-waiting l)))) (λ l. omega arith)
 
   module _ (s x : ℕ) where
-    pub no-room : length M < m * 6 + 6 → false ≡ (ltb m 32 && isIn (roomsIn M) s x m)
+    pub no-room : length M < m * 7 + 7 → false ≡ (ltb m 32 && isIn (roomsIn M) s x m)
     no-room l = sym (ap (λ (w : ℕ). ltb m 32 && (not (eqb w 0) && (eqb (roomsIn M .initiator m) s && eqb (roomsIn M .number m) x))) (sym (none-waiting l)) ∙ and-false (ltb m 32))
 
     pub slot-room : (b : Bool) → b ≡ (ltb m 32 && isIn (roomsIn M) s x m) → not b ≡ false → HasRoom M m

@@ -31,7 +31,7 @@ Inside (unknown x) = Unit {0}
 pub record WholeRooms (M : List ℕ) : Type 0 where
   pub rows : ℕ
   pub few : rows ≤ 32
-  pub words : length M ≡ rows * 6
+  pub words : length M ≡ rows * 7
 
 -- THE CHAINS ON THE WAY: the first k lines of the pool are right, and each row is marked in s as often as it stands on them
 pub record Whole (l : List ℕ) (k : ℕ) (s : List ℕ) : Type 0 where

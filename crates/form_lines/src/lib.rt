@@ -54,7 +54,7 @@ fn in_room(messages: &[u64], s: u64, number: u64, m: u64) -> bool
         return false;
     }
     let at = m as usize;
-    if messages.len() < at * 6 + 6 {
+    if messages.len() < at * 7 + 7 {
         return false;
     }
     let waiting = messages::waiting_of(messages, at);
@@ -529,7 +529,7 @@ fn waiting_by(messages: &[u64], m: usize) -> u64
     requires { ⌜ WholeRooms (now messages) × (m < rooms) ⌝ }
     ensures { λ r. ⌜ r ≡ roomsIn (now (messages .entry)) .waiting m ⌝ }
 {
-    if messages.len() < m * 6 + 6 {
+    if messages.len() < m * 7 + 7 {
         return 0;
     }
     messages::waiting_of(messages, m)
@@ -539,7 +539,7 @@ fn acked_by(messages: &[u64], m: usize) -> u64
     requires { ⌜ WholeRooms (now messages) × (m < rooms) ⌝ }
     ensures { λ r. ⌜ r ≡ roomsIn (now (messages .entry)) .acked m ⌝ }
 {
-    if messages.len() < m * 6 + 6 {
+    if messages.len() < m * 7 + 7 {
         return 0;
     }
     messages::acked_of(messages, m)
@@ -711,7 +711,7 @@ pub fn lines_pass(
     rows: u64,
 ) -> bool
     requires { ⌜ (length (now stations) ≡ 116 + rows * 116) × (rows ≤ 16) × (headIn (now stations) .stations ≤ rows) × (headIn (now stations) .carts ≤ 64) × (headIn (now stations) .carts * 19 ≤ length (now carts)) × WholeRooms (now messages) × (sized (now lines) ≡ true) ⌝ }
-    ensures { λ r. ⌜ ((P : Product) (texts : List ℕ) → r ≡ (form (now (lines .entry)) && linesPass (lent P (now (stations .entry)) (now (carts .entry)) (now (messages .entry)) (now (lines .entry)) texts))) ⌝ }
+    ensures { λ r. ⌜ ((P : Product) (texts store : List ℕ) → r ≡ (form (now (lines .entry)) && linesPass (lent P (now (stations .entry)) (now (carts .entry)) (now (messages .entry)) (now (lines .entry)) texts store))) ⌝ }
 {
     let n = stations::station_count(stations);
     let k = stations::cart_count(stations);

@@ -19,7 +19,7 @@ use Rattle.sets.specs.Masks.{least}
 use Rattle.sets.proofs.MaskLaws.{Lowest, least-lowest}
 use Rattle.form_tables.specs.Tables.{copyNamed, copiesRule}
 use Rattle.form_tables.specs.Parts.{missingAt, Collects}
-use Rattle.form_tables.proofs.Answers.{yes, no, same-answer, one-more}
+use Rattle.protocol.proofs.Answers.{yes, no, same-answer, one-more}
 use Rattle.form_tables.proofs.Sets.{collect-none, collect-more}
 use Rattle.form_tables.proofs.Names.{free-not}
 use Rattle.form_tables.proofs.Walks.{over, nextAbove}

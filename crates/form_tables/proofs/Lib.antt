@@ -1,4 +1,3 @@
-pub mod Answers
 pub mod Sets
 pub mod Walks
 pub mod Locals

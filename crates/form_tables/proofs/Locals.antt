@@ -75,7 +75,7 @@ locals-all C k e h t =
 
 -- the mask that a station keeps is right just when it is the one that the pass made
 pub mask-right : (S C : List ℕ) (t kept made : ℕ) → kept ≡ stationsIn S .local t → made ≡ setOf 64 (λ c. localTo (cartsIn C .place c) t)
-    → (localRight (lent wholeFloor S C [] [] []) t ≡ true → kept ≡ made) × (kept ≡ made → localRight (lent wholeFloor S C [] [] []) t ≡ true)
+    → (localRight (lent wholeFloor S C [] [] [] []) t ≡ true → kept ≡ made) × (kept ≡ made → localRight (lent wholeFloor S C [] [] [] []) t ≡ true)
 unfolding localRight
 mask-right S C t kept made e g =
     let right = setOf 64 (λ c. localTo (cartsIn C .place c) t) in

@@ -15,7 +15,7 @@ use Rattle.sets.specs.Masks.{within}
 use Rattle.sets.proofs.MaskLaws.{within-has, has-within}
 use Rattle.form_tables.specs.Tables.{deleteRight, heldNames}
 use Rattle.form_tables.specs.Parts.{namesBefore, heldBefore}
-use Rattle.form_tables.proofs.Answers.{yes, no, same-answer}
+use Rattle.protocol.proofs.Answers.{yes, no, same-answer}
 
 -- HELD, or free
 pub held-of : (F : Floor) (m : ℕ) → (F .waiting m ≡ 0 → ⊥) → isHeld F m ≡ true

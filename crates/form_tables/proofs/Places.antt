@@ -9,7 +9,7 @@ use Rattle.protocol.specs.Floor.{Floor, Place, outside, at, leaving, travelling
 use Rattle.protocol.specs.Claims.{Claim, True, test, all, both, when, lt, le, eq}
 use Rattle.protocol.specs.Form.{placeInside, cartRule}
 use Rattle.protocol.proofs.Tests.{by-test, clash}
-use Rattle.form_tables.proofs.Answers.{yes, no, same-answer}
+use Rattle.protocol.proofs.Answers.{yes, no, same-answer}
 
 module _ (F : Floor) (p : Place) where
   pub inside-outside : p ≡ outside → true ≡ test (placeInside limits F p)

@@ -18,12 +18,12 @@ use Rattle.sets.proofs.MaskLaws.{within-has, has-within}
 use Rattle.view.specs.View.{lent, localRight}
 use Rattle.form_tables.specs.Tables.{tables}
 use Rattle.form_tables.specs.Parts.{mostOf, Entries}
-use Rattle.form_tables.proofs.Answers.{yes, no, same-answer}
+use Rattle.protocol.proofs.Answers.{yes, no, same-answer}
 use Rattle.form_tables.proofs.Names.{free-not}
 use Rattle.form_tables.proofs.Sets.{most-within, collect-none, collect-more}
 
 -- what the mask of a station says
-pub local-mask : (S C : List ℕ) (t : ℕ) → localRight (lent wholeFloor S C [] [] []) t ≡ true → stationsIn S .local t ≡ setOf 64 (λ c. localTo (cartsIn C .place c) t)
+pub local-mask : (S C : List ℕ) (t : ℕ) → localRight (lent wholeFloor S C [] [] [] []) t ≡ true → stationsIn S .local t ≡ setOf 64 (λ c. localTo (cartsIn C .place c) t)
 unfolding localRight
 local-mask S C t e = eqb-true (stationsIn S .local t) (setOf 64 (λ c. localTo (cartsIn C .place c) t)) e
 
@@ -50,7 +50,7 @@ module _ (S : Stations) (m t : ℕ) (sets queued strays copy acks queue local a 
 
 -- THE ENTRIES of room m, once those of the stations are collected
 module _ (S C M : List ℕ) (rows m sets queued strays : ℕ) (E : Entries (stationsIn S) m rows sets queued strays)
-    (right : (t : ℕ) → t < rows → localRight (lent wholeFloor S C [] [] []) t ≡ true) where
+    (right : (t : ℕ) → t < rows → localRight (lent wholeFloor S C [] [] [] []) t ≡ true) where
   abbrev F : Floor
   F = tables S C M
 

@@ -12,7 +12,7 @@ use Rattle.protocol.proofs.Tests.{by-eq, clash, and-left}
 use Rattle.protocol.proofs.SetLaws.{has-zero, has-without}
 use Rattle.sets.specs.Masks.{least}
 use Rattle.sets.proofs.MaskLaws.{Lowest, least-lowest, without-less}
-use Rattle.form_tables.proofs.Answers.{yes, no}
+use Rattle.protocol.proofs.Answers.{yes, no}
 
 -- every member below k passes
 abbrev pub over : ℕ → ℕ → (ℕ → Claim) → Claim

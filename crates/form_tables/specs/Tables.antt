@@ -10,17 +10,19 @@ use Rattle.protocol.specs.Claims.{Claim, is, le, lt, eq, both, when, all}
 use Rattle.protocol.specs.Form.{stationRule, cartRule, cartsOnly, entryRule}
 use Rattle.stations.specs.View.{headIn, stationsIn}
 use Rattle.carts.specs.View.{canonicalIn}
-use Rattle.view.specs.View.{lent, floorIn, localRight, shortText}
+use Rattle.messages.specs.View.{roomsIn}
+use Rattle.store.specs.Layout.{layoutRule}
+use Rattle.view.specs.View.{lent, floorIn, localRight}
 
 -- the floor that the three tables say, with nothing on its lines and no texts
 abbrev pub tables : List ℕ → List ℕ → List ℕ → Floor
-tables stations carts messages = floorIn (lent wholeFloor stations carts messages [] [])
+tables stations carts messages = floorIn (lent wholeFloor stations carts messages [] [] [])
 
 -- they have rows for n stations, k carts and h rooms
 pub record Sized (n k h : ℕ) (S C M : List ℕ) : Type 0 where
   pub stations : length S ≡ 116 + n * 116
   pub carts : length C ≡ k * 19
-  pub messages : length M ≡ h * 6
+  pub messages : length M ≡ h * 7
 
 -- and for the floor's own stations and carts
 pub record OnTables (S C : List ℕ) : Type 0 where
@@ -76,14 +78,15 @@ copiesRule F m = when (is (isHeld F m)) (all (F .stations) (copySets F m))
 abbrev pub roomsEnd : ℕ → List ℕ → ℕ → Claim
 roomsEnd h S t = all 32 (λ m. when (le h m) (both (eq (stationsIn S .copy m t) 0) (eq (stationsIn S .queue m t) 0)))
 
--- ALL OF IT, of three tables with rows for n stations, k carts and h rooms; of the limits, only the last number is asked for
+-- ALL OF IT, of three tables with rows for n stations, k carts and h rooms: the messages' says where the long texts lie. Of the limits, only the last
+-- number is asked for
 abbrev pub tablesRule : Limits → ℕ → ℕ → ℕ → List ℕ → List ℕ → List ℕ → Claim
 tablesRule N n k h S C M =
     both (countsRule n k (tables S [] []))
     (both (all n (stationRule N (tables S [] [])))
     (both (all k (λ c. is (canonicalIn C c)))
-    (both (all h (λ m. is (shortText (lent wholeFloor [] [] M [] []) m)))
-    (both (all n (λ t. is (localRight (lent wholeFloor S C [] [] []) t)))
+    (both (layoutRule h (roomsIn M))
+    (both (all n (λ t. is (localRight (lent wholeFloor S C [] [] [] []) t)))
     (both (all k (cartRule limits (tables S C [])))
     (both (all h (roomSets (tables S [] M)))
     (both (all h (heldNames h (tables S [] M)))

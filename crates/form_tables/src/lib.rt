@@ -19,7 +19,7 @@ ghost use Rattle.carts.specs.Words.{HasRow};
 ghost use Rattle.carts.specs.Records.{seen};
 ghost use Rattle.carts.specs.View.{cartsIn, canonicalIn};
 ghost use Rattle.messages.specs.View.{HasRoom};
-ghost use Rattle.view.specs.View.{lent, localRight, shortText};
+ghost use Rattle.view.specs.View.{lent, localRight};
 ghost use Rattle.form_tables.specs.Tables.{tables, Sized, OnTables, countsRule, roomSets, heldNames, copyNamed, copiesRule, roomsEnd, tablesRule};
 ghost use Rattle.form_tables.specs.Parts.{Home, mostOf, heldBefore, Entries, missingAt, Few};
 
@@ -95,21 +95,6 @@ fn places_ok(carts: &[u64], k: u64) -> bool
     true
 }
 
-// "text 0 to 32 octets": no text is longer than its part.
-fn texts_ok(messages: &[u64], held: usize) -> bool
-    requires { ⌜ (length (now messages) ≡ held * 6) × (held ≤ 32) ⌝ }
-    ensures { λ r. ⌜ r ≡ test (all held (λ m. is (shortText (lent wholeFloor [] [] (now (messages .entry)) [] []) m))) ⌝ }
-{
-    let mut m: usize = 0;
-    while m < held {
-        if 32 < messages::length_of(messages, m) {
-            return false;
-        }
-        m += 1;
-    }
-    true
-}
-
 // "It is local to a station when at it or leaving it": the one of the sixteen stations that the cart is local to, or a
 // number from 16 on where there is none.
 fn home_of(carts: &[u64], number: CartNumber) -> u64
@@ -146,7 +131,7 @@ fn locals_of(carts: &[u64], k: u64) -> [u64; 16]
 // The masks of local carts are right.
 fn locals_ok(stations: &[u64], carts: &[u64], n: usize, k: u64) -> bool
     requires { ⌜ (length (now stations) ≡ 116 + n * 116) × (n ≤ 16) × (length (now carts) ≡ k * 19) × (k ≤ 64) ⌝ }
-    ensures { λ r. ⌜ r ≡ test (all n (λ t. is (localRight (lent wholeFloor (now (stations .entry)) (now (carts .entry)) [] [] []) t))) ⌝ }
+    ensures { λ r. ⌜ r ≡ test (all n (λ t. is (localRight (lent wholeFloor (now (stations .entry)) (now (carts .entry)) [] [] [] []) t))) ⌝ }
 {
     let locals = locals_of(carts, k);
     let mut t: usize = 0;
@@ -290,7 +275,7 @@ fn room_ok(stations: &[u64], messages: &[u64], m: usize) -> bool
 
 // The same of each of the rooms.
 fn rooms_ok(stations: &[u64], messages: &[u64], held: usize) -> bool
-    requires { ⌜ HasHead (now stations) × (length (now messages) ≡ held * 6) × (held ≤ 32) ⌝ }
+    requires { ⌜ HasHead (now stations) × (length (now messages) ≡ held * 7) × (held ≤ 32) ⌝ }
     ensures { λ r. ⌜ r ≡ test (all held (roomSets (tables (now (stations .entry)) [] (now (messages .entry))))) ⌝ }
 {
     let mut m: usize = 0;
@@ -337,7 +322,7 @@ fn next_by(carts: &[u64], number: CartNumber, s: u64) -> u64
 }
 
 // "A message is named by its initiator and its number": message n of s is in room m. Most rooms have another number, so that is asked first.
-fn is_message(messages: &[u64], m: usize, s: u64, n: u64) -> bool
+pub fn is_message(messages: &[u64], m: usize, s: u64, n: u64) -> bool
     requires { ⌜ HasRoom (now messages) m ⌝ }
     ensures { λ r. ⌜ r ≡ isMessage (tables [] [] (now (messages .entry))) s n m ⌝ }
 {
@@ -412,7 +397,7 @@ fn held_ok(stations: &[u64], messages: &[u64], rows: u64, m: usize) -> bool
 
 // The same of each room, and so of every two rooms.
 fn messages_ok(stations: &[u64], messages: &[u64], rows: u64, held: usize) -> bool
-    requires { ⌜ (length (now stations) ≡ 116 + rows * 116) × (length (now messages) ≡ held * 6) × (held ≤ 32) ⌝ }
+    requires { ⌜ (length (now stations) ≡ 116 + rows * 116) × (length (now messages) ≡ held * 7) × (held ≤ 32) ⌝ }
     ensures { λ r. ⌜ r ≡ test (all held (heldNames held (tables (now (stations .entry)) [] (now (messages .entry))))) ⌝ }
 {
     let mut m: usize = 0;
@@ -486,7 +471,7 @@ fn entries_of(
     most: u64,
     rows: u64,
 ) -> bool
-    requires { ⌜ OnTables (now stations) (now carts) × (m < rooms) × ((t : ℕ) → t < rows → localRight (lent wholeFloor (now stations) (now carts) [] [] []) t ≡ true) × (most ≡ mostOf (headIn (now stations) .carts)) × HasRoom (now messages) m × (length (now stations) ≡ 116 + rows * 116) × (rows ≤ 16) ⌝ }
+    requires { ⌜ OnTables (now stations) (now carts) × (m < rooms) × ((t : ℕ) → t < rows → localRight (lent wholeFloor (now stations) (now carts) [] [] [] []) t ≡ true) × (most ≡ mostOf (headIn (now stations) .carts)) × HasRoom (now messages) m × (length (now stations) ≡ 116 + rows * 116) × (rows ≤ 16) ⌝ }
     ensures { λ r. ⌜ r ≡ test (all rows (entryRule limits (tables (now (stations .entry)) (now (carts .entry)) (now (messages .entry))) m)) ⌝ }
 {
     let met = gather_entries(stations, m, rows);
@@ -512,7 +497,7 @@ fn entries_of(
 
 // The entries of every room at every station.
 fn entries_ok(stations: &[u64], carts: &[u64], messages: &[u64], rows: u64, held: usize) -> bool
-    requires { ⌜ OnTables (now stations) (now carts) × ((t : ℕ) → t < rows → localRight (lent wholeFloor (now stations) (now carts) [] [] []) t ≡ true) × (length (now stations) ≡ 116 + rows * 116) × (rows ≤ 16) × (length (now messages) ≡ held * 6) × (held ≤ 32) ⌝ }
+    requires { ⌜ OnTables (now stations) (now carts) × ((t : ℕ) → t < rows → localRight (lent wholeFloor (now stations) (now carts) [] [] [] []) t ≡ true) × (length (now stations) ≡ 116 + rows * 116) × (rows ≤ 16) × (length (now messages) ≡ held * 7) × (held ≤ 32) ⌝ }
     ensures { λ r. ⌜ r ≡ test (all held (λ m. all rows (entryRule limits (tables (now (stations .entry)) (now (carts .entry)) (now (messages .entry))) m))) ⌝ }
 {
     let most = most_of(stations::cart_count(stations));
@@ -623,7 +608,7 @@ fn copies_of(stations: &[u64], carts: &[u64], messages: &[u64], m: usize) -> boo
 
 // The copies of every held message.
 fn copies_ok(stations: &[u64], carts: &[u64], messages: &[u64], held: usize) -> bool
-    requires { ⌜ OnTables (now stations) (now carts) × (length (now messages) ≡ held * 6) × (held ≤ 32) ⌝ }
+    requires { ⌜ OnTables (now stations) (now carts) × (length (now messages) ≡ held * 7) × (held ≤ 32) ⌝ }
     ensures { λ r. ⌜ r ≡ test (all held (copiesRule (tables (now (stations .entry)) (now (carts .entry)) (now (messages .entry))))) ⌝ }
 {
     let mut m: usize = 0;
@@ -687,7 +672,7 @@ pub fn tables_pass(stations: &[u64], carts: &[u64], messages: &[u64], bounds: Bo
     if !places_ok(carts, k) {
         return false;
     }
-    if !texts_ok(messages, held) {
+    if !store::texts_lie_right(messages, held) {
         return false;
     }
     if !locals_ok(stations, carts, n as usize, k) {

@@ -1,7 +1,7 @@
 -- THE LENGTHS OF THE LENT PARTS as a test that ends at the first failure.
 use mathlib.Core.Path.{_≡_, sym, _∙_}
 use mathlib.Core.Bool.{Bool, true, false}
-use Prim.Native.Nat.{ℕ, _+_, _*_, _≤_}
+use Prim.Native.Nat.{_+_, _*_, _≤_}
 use native.Mathlib.Nat.{mul-le-mul-left}
 use native.Mathlib.Omega.{arith}
 use lib.Dec.{eqb}
@@ -35,11 +35,11 @@ wrong-length L h = by-test (lengthsIn L) (λ e. absurd (h (lengths-of L e))) (λ
 pub right-lengths : (L : Lent) (r : Bool) → r ≡ lengthsIn L → r ≡ true → Lengths L
 right-lengths L r e q = lengths-of L (sym e ∙ q)
 
--- it rests on the texts, where the others have theirs
-pub rests-on-texts : (L : Lent) (o : ℕ) → L .product .held * 32 ≡ o → length (L .stations) ≡ 116 + L .product .stations * 116 → length (L .carts) ≡ L .product .carts * 19
-    → length (L .messages) ≡ L .product .held * 6 → length (L .lines) ≡ 1842 + mostRecords (limitsOf (L .product)) * 3
-    → eqb (length (L .texts)) o ≡ lengthsIn L
-rests-on-texts L o is s c m l =
-    same-test (eqb (length (L .texts)) o) (lengthsIn L)
-    (λ e. lengths-right L (record { stations = s; carts = c; messages = m; lines = l; texts = eqb-true (length (L .texts)) o e ∙ sym is }))
-    (λ e. eq-eqb (length (L .texts)) o (lengths-of L e .texts ∙ is))
+-- it rests on the store, where the others have theirs
+pub rests-on-store : (L : Lent) → length (L .stations) ≡ 116 + L .product .stations * 116 → length (L .carts) ≡ L .product .carts * 19
+    → length (L .messages) ≡ L .product .held * 7 → length (L .lines) ≡ 1842 + mostRecords (limitsOf (L .product)) * 3 → length (L .texts) ≡ L .product .held * 32
+    → eqb (length (L .store)) 4096 ≡ lengthsIn L
+rests-on-store L s c m l t =
+    same-test (eqb (length (L .store)) 4096) (lengthsIn L)
+    (λ e. lengths-right L (record { stations = s; carts = c; messages = m; lines = l; texts = t; store = eqb-true (length (L .store)) 4096 e }))
+    (λ e. eq-eqb (length (L .store)) 4096 (lengths-of L e .store))

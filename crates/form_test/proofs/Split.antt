@@ -2,41 +2,35 @@
 use mathlib.Core.Path.{_≡_, refl, sym, ap, _∙_}
 use mathlib.Core.Bool.{Bool, true, false, _&&_}
 use mathlib.Core.List.{List, []}
-use Prim.Native.Nat.{ℕ, _*_, _≤_, _<_}
+use Prim.Native.Nat.{ℕ, _<_}
 use native.Mathlib.Omega.{arith}
-use lib.ListN.{length, drop, length-take}
-use borrow.Author.Tests.{eqb-true, eq-eqb, leb-true, le-leb}
+use borrow.Author.Tests.{eqb-true, eq-eqb}
 use Rattle.protocol.specs.CartSets.{setOf}
 use Rattle.protocol.specs.Floor.{Product, limits, limitsOf, localTo}
 use Rattle.protocol.specs.Groups.{groupCount}
 use Rattle.protocol.specs.Claims.{Claim, True, test, is, both, all}
-use Rattle.protocol.specs.Form.{roomRule, groupRule, passesForm}
+use Rattle.protocol.specs.Form.{roomRule, groupRule, storeRule, passesForm}
 use Rattle.protocol.proofs.Tests.{by-test, same-test, clash}
 use Rattle.protocol.proofs.ClaimLaws.{reflect}
 use Rattle.protocol.proofs.FormTest.{Clauses, clauses-of, passes-of}
 use Rattle.stations.specs.View.{stationsIn}
 use Rattle.carts.specs.View.{cartsIn}
 use Rattle.messages.specs.View.{roomsIn}
-use Rattle.messages.specs.Texts.{textIn}
+use Rattle.store.proofs.Counted.{text-most, store-fits}
 use Rattle.lines.specs.Form.{form}
-use Rattle.view.specs.View.{Lent, lent, floorIn, lengthsIn, localRight, shortText, lineRight}
+use Rattle.view.specs.View.{Lent, lent, floorIn, lengthsIn, localRight, lineRight}
 use Rattle.view.proofs.Laid.{Laid, laid-of, words-right}
 use Rattle.view.proofs.Lengths.{lengths-of}
 use Rattle.form_tables.specs.Tables.{tables, tablesRule}
-use Rattle.form_tables.proofs.Answers.{no}
+use Rattle.protocol.proofs.Answers.{no}
 use Rattle.form_lines.specs.LinesRule.{linesClaim}
 use Rattle.form_lines.specs.Pass.{linesPass}
 use Rattle.form_lines.proofs.Clauses.{TableClauses}
 use Rattle.form_lines.proofs.Theorem.{pass-is-test}
 
--- "text 0 to 32 octets": no text is longer than its length says
-text-fits : (T : List ℕ) (n m : ℕ) → n ≤ 32 → length (textIn T n m) ≤ 32
-unfolding textIn
-text-fits T n m h = omega (arith, length-take n (drop (m * 32) T))
-
-module _ (P : Product) (S C M W T : List ℕ) where
+module _ (P : Product) (S C M W T O : List ℕ) where
   abbrev L : Lent
-  L = lent P S C M W T
+  L = lent P S C M W T O
 
   -- the tables' part
   abbrev pub tabs : Claim
@@ -50,16 +44,15 @@ module _ (P : Product) (S C M W T : List ℕ) where
   abbrev parts : Claim
   parts = both (is (lengthsIn L)) (both (tabs) (both (groups) (both (is (form W)) (linesClaim L))))
 
-  -- no text is longer than its part
-  short : True (tabs) → (m : ℕ) → m < P .held → roomsIn M .length m ≤ 32
-  unfolding shortText
-  short a m l = leb-true (roomsIn M .length m) 32 (a .1 .1 .1 .0 m l)
-
-  -- each room
+  -- each room: no text is longer than a long one
   room : True (tabs) → (m : ℕ) → m < P .held → True (roomRule (limitsOf P) (floorIn L) m)
   room a m l =
       let r = a .1 .1 .1 .1 .1 .1 .0 m l in
-      (r .0, (r .1 .0, (r .1 .1, text-fits T (roomsIn M .length m) m (short a m l))))
+      (r .0, (r .1 .0, (r .1 .1, text-most (P .held) T O (roomsIn M) (a .1 .1 .1 .0) m l)))
+
+  -- the long texts take no more octets than the store has
+  stored : lengthsIn L ≡ true → True (tabs) → True (storeRule (limitsOf P) (floorIn L))
+  stored e a = store-fits (limitsOf P) T O (roomsIn M) refl (lengths-of L e .store) (a .1 .1 .1 .0)
 
   -- the facts of the words
   laid : True parts → Laid L
@@ -69,7 +62,7 @@ module _ (P : Product) (S C M W T : List ℕ) where
         chains = f;
         canonical = a .1 .1 .0;
         local = λ t l. eqb-true (stationsIn S .local t) (setOf 64 (λ c. localTo (cartsIn C .place c) t)) (a .1 .1 .1 .1 .0 t l);
-        short = short a;
+        texts = a .1 .1 .1 .0;
         few = λ t m lt lm l. a .1 .1 .1 .1 .1 .1 .1 .1 .1 .1 t lt m lm l;
         rooms = λ i j li lj. b .0 i li j lj;
       }
@@ -92,11 +85,12 @@ module _ (P : Product) (S C M W T : List ℕ) where
         order = b .1 .0;
         handoff = b .1 .1 .0;
         group = p .1 .1 .0;
+        stored = stored (p .0) a;
       }
 
   -- AND ALL CLAUSES ARE THE PARTS
   of-tables : Clauses (limitsOf P) (floorIn L) → True (tabs)
-  unfolding localRight shortText
+  unfolding localRight
   of-tables Q =
       let X = laid-of L (Q .floor .1 .1 .0) in (
         (Q .floor .0, Q .floor .1 .1 .1),
@@ -105,7 +99,7 @@ module _ (P : Product) (S C M W T : List ℕ) where
           (
             X .canonical,
             (
-              (λ m l. le-leb (roomsIn M .length m) 32 (X .short m l)),
+              X .texts,
               (
                 (λ t l. eq-eqb (stationsIn S .local t) (setOf 64 (λ c. localTo (cartsIn C .place c) t)) (X .local t l)),
                 (

@@ -14,10 +14,11 @@ pub fn lengths_ok(
     messages: &[u64],
     lines: &[u64],
     texts: &[u8],
+    store: &[u8],
     bounds: Bounds,
 ) -> bool
     requires { ⌜ Fits bounds ⌝ }
-    ensures { λ r. ⌜ ((P : Product) → NumbersOf P bounds → r ≡ lengthsIn (lent P (now (stations .entry)) (now (carts .entry)) (now (messages .entry)) (now (lines .entry)) (now (texts .entry)))) ⌝ }
+    ensures { λ r. ⌜ ((P : Product) → NumbersOf P bounds → r ≡ lengthsIn (lent P (now (stations .entry)) (now (carts .entry)) (now (messages .entry)) (now (lines .entry)) (now (texts .entry)) (now (store .entry)))) ⌝ }
 {
     let n = bounds.stations as usize;
     let k = bounds.carts as usize;
@@ -28,7 +29,7 @@ pub fn lengths_ok(
     if carts.len() != k * 19 {
         return false;
     }
-    if messages.len() != held * 6 {
+    if messages.len() != held * 7 {
         return false;
     }
     // a held message has at most n multicasts, n deletes and k carts in ack lists on the lines, and a cart one record of its hand-off
@@ -37,7 +38,10 @@ pub fn lengths_ok(
     if lines.len() != 1842 + records * 3 {
         return false;
     }
-    texts.len() == held * 32
+    if texts.len() != held * 32 {
+        return false;
+    }
+    store.len() == products::STORE
 }
 
 // The lent floor passes the form rule. The lengths make the other parts safe to ask, and an unstarted floor ends it at once. The lines come
@@ -48,12 +52,13 @@ pub fn passes(
     messages: &[u64],
     lines: &[u64],
     texts: &[u8],
+    store: &[u8],
     bounds: Bounds,
 ) -> bool
     requires { ⌜ Fits bounds ⌝ }
-    ensures { λ r. ⌜ ((P : Product) → NumbersOf P bounds → r ≡ passesForm (limitsOf P) (floorIn (lent P (now (stations .entry)) (now (carts .entry)) (now (messages .entry)) (now (lines .entry)) (now (texts .entry))))) ⌝ }
+    ensures { λ r. ⌜ ((P : Product) → NumbersOf P bounds → r ≡ passesForm (limitsOf P) (floorIn (lent P (now (stations .entry)) (now (carts .entry)) (now (messages .entry)) (now (lines .entry)) (now (texts .entry)) (now (store .entry))))) ⌝ }
 {
-    if !lengths_ok(stations, carts, messages, lines, texts, bounds) {
+    if !lengths_ok(stations, carts, messages, lines, texts, store, bounds) {
         return false;
     }
     if !form_tables::tables_pass(stations, carts, messages, bounds) {

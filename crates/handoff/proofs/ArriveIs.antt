@@ -25,7 +25,8 @@ use Rattle.stations.proofs.TableLaws.{copy-beyond}
 use Rattle.carts.specs.Words.{HasRow}
 use Rattle.carts.specs.View.{cartsIn, canonicalIn}
 use Rattle.messages.specs.View.{Rooms, roomsIn}
-use Rattle.view.specs.View.{Lent, lent, textsIn, floorOf, floorIn}
+use Rattle.store.specs.Texts.{textOf}
+use Rattle.view.specs.View.{Lent, lent, floorOf, floorIn}
 use Rattle.view.proofs.Room.{sum-less}
 use Rattle.view.proofs.Laid.{Laid, local-stays, local-joins, laid-carts}
 use Rattle.view.proofs.Standing.{Standing, few-stations, few-carts, numbers-of-32-bits}
@@ -82,13 +83,13 @@ rooms-there L X t c lt m h =
     omega arith
 
 -- FROM THE FLOOR OF THE PARTS, with any marks and any lines: cart c arrives at station t with that row of next numbers
-module _ (Q : Limits) (S S′ C C′ M T : List ℕ) (lengths words : Bool) (lines : ℕ → ℕ → List Record) (t c : ℕ) (row : List ℕ) (entries : ℕ → ℕ) (p q : ℕ)
+module _ (Q : Limits) (S S′ C C′ M T O : List ℕ) (lengths words : Bool) (lines : ℕ → ℕ → List Record) (t c : ℕ) (row : List ℕ) (entries : ℕ → ℕ) (p q : ℕ)
     (is-row : (s : ℕ) → getD row s 0 ≡ entries s) (no-more : (s : ℕ) → 16 ≤ s → entries s ≡ 0)
     (beyond : (Q .held ≤ 32) × ((m : ℕ) → Q .held ≤ m → stationsIn S .copy m t ≡ 0))
     (few : headIn S .stations ≤ 16) (idle : (s : ℕ) → headIn S .stations ≤ s → stationsIn S .expected t s ≡ 0)
     (there : Arrived S S′ C C′ M t c row p q) where
   abbrev G : Floor
-  G = floorOf lengths words (headIn S) (stationsIn S) (cartsIn C) (roomsIn M) (textsIn T (roomsIn M)) lines
+  G = floorOf lengths words (headIn S) (stationsIn S) (cartsIn C) (roomsIn M) (textOf T O (roomsIn M)) lines
 
   abbrev n : ℕ
   n = headIn S .stations
@@ -225,10 +226,10 @@ module _ (Q : Limits) (S S′ C C′ M T : List ℕ) (lengths words : Bool) (lin
   carts-are = there .carts ∙ (λ i. record { place = update (cartsIn C .place) c (at t); next = λ d s. nexts d s i; steady = cartsIn C .steady })
 
   -- "the cart is struck. Then catch-up for every initiator in rising order, and the cart is at this station"
-  pub arrived-is : floorOf lengths words (headIn S′) (stationsIn S′) (cartsIn C′) R (textsIn T R) lines ≡ arrive Q G t c entries
+  pub arrived-is : floorOf lengths words (headIn S′) (stationsIn S′) (cartsIn C′) R (textOf T O R) lines ≡ arrive Q G t c entries
   unfolding struck
   arrived-is =
-      (λ i. floorOf lengths words (there .docked .head i) (stations-are i) (carts-are i) R (textsIn T R) lines)
+      (λ i. floorOf lengths words (there .docked .head i) (stations-are i) (carts-are i) R (textOf T O R) lines)
       ∙ sym (arrive-at-once Q G t c entries)
 
   -- "p counts the numbers passed over in this step"
@@ -283,7 +284,7 @@ none-either-way true x e = e
 none-either-way false x e = refl
 
 -- HOW THE WORDS LIE afterwards, for a cart that was local nowhere
-module _ {P : Product} (S S′ C C′ M W T : List ℕ) (X : Laid (lent P S C M W T)) (t c : ℕ) (lt : t < P .stations) (lc : c < 64) (row : List ℕ) (p q : ℕ)
+module _ {P : Product} (S S′ C C′ M W T O : List ℕ) (X : Laid (lent P S C M W T O)) (t c : ℕ) (lt : t < P .stations) (lc : c < 64) (row : List ℕ) (p q : ℕ)
     (nowhere : (u : ℕ) → localTo (cartsIn C .place c) u ≡ false) (there : Arrived S S′ C C′ M t c row p q) where
   locals : (u : ℕ) → u < P .stations → stationsIn S′ .local u ≡ setOf 64 (λ d. localTo (cartsIn C′ .place d) u)
   locals u l =
@@ -322,9 +323,9 @@ module _ {P : Product} (S S′ C C′ M W T : List ℕ) (X : Laid (lent P S C M 
           clash (has 0 c) (rw z at y) (has-zero c))
           (λ e. e)
 
-  pub laid-there : Laid (lent P S′ C′ M W T)
+  pub laid-there : Laid (lent P S′ C′ M W T O)
   laid-there =
-      laid-carts S C M W T X S′ C′
+      laid-carts S C M W T O X S′ C′
       (λ d ld. ap (λ (f : ℕ → Bool). f d) (there .canonical) ∙ on-update (λ (b : Bool). b ≡ true) (canonicalIn C) c true d (λ q. refl) (λ q. X .canonical d ld))
       locals
       few′

@@ -30,12 +30,13 @@ use Rattle.carts.specs.Words.{HasRow}
 use Rattle.carts.specs.View.{cartsIn, canonicalIn}
 use Rattle.messages.specs.View.{roomsIn}
 use Rattle.messages.proofs.RoomLaws.{waiting-past}
+use Rattle.store.specs.Texts.{textOf}
 use Rattle.lines.specs.Form.{form}
 use Rattle.lines.specs.Lines.{used, registersIn}
 use Rattle.lines.specs.Words.{capacity}
 use Rattle.lines.specs.Post.{Popped}
 use Rattle.view.specs.Records.{linesIn, wordsOf}
-use Rattle.view.specs.View.{Lent, lent, textsIn, floorOf, floorIn}
+use Rattle.view.specs.View.{Lent, lent, floorOf, floorIn}
 use Rattle.view.proofs.LinesView.{push-view, pop-view}
 use Rattle.view.proofs.Lengths.{Lengths, lengths-right}
 use Rattle.view.proofs.Laid.{Laid, words-right, local-stays, local-leaves, laid-carts, laid-push, laid-pop, laid-carry}
@@ -212,13 +213,13 @@ module _ (L : Lent) (X : Standing L) (c i t : ℕ) (rest : List Record) (may : M
       let room = pop .room in
       (pop .formed, omega arith, is-station, is-from)
 
-module _ {P : Product} (S S′ C C′ M W W₁ W′ T : List ℕ) (c i t w : ℕ) (rest : List Record) (X : Standing (lent P S C M W T))
-    (may : MayWire (floorIn (lent P S C M W T)) i t (deregister c) rest) (pop : Popped W W₁ (i * 16 + t)) (gone : Left S S′ C C′ M W₁ W′ c t i w) where
+module _ {P : Product} (S S′ C C′ M W W₁ W′ T O : List ℕ) (c i t w : ℕ) (rest : List Record) (X : Standing (lent P S C M W T O))
+    (may : MayWire (floorIn (lent P S C M W T O)) i t (deregister c) rest) (pop : Popped W W₁ (i * 16 + t)) (gone : Left S S′ C C′ M W₁ W′ c t i w) where
   abbrev L : Lent
-  L = lent P S C M W T
+  L = lent P S C M W T O
 
   abbrev L′ : Lent
-  L′ = lent P S′ C′ M W′ T
+  L′ = lent P S′ C′ M W′ T O
 
   abbrev H : Floor
   H = leave (unlined (floorIn L) i t) i t c
@@ -256,6 +257,7 @@ module _ {P : Product} (S S′ C C′ M W W₁ W′ T : List ℕ) (c i t w : ℕ
         messages = X .lengths .messages;
         lines = gone .lines .words ∙ (gone .row .words ∙ (pushed-counts (stationsIn (gone .behind)) (roomsIn M) t rooms W₁ (gone .lists) (pop .formed) pushed .words ∙ (pop .words ∙ X .lengths .lines)));
         texts = X .lengths .texts;
+        store = X .lengths .store;
       }
 
   -- a travelling cart is local nowhere: it was local to t
@@ -282,10 +284,10 @@ module _ {P : Product} (S S′ C C′ M W W₁ W′ T : List ℕ) (c i t w : ℕ
 
   pub laid : Laid L′
   laid =
-      laid-push S′ C′ M (gone .carrying) T
-      (laid-carry S′ C′ M (gone .lists) T
-      (laid-lists (stationsIn (gone .behind)) S′ C′ M T t lt rooms (each-sends L X c i t rest may) W₁ (gone .lists) pushed
-      (laid-carts S C M W₁ T (laid-pop S C M W T (X .laid) W₁ i t li lt pop) S′ C′
+      laid-push S′ C′ M (gone .carrying) T O
+      (laid-carry S′ C′ M (gone .lists) T O
+      (laid-lists (stationsIn (gone .behind)) S′ C′ M T O t lt rooms (each-sends L X c i t rest may) W₁ (gone .lists) pushed
+      (laid-carts S C M W₁ T O (laid-pop S C M W T O (X .laid) W₁ i t li lt pop) S′ C′
       (λ d ld. ap (λ (f : ℕ → Bool). f d) (gone .canonical) ∙ on-update (λ (b : Bool). b ≡ true) (canonicalIn C) c true d (λ q. refl) (λ q. X .laid .canonical d ld))
       locals few))
       (gone .carrying) c (listOf 16 (cartsIn C .next c)) (gone .row))
@@ -346,7 +348,7 @@ module _ {P : Product} (S S′ C C′ M W W₁ W′ T : List ℕ) (c i t w : ℕ
   unfolding leave
   left-is =
       (λ k. floorOf ((lengths-right L′ lengths ∙ sym (lengths-right L (X .lengths))) k) ((words-right L′ laid ∙ sym (words-right L (X .laid))) k)
-      ((gone .forwarded .head ∙ gone .behind-head) k) (stations k) (gone .carts k) (roomsIn M) (textsIn T (roomsIn M)) (lines k))
+      ((gone .forwarded .head ∙ gone .behind-head) k) (stations k) (gone .carts k) (roomsIn M) (textOf T O (roomsIn M)) (lines k))
       ∙ sym (order.deregister-is (limitsOf P) (unlined (floorIn L) i t) i t c
       ∙ ap (λ (K : Floor). push K (between t i) (register c (rowOf (limitsOf P) (cartsIn C .next c)))) (order.send-each-is H t rooms))
 

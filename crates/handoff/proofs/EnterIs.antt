@@ -16,8 +16,9 @@ use Rattle.stations.specs.View.{HasStation, headIn, stationsIn, namingIn}
 use Rattle.carts.specs.Words.{HasRow}
 use Rattle.carts.specs.View.{cartsIn}
 use Rattle.messages.specs.View.{roomsIn}
+use Rattle.store.specs.Texts.{textOf}
 use Rattle.view.specs.Records.{linesIn}
-use Rattle.view.specs.View.{Lent, lent, lengthsIn, wordsIn, textsIn, floorOf, floorIn}
+use Rattle.view.specs.View.{Lent, lent, lengthsIn, wordsIn, floorOf, floorIn}
 use Rattle.view.proofs.Lengths.{Lengths, lengths-right}
 use Rattle.view.proofs.Laid.{Laid, words-right, laid-flags}
 use Rattle.view.proofs.Standing.{Standing, few-stations, few-carts}
@@ -42,13 +43,13 @@ module _ (L : Lent) (X : Standing L) (t c : ℕ) (may : MayEnter (floorIn L) t c
   pub enter-fits : (s : ℕ) → s < 16 → stationsIn (L .stations) .expected t s ≤ 4294967295
   enter-fits = expected-fits L X t (may .station)
 
-module _ {P : Product} (S S′ C C′ M W T : List ℕ) (t c p q : ℕ) (X : Standing (lent P S C M W T)) (may : MayEnter (floorIn (lent P S C M W T)) t c)
+module _ {P : Product} (S S′ C C′ M W T O : List ℕ) (t c p q : ℕ) (X : Standing (lent P S C M W T O)) (may : MayEnter (floorIn (lent P S C M W T O)) t c)
     (entered : Entered S S′ C C′ M t c p q) where
   abbrev L : Lent
-  L = lent P S C M W T
+  L = lent P S C M W T O
 
   abbrev L′ : Lent
-  L′ = lent P S′ C′ M W T
+  L′ = lent P S′ C′ M W T O
 
   abbrev F : Floor
   F = floorIn L
@@ -80,11 +81,12 @@ module _ {P : Product} (S S′ C C′ M W T : List ℕ) (t c p q : ℕ) (X : Sta
         messages = X .lengths .messages;
         lines = X .lengths .lines;
         texts = X .lengths .texts;
+        store = X .lengths .store;
       }
 
   pub laid : Laid L′
   laid =
-      laid-flags S′ A M W T (laid-there S S′ C A M W T (X .laid) t c lt′ lc allZero p q (λ u. ap (λ (q : Place). localTo q u) out) there)
+      laid-flags S′ A M W T O (laid-there S S′ C A M W T O (X .laid) t c lt′ lc allZero p q (λ u. ap (λ (q : Place). localTo q u) out) there)
       C′ c (entered .steady .canonical) (ap (λ (K : Carts). K .place) (entered .steady .carts))
 
   zeros : (s : ℕ) → getD allZero s 0 ≡ 0
@@ -95,12 +97,12 @@ module _ {P : Product} (S S′ C C′ M W T : List ℕ) (t c p q : ℕ) (X : Sta
   unfolding onEnter
   enter-is =
       (λ i. floorOf ((lengths-right L′ lengths ∙ sym (lengths-right L (X .lengths))) i) ((words-right L′ laid ∙ sym (words-right L (X .laid))) i)
-      (headIn S′) (stationsIn S′) (entered .steady .carts i) (roomsIn M) (textsIn T (roomsIn M)) (linesIn W))
+      (headIn S′) (stationsIn S′) (entered .steady .carts i) (roomsIn M) (textOf T O (roomsIn M)) (linesIn W))
       ∙ (λ i. setSteady (arrived i) (update (there .carts i .steady) c true))
     where
-      arrived : floorOf (lengthsIn L) (wordsIn L) (headIn S′) (stationsIn S′) (cartsIn A) (roomsIn M) (textsIn T (roomsIn M)) (linesIn W) ≡ arrive (limitsOf P) F t c (λ s. 0)
+      arrived : floorOf (lengthsIn L) (wordsIn L) (headIn S′) (stationsIn S′) (cartsIn A) (roomsIn M) (textOf T O (roomsIn M)) (linesIn W) ≡ arrive (limitsOf P) F t c (λ s. 0)
       arrived =
-          arrived-is (limitsOf P) S S′ C A M T (lengthsIn L) (wordsIn L) (linesIn W) t c allZero (λ s. 0) p q
+          arrived-is (limitsOf P) S S′ C A M T O (lengthsIn L) (wordsIn L) (linesIn W) t c allZero (λ s. 0) p q
           zeros (λ s l. refl) (P .held-fit, none-beyond L X t (may .station)) (few-stations L X) (expects-none L X t (may .station)) there
 
   pub enter-reports : onEnter (limitsOf (L .product)) F t c .report ≡ record { kind = 1; a = t; b = c; p = p; w = 0; q = q; text = [] }
@@ -110,10 +112,10 @@ module _ {P : Product} (S S′ C C′ M W T : List ℕ) (t c p q : ℕ) (X : Sta
         kind = 1;
         a = t;
         b = c;
-        p = sym (passed-is (limitsOf P) S S′ C A M T (lengthsIn L) (wordsIn L) (linesIn W) t c allZero (λ s. 0) p q
+        p = sym (passed-is (limitsOf P) S S′ C A M T O (lengthsIn L) (wordsIn L) (linesIn W) t c allZero (λ s. 0) p q
             zeros (λ s l. refl) (P .held-fit, none-beyond L X t (may .station)) (few-stations L X) (expects-none L X t (may .station)) there) i;
         w = 0;
-        q = sym (deepest-is (limitsOf P) S S′ C A M T (lengthsIn L) (wordsIn L) (linesIn W) t c allZero (λ s. 0) p q
+        q = sym (deepest-is (limitsOf P) S S′ C A M T O (lengthsIn L) (wordsIn L) (linesIn W) t c allZero (λ s. 0) p q
             zeros (λ s l. refl) (P .held-fit, none-beyond L X t (may .station)) (few-stations L X) (expects-none L X t (may .station)) there (all-rooms L X)) i;
         text = [];
       }

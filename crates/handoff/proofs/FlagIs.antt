@@ -10,8 +10,9 @@ use Rattle.protocol.proofs.Accepted.{MayFlag}
 use Rattle.stations.specs.View.{headIn, stationsIn}
 use Rattle.carts.specs.Words.{HasRow}
 use Rattle.messages.specs.View.{roomsIn}
+use Rattle.store.specs.Texts.{textOf}
 use Rattle.view.specs.Records.{linesIn}
-use Rattle.view.specs.View.{Lent, lent, textsIn, floorOf, floorIn}
+use Rattle.view.specs.View.{Lent, lent, floorOf, floorIn}
 use Rattle.view.proofs.Lengths.{Lengths, lengths-right}
 use Rattle.view.proofs.Laid.{Laid, words-right, laid-flags}
 use Rattle.view.proofs.Standing.{Standing, few-carts}
@@ -26,12 +27,12 @@ flag-ready L X c may =
     let e = X .sized .counts .carts in
     omega arith
 
-module _ {P : Product} (S C C′ M W T : List ℕ) (c : ℕ) (b : Bool) (X : Standing (lent P S C M W T)) (flagged : Flagged C C′ c b) where
+module _ {P : Product} (S C C′ M W T O : List ℕ) (c : ℕ) (b : Bool) (X : Standing (lent P S C M W T O)) (flagged : Flagged C C′ c b) where
   abbrev L : Lent
-  L = lent P S C M W T
+  L = lent P S C M W T O
 
   abbrev L′ : Lent
-  L′ = lent P S C′ M W T
+  L′ = lent P S C′ M W T O
 
   lengths : Lengths L′
   lengths =
@@ -41,17 +42,18 @@ module _ {P : Product} (S C C′ M W T : List ℕ) (c : ℕ) (b : Bool) (X : Sta
         messages = X .lengths .messages;
         lines = X .lengths .lines;
         texts = X .lengths .texts;
+        store = X .lengths .store;
       }
 
   pub laid : Laid L′
-  laid = laid-flags S C M W T (X .laid) C′ c (flagged .canonical) (ap (λ (K : Carts). K .place) (flagged .carts))
+  laid = laid-flags S C M W T O (X .laid) C′ c (flagged .canonical) (ap (λ (K : Carts). K .place) (flagged .carts))
 
   -- the cart is told, and all else is as it was
   pub flag-is : floorIn L′ ≡ onFlag (floorIn L) c b .floor
   unfolding onFlag
   flag-is =
       λ i. floorOf ((lengths-right L′ lengths ∙ sym (lengths-right L (X .lengths))) i) ((words-right L′ laid ∙ sym (words-right L (X .laid))) i)
-      (headIn S) (stationsIn S) (flagged .carts i) (roomsIn M) (textsIn T (roomsIn M)) (linesIn W)
+      (headIn S) (stationsIn S) (flagged .carts i) (roomsIn M) (textOf T O (roomsIn M)) (linesIn W)
 
 -- "It prints cart and flag with p = 0 and w = 0"
 pub flag-reports : (F : Floor) (c : ℕ) (b : Bool) → onFlag F c b .report ≡ record { kind = 6; a = c; b = cond b 1 0; p = 0; w = 0; q = 0; text = [] }

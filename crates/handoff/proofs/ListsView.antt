@@ -48,15 +48,15 @@ module _ (X : Stations) (R : Rooms) (t : ℕ) (lt : t < 16) where
       first-list m W = recordIn (registersIn W) (wordsOf 2 m (R .number m) (X .acks m t))
 
 -- the words lie right again
-pub laid-lists : {P : Product} (X : Stations) (S C M T : List ℕ) (t : ℕ) → t < 16 → (l : List ℕ) → EachOf (Sends (roomsIn M)) l → (W W′ : List ℕ) → PushedEach X (roomsIn M) t l W W′
-    → Laid (lent P S C M W T) → Laid (lent P S C M W′ T)
-laid-lists {P} X S C M T t lt [] s W W′ p laid = subst (λ (Y : List ℕ). Laid (lent P S C M Y T)) (sym p) laid
-laid-lists {P} X S C M T t lt (m ∷ l) s W W′ p laid =
+pub laid-lists : {P : Product} (X : Stations) (S C M T O : List ℕ) (t : ℕ) → t < 16 → (l : List ℕ) → EachOf (Sends (roomsIn M)) l → (W W′ : List ℕ) → PushedEach X (roomsIn M) t l W W′
+    → Laid (lent P S C M W T O) → Laid (lent P S C M W′ T O)
+laid-lists {P} X S C M T O t lt [] s W W′ p laid = subst (λ (Y : List ℕ). Laid (lent P S C M Y T O)) (sym p) laid
+laid-lists {P} X S C M T O t lt (m ∷ l) s W W′ p laid =
     let one = s .0 in
     let R = roomsIn M in
     let in-room : isIn R (R .initiator m) (R .number m) m ≡ true = rw (one .held, eqb-self (R .initiator m), eqb-self (R .number m)) in
-    laid-lists X S C M T t lt l (s .1) (p .0) W′ (p .1 .1)
-    (laid-push S C M W T laid (p .0) t (R .initiator m) (wordsOf 2 m (R .number m) (X .acks m t)) lt (one .initiator) (p .1 .0)
+    laid-lists X S C M T O t lt l (s .1) (p .0) W′ (p .1 .1)
+    (laid-push S C M W T O laid (p .0) t (R .initiator m) (wordsOf 2 m (R .number m) (X .acks m t)) lt (one .initiator) (p .1 .0)
     (ack-list-right R t (R .initiator m) m (R .number m) (X .acks m t) (let z = one .room in omega arith) in-room))
 
 -- no list is a register

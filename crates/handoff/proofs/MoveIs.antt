@@ -19,11 +19,12 @@ use Rattle.stations.specs.View.{headIn, stationsIn}
 use Rattle.carts.specs.Words.{HasRow}
 use Rattle.carts.specs.View.{cartsIn, canonicalIn}
 use Rattle.messages.specs.View.{roomsIn}
+use Rattle.store.specs.Texts.{textOf}
 use Rattle.lines.specs.Form.{form}
 use Rattle.lines.specs.Lines.{used, registersIn}
 use Rattle.lines.specs.Words.{capacity}
 use Rattle.view.specs.Records.{linesIn, wordsOf}
-use Rattle.view.specs.View.{Lent, lent, textsIn, floorOf, floorIn}
+use Rattle.view.specs.View.{Lent, lent, floorOf, floorIn}
 use Rattle.view.proofs.LinesView.{push-view}
 use Rattle.view.proofs.Lengths.{Lengths, lengths-right}
 use Rattle.view.proofs.Laid.{Laid, words-right, local-stays, laid-carts, laid-push}
@@ -75,13 +76,13 @@ module _ (L : Lent) (X : Standing L) (c to : ℕ) (may : MayMove (floorIn L) c t
         let d = few-stations L X in
         (X .laid .chains, omega arith, omega arith, omega arith)
 
-module _ {P : Product} (S C C′ M W W′ T : List ℕ) (c old to : ℕ) (X : Standing (lent P S C M W T))
+module _ {P : Product} (S C C′ M W W′ T O : List ℕ) (c old to : ℕ) (X : Standing (lent P S C M W T O))
     (lc : c < 64) (lo : old < 16) (lt : to < 16) (here : cartsIn C .place c ≡ at old) (moved : Moved C C′ W W′ c old to) where
   abbrev L : Lent
-  L = lent P S C M W T
+  L = lent P S C M W T O
 
   abbrev L′ : Lent
-  L′ = lent P S C′ M W′ T
+  L′ = lent P S C′ M W′ T O
 
   lengths : Lengths L′
   lengths =
@@ -91,6 +92,7 @@ module _ {P : Product} (S C C′ M W W′ T : List ℕ) (c old to : ℕ) (X : St
         messages = X .lengths .messages;
         lines = moved .lines .words ∙ X .lengths .lines;
         texts = X .lengths .texts;
+        store = X .lengths .store;
       }
 
   -- a leaving cart is local where it was
@@ -99,8 +101,8 @@ module _ {P : Product} (S C C′ M W W′ T : List ℕ) (c old to : ℕ) (X : St
 
   pub laid : Laid L′
   laid =
-      laid-push S C′ M W T
-      (laid-carts S C M W T (X .laid) S C′
+      laid-push S C′ M W T O
+      (laid-carts S C M W T O (X .laid) S C′
       (λ d ld. ap (λ (f : ℕ → Bool). f d) (moved .canonical) ∙ on-update (λ (b : Bool). b ≡ true) (canonicalIn C) c true d (λ q. refl) (λ q. X .laid .canonical d ld))
       (λ t l. X .laid .local t l ∙ local-stays (cartsIn C .place) c t (leaving old to) (still-local t) ∙ ap (λ (K : Carts). setOf 64 (λ d. localTo (K .place d) t)) (sym (moved .carts)))
       (X .laid .few))
@@ -117,7 +119,7 @@ module _ {P : Product} (S C C′ M W W′ T : List ℕ) (c old to : ℕ) (X : St
   move-is =
       rw here
       (λ i. floorOf ((lengths-right L′ lengths ∙ sym (lengths-right L (X .lengths))) i) ((words-right L′ laid ∙ sym (words-right L (X .laid))) i)
-      (headIn S) (stationsIn S) (moved .carts i) (roomsIn M) (textsIn T (roomsIn M)) (lines i))
+      (headIn S) (stationsIn S) (moved .carts i) (roomsIn M) (textOf T O (roomsIn M)) (lines i))
 
 -- "5": move; one record is put on the lines
 pub move-reports : (F : Floor) (c to : ℕ) → onMove F c to .report ≡ record { kind = 5; a = c; b = to; p = 0; w = 1; q = 0; text = [] }

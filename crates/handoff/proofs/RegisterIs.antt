@@ -19,9 +19,10 @@ use Rattle.stations.specs.View.{HasStation, headIn, stationsIn, namingIn}
 use Rattle.carts.specs.Words.{HasRow}
 use Rattle.carts.specs.View.{cartsIn}
 use Rattle.messages.specs.View.{roomsIn}
+use Rattle.store.specs.Texts.{textOf}
 use Rattle.lines.specs.Post.{Popped}
 use Rattle.view.specs.Records.{linesIn}
-use Rattle.view.specs.View.{Lent, lent, lengthsIn, wordsIn, textsIn, floorOf, floorIn}
+use Rattle.view.specs.View.{Lent, lent, lengthsIn, wordsIn, floorOf, floorIn}
 use Rattle.view.proofs.LinesView.{pop-view}
 use Rattle.view.proofs.Lengths.{Lengths, lengths-right}
 use Rattle.view.proofs.Laid.{Laid, words-right, laid-pop}
@@ -66,14 +67,14 @@ module _ (L : Lent) (X : Standing L) (c i t : ℕ) (row : List ℕ) (rest : List
   pub register-fits : (s : ℕ) → s < 16 → stationsIn (L .stations) .expected t s ≤ 4294967295
   register-fits = expected-fits L X t (may .to)
 
-module _ {P : Product} (S S′ C C′ M W W₁ T : List ℕ) (c i t p q : ℕ) (row : List ℕ) (rest : List Record) (X : Standing (lent P S C M W T))
-    (may : MayWire (floorIn (lent P S C M W T)) i t (register c row) rest) (pop : Popped W W₁ (i * 16 + t))
+module _ {P : Product} (S S′ C C′ M W W₁ T O : List ℕ) (c i t p q : ℕ) (row : List ℕ) (rest : List Record) (X : Standing (lent P S C M W T O))
+    (may : MayWire (floorIn (lent P S C M W T O)) i t (register c row) rest) (pop : Popped W W₁ (i * 16 + t))
     (there : Arrived S S′ C C′ M t c row p q) where
   abbrev L : Lent
-  L = lent P S C M W T
+  L = lent P S C M W T O
 
   abbrev L′ : Lent
-  L′ = lent P S′ C′ M W₁ T
+  L′ = lent P S′ C′ M W₁ T O
 
   lc : c < 64
   lc = is-cart L X c i t row rest may
@@ -95,17 +96,18 @@ module _ {P : Product} (S S′ C C′ M W W₁ T : List ℕ) (c i t p q : ℕ) (
         messages = X .lengths .messages;
         lines = pop .words ∙ X .lengths .lines;
         texts = X .lengths .texts;
+        store = X .lengths .store;
       }
 
-  popped : Laid (lent P S C M W₁ T)
-  popped = laid-pop S C M W T (X .laid) W₁ i t li lt pop
+  popped : Laid (lent P S C M W₁ T O)
+  popped = laid-pop S C M W T O (X .laid) W₁ i t li lt pop
 
   -- a travelling cart is local nowhere
   nowhere : (u : ℕ) → localTo (cartsIn C .place c) u ≡ false
   nowhere u = ap (λ (q : Place). localTo q u) (is-travelling L X c i t row rest may)
 
   pub laid : Laid L′
-  laid = laid-there S S′ C C′ M W₁ T popped t c lt′ lc row p q nowhere there
+  laid = laid-there S S′ C C′ M W₁ T O popped t c lt′ lc row p q nowhere there
 
   lines : linesIn W₁ ≡ behead i t (linesIn W)
   lines = pop-view W W₁ i t li lt pop
@@ -123,8 +125,8 @@ module _ {P : Product} (S S′ C C′ M W W₁ T : List ℕ) (c i t p q : ℕ) (
   unfolding onRegister
   arrived =
       (λ k. floorOf ((lengths-right L′ lengths ∙ sym (lengths-right L (X .lengths))) k) ((words-right L′ laid ∙ sym (words-right L (X .laid))) k)
-      (headIn S′) (stationsIn S′) (cartsIn C′) (roomsIn M) (textsIn T (roomsIn M)) (lines k))
-      ∙ arrived-is (limitsOf P) S S′ C C′ M T (lengthsIn L) (wordsIn L) (behead i t (linesIn W)) t c row (entryOf row) p q
+      (headIn S′) (stationsIn S′) (cartsIn C′) (roomsIn M) (textOf T O (roomsIn M)) (lines k))
+      ∙ arrived-is (limitsOf P) S S′ C C′ M T O (lengthsIn L) (wordsIn L) (behead i t (linesIn W)) t c row (entryOf row) p q
       (λ s. refl) no-more (P .held-fit, none-beyond L X t (may .to)) (few-stations L X) (expects-none L X t (may .to)) there
 
   -- "Register": the cart is struck, catches up, and is at this station
@@ -138,10 +140,10 @@ module _ {P : Product} (S S′ C C′ M W W₁ T : List ℕ) (c i t p q : ℕ) (
         kind = 3;
         a = 5;
         b = c;
-        p = sym (passed-is (limitsOf P) S S′ C C′ M T (lengthsIn L) (wordsIn L) (behead i t (linesIn W)) t c row (entryOf row) p q
+        p = sym (passed-is (limitsOf P) S S′ C C′ M T O (lengthsIn L) (wordsIn L) (behead i t (linesIn W)) t c row (entryOf row) p q
             (λ s. refl) no-more (P .held-fit, none-beyond L X t (may .to)) (few-stations L X) (expects-none L X t (may .to)) there) k;
         w = 0;
-        q = sym (deepest-is (limitsOf P) S S′ C C′ M T (lengthsIn L) (wordsIn L) (behead i t (linesIn W)) t c row (entryOf row) p q
+        q = sym (deepest-is (limitsOf P) S S′ C C′ M T O (lengthsIn L) (wordsIn L) (behead i t (linesIn W)) t c row (entryOf row) p q
             (λ s. refl) no-more (P .held-fit, none-beyond L X t (may .to)) (few-stations L X) (expects-none L X t (may .to)) there (all-rooms L X)) k;
         text = [];
       }

@@ -88,7 +88,7 @@ fn is_complete(stations: &[u64], messages: &[u64], station: Station, m: usize) -
     requires { ⌜ HasStation (now stations) (station .0) × HeldRooms (now messages) × (station .0 < 16) × (m < rooms) ⌝ }
     ensures { λ r. ⌜ r ≡ goes (stationsIn (now (stations .entry))) (roomsIn (now (messages .entry))) (station .0) m ⌝ }
 {
-    if messages.len() < m * 6 + 6 {
+    if messages.len() < m * 7 + 7 {
         return false;
     }
     if !sets::has(messages::waiting_of(messages, m), station.0) {

@@ -1,14 +1,12 @@
 -- THE TEXTS: what is copied into the part of one room, and what the other rooms have.
-use mathlib.Core.Path.{_≡_, refl, sym, ap, ap₂, fun-ext, _∙_}
-use mathlib.Core.List.{List, [], _++_, append-assoc}
+use mathlib.Core.Path.{_≡_, sym, ap, _∙_}
+use mathlib.Core.List.{List, _++_, append-assoc}
 use Prim.Native.Nat.{ℕ, _+_, _-_, _*_, _≤_}
 use native.Mathlib.Omega.{arith}
 use lib.ListN.{length, take, drop, take-append-drop, length-drop}
 use lib.Seq.{length-take-le, take-length, take-append-le, drop-append-le, take-at, drop-at, drop-drop}
 use borrow.Rule.Slice.PartMut.{putMid, postOf, take-put, drop-put}
-use borrow.Author.Tests.{eq-eqb, ne-eqb}
-use Rattle.protocol.specs.Folds.{update}
-use Rattle.protocol.proofs.Tests.{by-lt, by-eq}
+use Rattle.protocol.proofs.Tests.{by-lt}
 use Rattle.messages.specs.Texts.{longest, HasText, textIn}
 
 -- a text within its part
@@ -16,15 +14,10 @@ pub length-text : (l : List ℕ) (n m : ℕ) → HasText l m → n ≤ longest �
 unfolding textIn
 length-text l n m h le = length-take-le n (drop (m * longest) l) (simp length-drop (omega arith))
 
--- no octets
-pub text-none : (l : List ℕ) (m : ℕ) → textIn l 0 m ≡ []
-unfolding textIn
-text-none l m = refl
-
 -- LISTS
 
 -- what ends before a is in the first a
-in-front : (l : List ℕ) (a b n : ℕ) → a ≤ length l → b + n ≤ a → take n (drop b l) ≡ take n (drop b (take a l))
+pub in-front : (l : List ℕ) (a b n : ℕ) → a ≤ length l → b + n ≤ a → take n (drop b l) ≡ take n (drop b (take a l))
 in-front l a b n h le =
     let whole = length-take-le a l h in
     let left = length-drop b (take a l) in
@@ -33,7 +26,7 @@ in-front l a b n h le =
     ∙ take-append-le n (drop b (take a l)) (drop a l) (omega arith)
 
 -- what begins behind e is in the rest from e on
-behind : (l : List ℕ) (e b : ℕ) → e ≤ b → drop b l ≡ drop (b - e) (drop e l)
+pub behind : (l : List ℕ) (e b : ℕ) → e ≤ b → drop b l ≡ drop (b - e) (drop e l)
 behind l e b le = let z : b ≡ e + (b - e) = omega arith in ap (λ (k : ℕ). drop k l) z ∙ sym (drop-drop (b - e) e l)
 
 -- a part from a on is exchanged for another that begins with a text
@@ -67,26 +60,3 @@ module _ (l part : List ℕ) (m e : ℕ) (there : HasText l m) (end : e ≡ m * 
       (behind exchanged e (k * 32) (omega arith)
       ∙ ap (drop (k * 32 - e)) (drop-put (m * 32) e l part (omega arith) (omega arith) same)
       ∙ sym (behind l e (k * 32) (omega arith))))
-
--- so of the texts of all rooms, each as long as its row says, that of room m alone is another
-pub texts-with : (l k text : List ℕ) (m : ℕ) (lengths : ℕ → ℕ) → ((j : ℕ) → lengths j ≤ longest)
-    → textIn k (length text) m ≡ text
-    → ((j n : ℕ) → (j ≡ m → ⊥) → n ≤ longest → textIn k n j ≡ textIn l n j)
-    → (λ j. textIn k (update lengths m (length text) j) j) ≡ update (λ j. textIn l (lengths j) j) m text
-texts-with l k text m lengths short here others =
-    fun-ext (λ j. by-eq j m
-    (λ q. rw (eq-eqb j m q) (ap (textIn k (length text)) q ∙ here))
-    (λ q. rw (ne-eqb j m q) (others j (lengths j) q (short j))))
-
--- a room's text is copied to the front of a buffer
-pub text-copied : (l buffer : List ℕ) (m n e : ℕ) → HasText l m → n ≤ longest → e ≡ m * 32 + n
-    → take (length (take (e - m * 32) (drop (m * 32) l))) (take (e - m * 32) (drop (m * 32) l)) ++ drop (length (take (e - m * 32) (drop (m * 32) l))) buffer ≡ textIn l n m ++ drop n buffer
-unfolding textIn
-text-copied l buffer m n e there le end =
-    ap₂ (λ (x y : List ℕ). x ++ y) (take-length (part (e - m * 32)) ∙ ap part size) (ap (λ (k : ℕ). drop k buffer) (ap (λ (k : ℕ). length (part k)) size ∙ length-text l n m there le))
-  where
-    part : ℕ → List ℕ
-    part k = take k (drop (m * 32) l)
-
-    size : e - m * 32 ≡ n
-    size = omega arith

@@ -1,15 +1,14 @@
-// The held messages: a lent table with a row for each room, and the lent octets of their texts. "Its room is then used again."
+// The held messages: a lent table with a row for each room, and the lent octets of their short texts. "Its room is then used again."
 use ids::MessageNumber;
 use ids::Station;
 ghost use mathlib.Core.Path.{_≡_};
-ghost use mathlib.Core.List.{_++_};
 ghost use Prim.Native.Nat.{ℕ, _≤_};
-ghost use lib.ListN.{length, getD, drop};
-ghost use Rattle.messages.specs.View.{HasRoom, roomsIn, noRooms, withAcked, withWaiting, withMessage};
+ghost use lib.ListN.{length, getD};
+ghost use Rattle.messages.specs.View.{HasRoom, roomsIn, noRooms, withAcked, withWaiting, withOffset, withMessage};
 ghost use Rattle.messages.specs.Texts.{longest, HasText, textIn};
 
 // A row of the table has this many words, in this order.
-const WIDTH: usize = 6;
+const WIDTH: usize = 7;
 
 const INITIATOR: usize = 0;
 
@@ -22,6 +21,8 @@ const ACKED: usize = 3;
 const WAITING: usize = 4;
 
 const LENGTH: usize = 5;
+
+const OFFSET: usize = 6;
 
 // The initiator of the message in room m.
 pub fn initiator_of(messages: &[u64], m: usize) -> Station
@@ -71,6 +72,14 @@ pub fn length_of(messages: &[u64], m: usize) -> u64
     rows::word_at(messages, WIDTH, m, LENGTH)
 }
 
+// Where its text begins in the store, if it is long.
+pub fn offset_of(messages: &[u64], m: usize) -> u64
+    requires { ⌜ HasRoom (now messages) m ⌝ }
+    ensures { λ r. ⌜ r ≡ roomsIn (now (messages .entry)) .offset m ⌝ }
+{
+    rows::word_at(messages, WIDTH, m, OFFSET)
+}
+
 // The initiator knows other carts to have it.
 pub fn put_acked(messages: &mut [u64], m: usize, carts: u64)
     requires { ⌜ HasRoom (now messages) m ⌝ }
@@ -89,6 +98,15 @@ pub fn put_waiting(messages: &mut [u64], m: usize, stations: u64)
     rows::put_word(messages, WIDTH, m, WAITING, stations);
 }
 
+// Its text begins at another place in the store.
+pub fn put_offset(messages: &mut [u64], m: usize, offset: u64)
+    requires { ⌜ HasRoom (now messages) m ⌝ }
+    ensures { λ _. ⌜ roomsIn (now (messages .exit)) ≡ withOffset (roomsIn (now (messages .entry))) m offset ⌝ }
+    ensures { λ _. ⌜ length (now (messages .exit)) ≡ length (now (messages .entry)) ⌝ }
+{
+    rows::put_word(messages, WIDTH, m, OFFSET, offset);
+}
+
 // A new message is in room m, and no cart is known to have it.
 pub fn put_message(
     messages: &mut [u64],
@@ -98,9 +116,10 @@ pub fn put_message(
     named: u64,
     waiting: u64,
     octets: u64,
+    offset: u64,
 )
     requires { ⌜ HasRoom (now messages) m ⌝ }
-    ensures { λ _. ⌜ roomsIn (now (messages .exit)) ≡ withMessage (roomsIn (now (messages .entry))) m (initiator .0) (number .0) named waiting octets ⌝ }
+    ensures { λ _. ⌜ roomsIn (now (messages .exit)) ≡ withMessage (roomsIn (now (messages .entry))) m (initiator .0) (number .0) named waiting octets offset ⌝ }
     ensures { λ _. ⌜ length (now (messages .exit)) ≡ length (now (messages .entry)) ⌝ }
 {
     rows::put_word(messages, WIDTH, m, INITIATOR, initiator.0);
@@ -109,6 +128,7 @@ pub fn put_message(
     rows::put_word(messages, WIDTH, m, ACKED, 0);
     rows::put_word(messages, WIDTH, m, WAITING, waiting);
     rows::put_word(messages, WIDTH, m, LENGTH, octets);
+    rows::put_word(messages, WIDTH, m, OFFSET, offset);
 }
 
 // "it writes all the rest afresh": every word is 0, so nothing is in any room.
@@ -130,15 +150,4 @@ pub fn put_text(texts: &mut [u8], m: usize, text: &[u8])
     let at = m * products::TEXT;
     let end = at + products::TEXT;
     bytes::copy(text, &mut texts[at..end]);
-}
-
-// "writes the text at the front of the lent buffer and leaves the rest": the first n octets of room m's part.
-pub fn copy_text(texts: &[u8], m: usize, n: usize, buffer: &mut [u8])
-    requires { ⌜ HasText (now texts) m × (n ≤ longest) × (n ≤ length (now buffer)) ⌝ }
-    ensures { λ _. ⌜ now (buffer .exit) ≡ textIn (now (texts .entry)) n m ++ drop n (now (buffer .entry)) ⌝ }
-    ensures { λ _. ⌜ length (now (buffer .exit)) ≡ length (now (buffer .entry)) ⌝ }
-{
-    let at = m * products::TEXT;
-    let end = at + n;
-    bytes::copy(&texts[at..end], buffer);
 }

@@ -3,12 +3,16 @@ ghost use Rattle.protocol.specs.Floor.{wholeFloor, kit};
 ghost use Rattle.products.specs.Numbers.{Fits, NumbersOf};
 
 // What rows and words have places for is the same in every product: a row of next numbers, one for each initiator; the rooms for held messages that
-// a station keeps words for; and "text 0 to 32 octets".
+// a station keeps words for; "text 0 to 32 octets", "33 to 512 octets", and "one store of 4,096 octets".
 pub const INITIATORS: usize = 16;
 
 pub const ROOMS: usize = 32;
 
 pub const TEXT: usize = 32;
+
+pub const LONG: usize = 512;
+
+pub const STORE: usize = 4096;
 
 // How many stations and carts a floor may have, how many messages may be held, and the last number of a message.
 pub struct Bounds {

@@ -38,10 +38,10 @@ module _ (S : Stations) (M : List ℕ) (t m k : ℕ) where
   abbrev pub asked : Bool
   asked = ltb k (roomCount M) && isAhead S (roomsIn M) t m k
 
-  pub no-room : length M < k * 6 + 6 → false ≡ asked
+  pub no-room : length M < k * 7 + 7 → false ≡ asked
   no-room l = rw (le-ltb k (roomCount M) (omega arith)) refl
 
-  module _ (here : k * 6 + 6 ≤ length M) where
+  module _ (here : k * 7 + 7 ≤ length M) where
     in-table : ltb k (roomCount M) ≡ true
     in-table = lt-ltb k (roomCount M) (omega arith)
 

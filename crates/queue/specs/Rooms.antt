@@ -12,11 +12,11 @@ use Rattle.view.specs.View.{lent, floorIn}
 
 -- the floor that the stations and the messages say: a queue and a catch-up ask for no other part
 abbrev pub tablesFloor : List ℕ → List ℕ → Floor
-tablesFloor stations messages = floorIn (lent wholeFloor stations [] messages [] [])
+tablesFloor stations messages = floorIn (lent wholeFloor stations [] messages [] [] [])
 
 -- how many rooms the messages' table has
 abbrev pub roomCount : List ℕ → ℕ
-roomCount messages = length messages / 6
+roomCount messages = length messages / 7
 
 -- no more than a station's row has words for
 abbrev pub HasRooms : List ℕ → Type 0

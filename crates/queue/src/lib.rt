@@ -112,7 +112,7 @@ fn is_ahead(stations: &[u64], messages: &[u64], station: Station, k: usize, m: u
     requires { ⌜ HasStation (now stations) (station .0) × (k < rooms) × HasRoom (now messages) m ⌝ }
     ensures { λ r. ⌜ r ≡ (ltb k (roomCount (now (messages .entry))) && isAhead (stationsIn (now (stations .entry))) (roomsIn (now (messages .entry))) (station .0) m k) ⌝ }
 {
-    if messages.len() < k * 6 + 6 {
+    if messages.len() < k * 7 + 7 {
         return false;
     }
     if stations::queue_of(stations, k, station) == 0 {

@@ -45,9 +45,10 @@ pool-sized P l h =
 pub record Lengths (L : Lent) : Type 0 where
   pub stations : length (L .stations) ≡ 116 + L .product .stations * 116
   pub carts : length (L .carts) ≡ L .product .carts * 19
-  pub messages : length (L .messages) ≡ L .product .held * 6
+  pub messages : length (L .messages) ≡ L .product .held * 7
   pub lines : length (L .lines) ≡ 1842 + mostRecords (limitsOf (L .product)) * 3
   pub texts : length (L .texts) ≡ L .product .held * 32
+  pub store : length (L .store) ≡ 4096
 
 pub lengths-of : (L : Lent) → lengthsIn L ≡ true → Lengths L
 unfolding lengthsIn
@@ -55,24 +56,27 @@ lengths-of L e =
     let P = L .product in
     let a = eqb (length (L .stations)) (116 + P .stations * 116) in
     let b = eqb (length (L .carts)) (P .carts * 19) in
-    let c = eqb (length (L .messages)) (P .held * 6) in
+    let c = eqb (length (L .messages)) (P .held * 7) in
     let d = eqb (length (L .lines)) (1842 + mostRecords (limitsOf P) * 3) in
     let f = eqb (length (L .texts)) (P .held * 32) in
-    let r = and-right a (b && (c && (d && f))) e in
-    let q = and-right b (c && (d && f)) r in
-    let p = and-right c (d && f) q in
+    let g = eqb (length (L .store)) 4096 in
+    let r = and-right a (b && (c && (d && (f && g)))) e in
+    let q = and-right b (c && (d && (f && g))) r in
+    let p = and-right c (d && (f && g)) q in
+    let o = and-right d (f && g) p in
     record {
-      stations = eqb-true (length (L .stations)) _ (and-left a (b && (c && (d && f))) e);
-      carts = eqb-true (length (L .carts)) _ (and-left b (c && (d && f)) r);
-      messages = eqb-true (length (L .messages)) _ (and-left c (d && f) q);
-      lines = eqb-true (length (L .lines)) _ (and-left d f p);
-      texts = eqb-true (length (L .texts)) _ (and-right d f p);
+      stations = eqb-true (length (L .stations)) _ (and-left a (b && (c && (d && (f && g)))) e);
+      carts = eqb-true (length (L .carts)) _ (and-left b (c && (d && (f && g))) r);
+      messages = eqb-true (length (L .messages)) _ (and-left c (d && (f && g)) q);
+      lines = eqb-true (length (L .lines)) _ (and-left d (f && g) p);
+      texts = eqb-true (length (L .texts)) _ (and-left f g o);
+      store = eqb-true (length (L .store)) _ (and-right f g o);
     }
 
 pub lengths-right : (L : Lent) → Lengths L → lengthsIn L ≡ true
 unfolding lengthsIn
 lengths-right L h =
-    rw (eq-eqb (length (L .stations)) _ (h .stations), eq-eqb (length (L .carts)) _ (h .carts), eq-eqb (length (L .messages)) _ (h .messages), eq-eqb (length (L .lines)) _ (h .lines), eq-eqb (length (L .texts)) _ (h .texts)) refl
+    rw (eq-eqb (length (L .stations)) _ (h .stations), eq-eqb (length (L .carts)) _ (h .carts), eq-eqb (length (L .messages)) _ (h .messages), eq-eqb (length (L .lines)) _ (h .lines), eq-eqb (length (L .texts)) _ (h .texts), eq-eqb (length (L .store)) _ (h .store)) refl
 
 -- NOTHING BEYOND
 pub place-past : (l : List ℕ) (c : ℕ) → length l ≤ c * 19 → cartsIn l .place c ≡ outside

@@ -1,16 +1,18 @@
--- THE FLOOR THAT THE LENT PARTS SAY: stations, carts, messages, lines (numbers) and texts (octets).
+-- THE FLOOR THAT THE LENT PARTS SAY: stations, carts, messages, lines (numbers), texts and store (octets).
 use mathlib.Core.Bool.{Bool, true, _&&_, _||_}
 use mathlib.Core.List.{List, [], _∷_}
 use Prim.Native.Nat.{ℕ, _+_, _*_}
-use lib.Dec.{eqb, ltb, leb}
+use lib.Dec.{eqb, ltb}
 use lib.ListN.{length}
 use Rattle.protocol.specs.Folds.{every}
 use Rattle.protocol.specs.CartSets.{setOf}
 use Rattle.protocol.specs.Floor.{Product, limitsOf, mostRecords, Floor, Carts, Record, localTo}
+use Rattle.protocol.specs.Claims.{test}
 use Rattle.stations.specs.View.{Head, Stations, stationsIn, headIn}
 use Rattle.carts.specs.View.{cartsIn, canonicalIn}
 use Rattle.messages.specs.View.{Rooms, roomsIn}
-use Rattle.messages.specs.Texts.{textIn}
+use Rattle.store.specs.Texts.{textOf}
+use Rattle.store.specs.Layout.{size, layoutRule}
 use Rattle.lines.specs.declared.Record as word
 use Rattle.lines.specs.Lines.{recordsOn}
 use Rattle.lines.specs.Form.{form}
@@ -24,17 +26,20 @@ pub record Lent : Type 0 where
   pub messages : List ℕ
   pub lines : List ℕ
   pub texts : List ℕ
+  pub store : List ℕ
 
-abbrev pub lent : Product → List ℕ → List ℕ → List ℕ → List ℕ → List ℕ → Lent
-lent product stations carts messages lines texts = record { product = product; stations = stations; carts = carts; messages = messages; lines = lines; texts = texts }
+abbrev pub lent : Product → List ℕ → List ℕ → List ℕ → List ℕ → List ℕ → List ℕ → Lent
+lent product stations carts messages lines texts store =
+    record { product = product; stations = stations; carts = carts; messages = messages; lines = lines; texts = texts; store = store }
 
 -- "a lent part of the floor has the wrong length" is no: the floor's own row and one for each station, of 116 words; a row of 19 for each
--- cart; of 6 for each held message, and 32 octets of text; 1,842 words, and a row of 3 for each record on the lines
+-- cart; of 7 for each held message, and 32 octets of text; 1,842 words, and a row of 3 for each record on the lines; "one store of 4,096 octets"
 unfoldable pub lengthsIn : Lent → Bool
 lengthsIn L =
     let P = L .product in
     eqb (length (L .stations)) (116 + P .stations * 116)
-    && (eqb (length (L .carts)) (P .carts * 19) && (eqb (length (L .messages)) (P .held * 6) && (eqb (length (L .lines)) (1842 + mostRecords (limitsOf P) * 3) && eqb (length (L .texts)) (P .held * 32))))
+    && (eqb (length (L .carts)) (P .carts * 19) && (eqb (length (L .messages)) (P .held * 7) && (eqb (length (L .lines)) (1842 + mostRecords (limitsOf P) * 3)
+    && (eqb (length (L .texts)) (P .held * 32) && eqb (length (L .store)) size))))
 
 -- the mask of the local carts at station t is right
 unfoldable pub localRight : Lent → ℕ → Bool
@@ -54,21 +59,13 @@ everyWord f (r ∷ l) = f r && everyWord f l
 unfoldable pub lineRight : Lent → ℕ → ℕ → Bool
 lineRight L i j = everyWord (roomRight (roomsIn (L .messages)) i j) (recordsOn (L .lines) (i * 16 + j))
 
--- no text is longer than its part
-unfoldable pub shortText : Lent → ℕ → Bool
-shortText L m = leb (roomsIn (L .messages) .length m) 32
-
--- the words are such as the layout has: the chains of records are whole, places and flags stand in their own words, masks and rooms are right, texts
--- within their parts
+-- the words are such as the layout has: the chains of records are whole, places and flags stand in their own words, masks and rooms are right, long
+-- texts lie right in the store
 unfoldable pub wordsIn : Lent → Bool
 wordsIn L =
     form (L .lines)
-    && (every (L .product .carts) (canonicalIn (L .carts)) && (every (L .product .stations) (localRight L) && (every (L .product .held) (shortText L)
+    && (every (L .product .carts) (canonicalIn (L .carts)) && (every (L .product .stations) (localRight L) && (test (layoutRule (L .product .held) (roomsIn (L .messages)))
     && (every 16 (λ i. every 16 (lineRight L i)) && every (L .product .stations) (roomsRight L)))))
-
--- the texts of the rooms
-abbrev pub textsIn : List ℕ → Rooms → ℕ → List ℕ
-textsIn texts R m = textIn texts (R .length m) m
 
 -- the floor of these parts, with its two marks of the lent memory
 abbrev pub floorOf : Bool → Bool → Head → Stations → Carts → Rooms → (ℕ → List ℕ) → (ℕ → ℕ → List Record) → Floor
@@ -101,4 +98,4 @@ floorOf lengths words H S C R text lines =
 abbrev pub floorIn : Lent → Floor
 floorIn L =
     let R = roomsIn (L .messages) in
-    floorOf (lengthsIn L) (wordsIn L) (headIn (L .stations)) (stationsIn (L .stations)) (cartsIn (L .carts)) R (textsIn (L .texts) R) (linesIn (L .lines))
+    floorOf (lengthsIn L) (wordsIn L) (headIn (L .stations)) (stationsIn (L .stations)) (cartsIn (L .carts)) R (textOf (L .texts) (L .store) R) (linesIn (L .lines))

@@ -52,15 +52,15 @@ module _ (l l′ : List ℕ) (s n : ℕ) (r : word.Record) (ls : s < 16) (ln : n
       joined i j e = let z = picked n s i j e in rw (← z .0) (p .line j (z .1))
 
 -- THE WORDS LIE RIGHT AGAIN, when the record says its room right
-module _ {P : Product} (S C M W T W′ : List ℕ) (X : Laid (lent P S C M W T)) (s n : ℕ) (r : word.Record) (ls : s < 16) (ln : n ≤ 16) (p : PushedToEvery W W′ s n r) where
-  pub laid-every : ((j : ℕ) → j < n → roomRight (roomsIn M) s j r ≡ true) → Laid (lent P S C M W′ T)
+module _ {P : Product} (S C M W T O W′ : List ℕ) (X : Laid (lent P S C M W T O)) (s n : ℕ) (r : word.Record) (ls : s < 16) (ln : n ≤ 16) (p : PushedToEvery W W′ s n r) where
+  pub laid-every : ((j : ℕ) → j < n → roomRight (roomsIn M) s j r ≡ true) → Laid (lent P S C M W′ T O)
   laid-every right =
       record {
         chains = p .formed;
         few = X .few;
         canonical = X .canonical;
         local = X .local;
-        short = X .short;
+        texts = X .texts;
         rooms = λ i j li lj. by-test (toEvery n s i j)
             (λ e. let z = picked n s i j e in
             rw (← z .0) (rw (p .line j (z .1)) (words-append (roomRight (roomsIn M) s j) (recordsOn W (s * 16 + j)) r (X .rooms s j ls lj) (right j (z .1)))))

@@ -17,12 +17,14 @@ use Rattle.protocol.proofs.Accepted.{unlined}
 use Rattle.stations.specs.View.{headIn, stationsIn}
 use Rattle.carts.specs.View.{cartsIn}
 use Rattle.messages.specs.View.{roomsIn}
+use Rattle.store.specs.Texts.{textOf}
+use Rattle.store.proofs.Changes.{texts-acked}
 use Rattle.lines.specs.declared.Record as word
 use Rattle.lines.specs.Lines.{recordsOn, used, registersIn}
 use Rattle.lines.specs.Words.{capacity}
 use Rattle.lines.specs.Post.{Popped}
 use Rattle.view.specs.Records.{kindOf, indexOf, numberOf, wordsOf, linesIn, roomRight}
-use Rattle.view.specs.View.{Lent, lent, textsIn, floorOf, floorIn}
+use Rattle.view.specs.View.{Lent, lent, floorOf, floorIn}
 use Rattle.view.proofs.LinesView.{pop-view}
 use Rattle.view.proofs.Lengths.{Lengths, lengths-right}
 use Rattle.view.proofs.Laid.{Laid, words-right, laid-pop, laid-messages}
@@ -35,11 +37,11 @@ use Rattle.wired_records.proofs.LaidAgain.{room-is}
 use Rattle.wired_records.proofs.Head.{InRoom, from-below, to-below, wire-is, wire-steps, says-ack-list, ack-list-room}
 use Rattle.wired_records.proofs.RoomFor.{room-popped}
 
-module _ {P : Product} (S C M W W₁ T : List ℕ) (X : Standing (lent P S C M W T)) (i j : ℕ)
+module _ {P : Product} (S C M W W₁ T O : List ℕ) (X : Standing (lent P S C M W T O)) (i j : ℕ)
     (from : i < headIn S .stations) (to : j < headIn S .stations) (said : word.Record) (rest : List word.Record)
     (top : recordsOn W (i * 16 + j) ≡ said ∷ rest) (kind : kindOf (said .0) ≡ 2) (popped : Popped W W₁ (i * 16 + j)) where
   abbrev L : Lent
-  L = lent P S C M W T
+  L = lent P S C M W T O
 
   abbrev m : ℕ
   m = indexOf (said .0)
@@ -93,14 +95,14 @@ module _ {P : Product} (S C M W W₁ T : List ℕ) (X : Standing (lent P S C M W
 
   module _ (M′ W₂ : List ℕ) (w : ℕ) (acknowledged : Acknowledged M M′ W₁ W₂ m n (said .1) j (headIn S .stations) w) where
     abbrev L′ : Lent
-    L′ = lent P S C M′ W₂ T
+    L′ = lent P S C M′ W₂ T O
 
     -- the words lie right once the carts are added
-    laid-added : Laid (lent P S C M′ W₁ T)
+    laid-added : Laid (lent P S C M′ W₁ T O)
     unfolding roomRight
     laid-added =
-        let off = laid-pop S C M W T (X .laid) W₁ i j li lj popped in
-        laid-messages S C M W₁ T off M′ (λ k l. rw (acknowledged .rooms) (X .laid .short k l))
+        let off = laid-pop S C M W T O (X .laid) W₁ i j li lj popped in
+        laid-messages S C M W₁ T O off M′ (rw (acknowledged .rooms) (X .laid .texts))
         (λ a b la lb. rw (acknowledged .rooms) (off .rooms a b la lb))
 
     -- the room that the delete says
@@ -115,14 +117,17 @@ module _ {P : Product} (S C M W W₁ T : List ℕ) (X : Standing (lent P S C M W
     pub laid : Laid L′
     laid =
         by-eq known (roomsIn M .named m)
-        (λ e. laid-every S C M′ W₁ T W₂ laid-added j (headIn S .stations) (wordsOf 3 m n 0) lj few (acknowledged .whole e .1) (λ b l. right-room b))
+        (λ e. laid-every S C M′ W₁ T O W₂ laid-added j (headIn S .stations) (wordsOf 3 m n 0) lj few (acknowledged .whole e .1) (λ b l. right-room b))
         (λ e. rw (acknowledged .part e .1) laid-added)
+
+    texts : textOf T O (roomsIn M′) ≡ textOf T O (roomsIn M)
+    texts = ap (textOf T O) (acknowledged .rooms) ∙ texts-acked T O (roomsIn M) m known
 
     -- the floor, when these are its lines
     with-lines : (lines : ℕ → ℕ → List Record) → linesIn W₂ ≡ lines → length W₂ ≡ length W → floorIn L′ ≡ onLines added lines
     with-lines lines same size =
         λ k. floorOf ((lengths-right L′ lengths ∙ sym (lengths-right L (X .lengths))) k) ((words-right L′ laid ∙ sym (words-right L (X .laid))) k)
-        (headIn S) (stationsIn S) (cartsIn C) (acknowledged .rooms k) (textsIn T (acknowledged .rooms k)) (same k)
+        (headIn S) (stationsIn S) (cartsIn C) (acknowledged .rooms k) (texts k) (same k)
       where
         lengths : Lengths L′
         lengths =
@@ -132,6 +137,7 @@ module _ {P : Product} (S C M W W₁ T : List ℕ) (X : Standing (lent P S C M W
               messages = acknowledged .length ∙ X .lengths .messages;
               lines = size ∙ X .lengths .lines;
               texts = X .lengths .texts;
+              store = X .lengths .store;
             }
 
     -- the deletes on the lines

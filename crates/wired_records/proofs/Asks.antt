@@ -25,10 +25,10 @@ use Rattle.wired_records.proofs.Head.{InRoom, from-below, to-below, mul
 use Rattle.wired_records.proofs.AckListIs.{room-for-deletes}
 use Rattle.wired_records.proofs.MulticastSets.{local-entered}
 
-module _ {P : Product} (S C M W W₁ T : List ℕ) (X : Standing (lent P S C M W T)) (i j : ℕ) (from : i < headIn S .stations) (to : j < headIn S .stations)
+module _ {P : Product} (S C M W W₁ T O : List ℕ) (X : Standing (lent P S C M W T O)) (i j : ℕ) (from : i < headIn S .stations) (to : j < headIn S .stations)
     (said : word.Record) (rest : List word.Record) (top : recordsOn W (i * 16 + j) ≡ said ∷ rest) (popped : Popped W W₁ (i * 16 + j)) where
   abbrev L : Lent
-  L = lent P S C M W T
+  L = lent P S C M W T O
 
   abbrev m : ℕ
   m = indexOf (said .0)
@@ -74,5 +74,5 @@ module _ {P : Product} (S C M W W₁ T : List ℕ) (X : Standing (lent P S C M W
   ack-list-asks k =
       let room = ack-list-room L X i j from to said rest top k in (
         (has-room j room, room .below, number-below L X j n m room),
-        ((to-below L X i j from to, few-stations L X, popped .formed), room-for-deletes S C M W W₁ T X i j from to said rest top k popped),
+        ((to-below L X i j from to, few-stations L X, popped .formed), room-for-deletes S C M W W₁ T O X i j from to said rest top k popped),
       )

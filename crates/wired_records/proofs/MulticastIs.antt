@@ -20,11 +20,12 @@ use Rattle.carts.specs.View.{cartsIn}
 use Rattle.messages.specs.View.{roomsIn}
 use Rattle.queue.specs.Rooms.{roomCount}
 use Rattle.queue.specs.Places.{placeAmong}
+use Rattle.store.specs.Texts.{textOf}
 use Rattle.lines.specs.declared.Record as word
 use Rattle.lines.specs.Lines.{recordsOn}
 use Rattle.lines.specs.Post.{Popped}
 use Rattle.view.specs.Records.{kindOf, indexOf, numberOf, linesIn}
-use Rattle.view.specs.View.{Lent, lent, textsIn, floorOf, floorIn}
+use Rattle.view.specs.View.{Lent, lent, floorOf, floorIn}
 use Rattle.view.proofs.LinesView.{pop-view}
 use Rattle.view.proofs.Lengths.{Lengths, lengths-right}
 use Rattle.view.proofs.Laid.{Laid, words-right, laid-pop, laid-carts}
@@ -33,15 +34,15 @@ use Rattle.wired_records.specs.Handled.{Buffered}
 use Rattle.wired_records.proofs.Head.{InRoom, from-below, to-below, wire-is, says-multicast, multicast-room}
 use Rattle.wired_records.proofs.MulticastSets.{row-made, row-small, over-has, over-count, queue-same, copy-same}
 
-module _ {P : Product} (S S′ C C′ M W W₁ T : List ℕ) (X : Standing (lent P S C M W T)) (i j : ℕ)
+module _ {P : Product} (S S′ C C′ M W W₁ T O : List ℕ) (X : Standing (lent P S C M W T O)) (i j : ℕ)
     (from : i < headIn S .stations) (to : j < headIn S .stations) (said : word.Record) (rest : List word.Record)
     (top : recordsOn W (i * 16 + j) ≡ said ∷ rest) (kind : kindOf (said .0) ≡ 1) (popped : Popped W W₁ (i * 16 + j))
     (p q : ℕ) (by-table : Buffered S S′ C C′ M (stationsIn S .local j) (indexOf (said .0)) (numberOf (said .0)) i j p q) where
   abbrev L : Lent
-  L = lent P S C M W T
+  L = lent P S C M W T O
 
   abbrev L′ : Lent
-  L′ = lent P S′ C′ M W₁ T
+  L′ = lent P S′ C′ M W₁ T O
 
   abbrev m : ℕ
   m = indexOf (said .0)
@@ -87,11 +88,12 @@ module _ {P : Product} (S S′ C C′ M W W₁ T : List ℕ) (X : Standing (lent
         messages = X .lengths .messages;
         lines = popped .words ∙ X .lengths .lines;
         texts = X .lengths .texts;
+        store = X .lengths .store;
       }
 
   pub laid : Laid L′
   laid =
-      laid-carts S C M W₁ T (laid-pop S C M W T (X .laid) W₁ i j li lj popped) S′ C′
+      laid-carts S C M W₁ T O (laid-pop S C M W T O (X .laid) W₁ i j li lj popped) S′ C′
       (λ c l. ap (λ (f : ℕ → Bool). f c) (buffered .carts .canonical) ∙ X .laid .canonical c l)
       (λ t l. ap (λ (Y : Stations). Y .local t) (buffered .stations .stations) ∙ X .laid .local t l
       ∙ ap (λ (K : Carts). setOf 64 (λ c. localTo (K .place c) t)) (sym (buffered .carts .carts)))
@@ -131,7 +133,7 @@ module _ {P : Product} (S S′ C C′ M W W₁ T : List ℕ) (X : Standing (lent
   unfolding buffer
   multicast-is =
       (λ k. floorOf ((lengths-right L′ lengths ∙ sym (lengths-right L (X .lengths))) k) ((words-right L′ laid ∙ sym (words-right L (X .laid))) k)
-      (buffered .stations .head k) (stations k) (carts k) (roomsIn M) (textsIn T (roomsIn M)) (lines k))
+      (buffered .stations .head k) (stations k) (carts k) (roomsIn M) (textOf T O (roomsIn M)) (lines k))
       ∙ sym (ap (λ (d : Done). d .floor) multicast-step)
 
   -- the messages' table has the product's rooms

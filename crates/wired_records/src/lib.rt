@@ -103,7 +103,7 @@ fn place_of_new(stations: &[u64], messages: &[u64], m: usize, to: Station, queue
 fn local_row(stations: &[u64], to: Station) -> u64
     requires { ⌜ HasStation (now stations) (to .0) ⌝ }
     ensures { λ r. ⌜ r ≡ stationsIn (now (stations .entry)) .local (to .0) ⌝ }
-    ensures { λ r. ⌜ ((P : Product) (C M W T : List ℕ) → passesForm (limitsOf P) (floorIn (lent P (now (stations .entry)) C M W T)) ≡ true → to .0 < headIn (now (stations .entry)) .stations → r ≡ localRow (floorIn (lent P (now (stations .entry)) C M W T)) (to .0)) ⌝ }
+    ensures { λ r. ⌜ ((P : Product) (C M W T O : List ℕ) → passesForm (limitsOf P) (floorIn (lent P (now (stations .entry)) C M W T O)) ≡ true → to .0 < headIn (now (stations .entry)) .stations → r ≡ localRow (floorIn (lent P (now (stations .entry)) C M W T O)) (to .0)) ⌝ }
 {
     stations::local_of(stations, to)
 }

@@ -7,36 +7,33 @@ use Prim.Native.Nat.{ℕ, _+_, _*_, _≤_, _<_}
 use native.Mathlib.Omega.{arith}
 use lib.Dec.{eqb}
 use lib.ListN.{length}
-use borrow.Author.Tests.{eqb-true, ne-eqb, not-true}
-use Rattle.protocol.specs.Folds.{update}
-use Rattle.protocol.specs.CartSets.{has, setOf}
+use borrow.Author.Tests.{ne-eqb, not-true}
+use Rattle.protocol.specs.CartSets.{setOf}
 use Rattle.protocol.specs.Floor.{Floor, Product, limitsOf, Record, multicast, put, toEvery}
 use Rattle.protocol.specs.Events.{done}
 use Rattle.protocol.specs.Wired.{freeRoom, withMessage, onSend}
-use Rattle.protocol.proofs.Tests.{by-test, by-lt, by-eq, clash, and-left, and-right, and-intro, eqb-self, on-update}
-use Rattle.protocol.proofs.SetLaws.{has-setOf, has-zero}
+use Rattle.protocol.proofs.Tests.{by-test, by-eq, clash, and-left, and-right, and-intro, eqb-self}
 use Rattle.protocol.proofs.Accepted.{MaySend}
-use Rattle.rows.proofs.RowLaws.{cell-past}
 use Rattle.stations.specs.View.{Stations, headIn, stationsIn}
 use Rattle.carts.specs.View.{cartsIn}
 use Rattle.messages.specs.View.{Rooms, roomsIn}
 use Rattle.messages.specs.View as messages
-use Rattle.messages.proofs.TextLaws.{texts-with}
 use Rattle.lines.specs.declared.Record as word
 use Rattle.lines.specs.Lines.{recordsOn, registersIn}
 use Rattle.view.specs.Records.{kindOf, indexOf, numberOf, wordsOf, linesIn, isIn, roomRight}
-use Rattle.view.specs.View.{Lent, lent, everyWord, textsIn, floorOf, floorIn}
+use Rattle.view.specs.View.{Lent, lent, everyWord, floorOf, floorIn}
 use Rattle.view.proofs.Lengths.{Lengths, lengths-right}
 use Rattle.view.proofs.Laid.{Laid, words-right, laid-stations, laid-texts, laid-messages}
 use Rattle.view.proofs.RecordWords.{multicast-is, multicast-right}
 use Rattle.view.proofs.Standing.{Standing, few-stations}
 use Rattle.wired_lines.proofs.EveryView.{every-view, laid-every}
-use Rattle.wired_send.specs.Sent.{Sent}
+use Rattle.wired_send.specs.Sent.{Announced}
+use Rattle.wired_send.proofs.Placed.{Placed, waits-for-all}
 
--- THE ROOMS WITH A NEW MESSAGE in a room that was free
-module _ (R : Rooms) (m s number set waiting octets : ℕ) (free : eqb (R .waiting m) 0 ≡ true) where
+-- THE ROOMS WITH A NEW MESSAGE in a room that was free, wherever the texts lie in the store
+module _ (R : Rooms) (offset : ℕ → ℕ) (m s number set waiting octets place : ℕ) (free : eqb (R .waiting m) 0 ≡ true) where
   abbrev filled : Rooms
-  filled = messages.withMessage R m s number set waiting octets
+  filled = messages.withMessage (messages.withOffsets R offset) m s number set waiting octets place
 
   -- the others are in their rooms as before
   still-in : (i n k : ℕ) → isIn R i n k ≡ true → isIn filled i n k ≡ true
@@ -65,26 +62,15 @@ module _ (R : Rooms) (m s number set waiting octets : ℕ) (free : eqb (R .waiti
   new-in : eqb waiting 0 ≡ false → isIn filled s number m ≡ true
   new-in e = rw (eqb-self m, e, eqb-self s, eqb-self number) refl
 
--- a floor with a station waits for all its stations
-waits-for-all : (n s : ℕ) → s < n → eqb (setOf n (λ t. true)) 0 ≡ false
-waits-for-all n s l =
-    by-test (eqb (setOf n (λ t. true)) 0)
-    (λ e. let z = has-setOf n (λ t. true) s l in let y = eqb-true (setOf n (λ t. true)) 0 e in clash (has 0 s) (rw y at z) (has-zero s))
-    (λ e. e)
-
--- no text is longer than its part: beyond the rooms none is there
-short-texts : (h : ℕ) (M : List ℕ) → length M ≡ h * 6 → ((k : ℕ) → k < h → roomsIn M .length k ≤ 32) → (k : ℕ) → roomsIn M .length k ≤ 32
-unfolding roomsIn
-short-texts h M whole short k = by-lt k h (λ l. short k l) (λ g. let z = cell-past 6 M k 5 (omega arith) in omega arith)
-
-module _ {P : Product} (S S′ C M M′ W W′ T T′ : List ℕ) (m s set : ℕ) (text : List ℕ) (X : Standing (lent P S C M W T))
-    (may : MaySend (limitsOf P) (floorIn (lent P S C M W T)) s set text m)
-    (sent : Sent S S′ M M′ W W′ T T′ m s (headIn S .stations) (stationsIn S .sent s) set text) where
+module _ {P : Product} (S S′ C M M′ W W′ T T′ O O′ : List ℕ) (m s set : ℕ) (text : List ℕ) (X : Standing (lent P S C M W T O))
+    (may : MaySend (limitsOf P) (floorIn (lent P S C M W T O)) s set text m)
+    (placed : Placed (P .held) M M′ T T′ O O′ m s (headIn S .stations) (stationsIn S .sent s) set text)
+    (sent : Announced S S′ W W′ m s (headIn S .stations) (stationsIn S .sent s)) where
   abbrev L : Lent
-  L = lent P S C M W T
+  L = lent P S C M W T O
 
   abbrev L′ : Lent
-  L′ = lent P S′ C M′ W′ T′
+  L′ = lent P S′ C M′ W′ T′ O′
 
   abbrev n : ℕ
   n = headIn S .stations
@@ -93,67 +79,57 @@ module _ {P : Product} (S S′ C M M′ W W′ T T′ : List ℕ) (m s set : ℕ
   number = stationsIn S .sent s
 
   abbrev R′ : Rooms
-  R′ = messages.withMessage (roomsIn M) m s number set (setOf n (λ t. true)) (length text)
+  R′ = messages.withMessage (messages.withOffsets (roomsIn M) (placed .offset)) m s number set (setOf n (λ t. true)) (length text) (placed .place)
 
   few : n ≤ 16
   few = few-stations L X
 
   from : s < 16
-  from = let a = few in let b = may .station in omega arith
+  from = let a = few in let b = may .names .station in omega arith
 
   lengths : Lengths L′
   lengths =
       record {
         stations = sent .words ∙ X .lengths .stations;
         carts = X .lengths .carts;
-        messages = sent .message .words ∙ X .lengths .messages;
+        messages = placed .words ∙ X .lengths .messages;
         lines = sent .lines .words ∙ X .lengths .lines;
-        texts = sent .message .octets ∙ X .lengths .texts;
+        texts = placed .octets ∙ X .lengths .texts;
+        store = placed .whole ∙ X .lengths .store;
       }
-
-  -- "text 0 to 32 octets"
-  still-short : (k : ℕ) → k < P .held → roomsIn M′ .length k ≤ 32
-  still-short k l =
-      rw (sent .message .rooms)
-      (on-update (λ (x : ℕ). x ≤ 32) (roomsIn M .length) m (length text) k (λ q. may .fits) (λ q. X .laid .short k l))
 
   kept-right : (i j : ℕ) → i < 16 → j < 16 → everyWord (roomRight (roomsIn M′) i j) (recordsOn W (i * 16 + j)) ≡ true
   kept-right i j li lj =
-      rw (sent .message .rooms)
-      (all-right (roomsIn M) m s number set (setOf n (λ t. true)) (length text) (may .free) i j (recordsOn W (i * 16 + j)) (X .laid .rooms i j li lj))
+      rw (placed .rooms)
+      (all-right (roomsIn M) (placed .offset) m s number set (setOf n (λ t. true)) (length text) (placed .place) (may .takes .free) i j (recordsOn W (i * 16 + j)) (X .laid .rooms i j li lj))
 
   new-right : (j : ℕ) → roomRight (roomsIn M′) s j (wordsOf 1 m number 0) ≡ true
   new-right j =
-      let lm = may .room in
+      let lm = may .takes .room in
       let lh = P .held-fit in
-      rw (sent .message .rooms)
+      rw (placed .rooms)
       (multicast-right R′ s j m number (omega arith)
-      (new-in (roomsIn M) m s number set (setOf n (λ t. true)) (length text) (may .free) (waits-for-all n s (may .station))))
+      (new-in (roomsIn M) (placed .offset) m s number set (setOf n (λ t. true)) (length text) (placed .place) (may .takes .free) (waits-for-all n s (may .names .station))))
 
   few′ : (t k : ℕ) → t < P .stations → k < 32 → P .held ≤ k → (stationsIn S′ .copy k t ≡ 0) × (stationsIn S′ .queue k t ≡ 0)
   few′ t k lt lk l =
       let was = X .laid .few t k lt lk l in
-      let other : eqb k m ≡ false = ne-eqb k m (λ q. let z = may .room in omega arith) in
+      let other : eqb k m ≡ false = ne-eqb k m (λ q. let z = may .takes .room in omega arith) in
       (ap (λ (Y : Stations). Y .copy k t) (sent .stations) ∙ rw other (was .0), ap (λ (Y : Stations). Y .queue k t) (sent .stations) ∙ rw other (was .1))
 
   pub laid : Laid L′
   laid =
-      laid-every S′ C M′ W T′ W′
-      (laid-messages S′ C M W T′
-      (laid-texts S′ C M W T
-      (laid-stations S C M W T (X .laid) S′ (λ t l. ap (λ (Y : Stations). Y .local t) (sent .stations)) few′)
-      T′)
-      M′ still-short kept-right)
+      laid-every S′ C M′ W T′ O′ W′
+      (laid-messages S′ C M W T′ O′
+      (laid-texts S′ C M W T O
+      (laid-stations S C M W T O (X .laid) S′ (λ t l. ap (λ (Y : Stations). Y .local t) (sent .stations)) few′)
+      T′ O′)
+      M′ (placed .right) kept-right)
       s n (wordsOf 1 m number 0) from few (sent .lines) (λ j l. new-right j)
-
-  texts : textsIn T′ (roomsIn M′) ≡ update (textsIn T (roomsIn M)) m text
-  texts =
-      ap (λ (Y : Rooms). textsIn T′ Y) (sent .message .rooms)
-      ∙ texts-with T T′ text m (roomsIn M .length) (short-texts (P .held) M (X .lengths .messages) (X .laid .short)) (sent .message .here) (sent .message .others)
 
   lines : linesIn W′ ≡ put (toEvery n s) (multicast number) (linesIn W)
   lines =
-      let lm = may .room in
+      let lm = may .takes .room in
       let lh = P .held-fit in
       every-view W W′ s n (wordsOf 1 m number 0) from few (sent .lines)
       ∙ ap (λ (r : Record). put (toEvery n s) r (linesIn W)) (multicast-is (registersIn W) m number (omega arith))
@@ -163,7 +139,7 @@ module _ {P : Product} (S S′ C M M′ W W′ T T′ : List ℕ) (m s set : ℕ
   unfolding withMessage
   message-is =
       λ i. floorOf ((lengths-right L′ lengths ∙ sym (lengths-right L (X .lengths))) i) ((words-right L′ laid ∙ sym (words-right L (X .laid))) i)
-      (sent .top i) (sent .stations i) (cartsIn C) (sent .message .rooms i) (texts i) (lines i)
+      (sent .top i) (sent .stations i) (cartsIn C) (placed .rooms i) (placed .texts i) (lines i)
 
   -- m is the first free room: the whole step, and its report, of whatever kind: no cart is passed over, and a record goes to each station
   pub send-done : freeRoom (limitsOf P) (floorIn L) ≡ some m → (kind : ℕ)

@@ -11,9 +11,9 @@ use Rattle.view.proofs.Laid.{Laid}
 use Rattle.view.proofs.Started.{laid-start, start-view}
 use Rattle.wired_send.specs.Begun.{Begun}
 
-module _ {P : Product} (S S′ C C′ M M′ W W′ T : List ℕ) (n k : ℕ) (sizes : Lengths (lent P S C M W T)) (begun : Begun S S′ C C′ M M′ W W′ n k) where
+module _ {P : Product} (S S′ C C′ M M′ W W′ T O : List ℕ) (n k : ℕ) (sizes : Lengths (lent P S C M W T O)) (begun : Begun S S′ C C′ M M′ W W′ n k) where
   abbrev L′ : Lent
-  L′ = lent P S′ C′ M′ W′ T
+  L′ = lent P S′ C′ M′ W′ T O
 
   lengths : Lengths L′
   lengths =
@@ -23,14 +23,15 @@ module _ {P : Product} (S S′ C C′ M M′ W W′ T : List ℕ) (n k : ℕ) (s
         messages = begun .room-words ∙ sizes .messages;
         lines = begun .lines .words ∙ sizes .lines;
         texts = sizes .texts;
+        store = sizes .store;
       }
 
   pub laid : Laid L′
-  laid = laid-start S′ C′ M′ W W′ T n k (begun .top) (begun .stations) (begun .carts) (begun .canonical) (begun .rooms) (begun .lines) lengths
+  laid = laid-start S′ C′ M′ W W′ T O n k (begun .top) (begun .stations) (begun .carts) (begun .canonical) (begun .rooms) (begun .lines) lengths
 
   -- "it writes all the rest afresh"
   pub start-is : floorIn L′ ≡ justStarted n k
-  start-is = start-view S′ C′ M′ W W′ T n k (begun .top) (begun .stations) (begun .carts) (begun .canonical) (begun .rooms) (begun .lines) lengths
+  start-is = start-view S′ C′ M′ W W′ T O n k (begun .top) (begun .stations) (begun .carts) (begun .canonical) (begun .rooms) (begun .lines) lengths
 
   -- so of an accepted start on any floor
   pub accepted-start : (F : Floor) → floorIn L′ ≡ accept (limitsOf P) F (start n k) .floor

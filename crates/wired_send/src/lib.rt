@@ -1,6 +1,7 @@
 // START, AND SEND (of the wired module) over the lent parts.
 use ids::MessageNumber;
 use ids::Station;
+use products::Bounds;
 use reports::Effect;
 ghost use mathlib.Core.Path.{_≡_};
 ghost use mathlib.Core.Bool.{true};
@@ -16,11 +17,11 @@ ghost use Rattle.stations.specs.View.{rooms, HasHead, HasStation, stationsIn, L
 ghost use Rattle.wired_send.specs.Rooms.{firstFree};
 ghost use Rattle.wired_send.specs.Copies.{withoutCopy, withoutCopies};
 ghost use Rattle.wired_send.specs.Begun.{Begun};
-ghost use Rattle.wired_send.specs.Sent.{Kept, Sent};
+ghost use Rattle.wired_send.specs.Sent.{CanStore, Kept, KeptLong, Announced};
 
 // "Its room is then used again": the first of the rooms whose message no station waits for any more; 32 where every room is taken.
 pub fn free_room(messages: &[u64], held: usize) -> usize
-    requires { ⌜ (held * 6 ≤ length (now messages)) × (held ≤ 32) ⌝ }
+    requires { ⌜ (held * 7 ≤ length (now messages)) × (held ≤ 32) ⌝ }
     ensures { λ r. ⌜ r ≡ firstFree held (now (messages .entry)) ⌝ }
 {
     let mut m: usize = 0;
@@ -82,7 +83,7 @@ pub struct NewMessage {
 }
 
 // The message and its text, into its room: "The initiator keeps the set as sent"; nobody has acknowledged it, and none of n stations has handled
-// its delete.
+// its delete. A text in its room's part has no place in the store.
 fn keep_message(messages: &mut [u64], texts: &mut [u8], n: u64, message: NewMessage, text: &[u8])
     requires { ⌜ HasRoom (now messages) (message .room) × HasText (now texts) (message .room) × (length (now text) ≤ 32) × (n ≤ 16) ⌝ }
     ensures { λ _. ⌜ Kept (now (messages .entry)) (now (messages .exit)) (now (texts .entry)) (now (texts .exit)) (message .room) (message .initiator .0) n (message .number .0) (message .set) (now (text .entry)) ⌝ }
@@ -95,12 +96,56 @@ fn keep_message(messages: &mut [u64], texts: &mut [u8], n: u64, message: NewMess
         message.set,
         sets::all_below(n),
         text.len() as u64,
+        0,
     );
     messages::put_text(texts, message.room, text);
 }
 
-// "Send (station, set, text): the message takes the station's number; a multicast goes on the line to every station", on a floor of n stations
-// in a table that has rows for as many or more.
+// The same of a long text: "Long texts lie in one store". The rows of the held messages say which of its octets are free, so room is made before this
+// message has its row.
+fn keep_long_message(
+    messages: &mut [u64],
+    store: &mut [u8],
+    held: usize,
+    n: u64,
+    message: NewMessage,
+    text: &[u8],
+)
+    requires { ⌜ HasRoom (now messages) (message .room) × (n ≤ 16) × CanStore held (now messages) (now store) (now text) ⌝ }
+    ensures { λ _. ⌜ KeptLong held (now (messages .entry)) (now (messages .exit)) (now (store .entry)) (now (store .exit)) (message .room) (message .initiator .0) n (message .number .0) (message .set) (now (text .entry)) ⌝ }
+{
+    let octets = text.len();
+    let place = store::make_room(messages, store, held, octets);
+    store::put_text(store, place, text);
+    messages::put_message(
+        messages,
+        message.room,
+        message.initiator,
+        message.number,
+        message.set,
+        sets::all_below(n),
+        octets as u64,
+        place as u64,
+    );
+}
+
+// "the message takes the station's number; a multicast goes on the line to every station", on a floor of n stations in a table that has rows for as
+// many or more. No station has a copy of it yet.
+fn announce(stations: &mut [u64], lines: &mut [u64], rows: u64, n: u64, message: NewMessage)
+    requires { ⌜ (length (now stations) ≡ 116 + rows * 116) × (rows ≤ 16) × HasStation (now stations) (message .initiator .0) ⌝ }
+    requires { ⌜ (message .room < rooms) × (message .initiator .0 < 16) × (n ≤ 16) × (message .number .0 < 4294967296) ⌝ }
+    requires { ⌜ (form (now lines) ≡ true) × (used (now lines) + n ≤ capacity (now lines)) ⌝ }
+    ensures { λ _. ⌜ Announced (now (stations .entry)) (now (stations .exit)) (now (lines .entry)) (now (lines .exit)) (message .room) (message .initiator .0) n (message .number .0) ⌝ }
+{
+    let m = message.room;
+    let s = message.initiator;
+    let number = message.number;
+    clear_copies(stations, rows, m);
+    stations::put_sent(stations, s, number.next().0);
+    wired_lines::push_to_every(lines, s, n, view::multicast(m, number));
+}
+
+// "Send (station, set, text)", of a text that its room has a part for.
 pub fn on_send(
     stations: &mut [u64],
     messages: &mut [u64],
@@ -114,15 +159,34 @@ pub fn on_send(
     requires { ⌜ (length (now stations) ≡ 116 + rows * 116) × (rows ≤ 16) × HasStation (now stations) (message .initiator .0) × HasRoom (now messages) (message .room) × HasText (now texts) (message .room) × (length (now text) ≤ 32) ⌝ }
     requires { ⌜ (message .room < rooms) × (message .initiator .0 < 16) × (n ≤ 16) × (message .number .0 < 4294967296) ⌝ }
     requires { ⌜ (form (now lines) ≡ true) × (used (now lines) + n ≤ capacity (now lines)) ⌝ }
-    ensures { λ _. ⌜ Sent (now (stations .entry)) (now (stations .exit)) (now (messages .entry)) (now (messages .exit)) (now (lines .entry)) (now (lines .exit)) (now (texts .entry)) (now (texts .exit)) (message .room) (message .initiator .0) n (message .number .0) (message .set) (now (text .entry)) ⌝ }
+    ensures { λ _. ⌜ Kept (now (messages .entry)) (now (messages .exit)) (now (texts .entry)) (now (texts .exit)) (message .room) (message .initiator .0) n (message .number .0) (message .set) (now (text .entry)) ⌝ }
+    ensures { λ _. ⌜ Announced (now (stations .entry)) (now (stations .exit)) (now (lines .entry)) (now (lines .exit)) (message .room) (message .initiator .0) n (message .number .0) ⌝ }
     ensures { λ r. ⌜ r ≡ putting n ⌝ }
 {
     keep_message(messages, texts, n, message, text);
-    let m = message.room;
-    let s = message.initiator;
-    let number = message.number;
-    clear_copies(stations, rows, m);
-    stations::put_sent(stations, s, number.next().0);
-    wired_lines::push_to_every(lines, s, n, view::multicast(m, number));
+    announce(stations, lines, rows, n, message);
+    reports::putting(n)
+}
+
+// "Kind 9 is a send whose text has 33 to 512 octets": the same step, with the text in the store. Its rows and rooms are those of the product.
+pub fn on_send_long(
+    stations: &mut [u64],
+    messages: &mut [u64],
+    lines: &mut [u64],
+    store: &mut [u8],
+    bounds: Bounds,
+    n: u64,
+    message: NewMessage,
+    text: &[u8],
+) -> Effect
+    requires { ⌜ (length (now stations) ≡ 116 + bounds .stations * 116) × (bounds .stations ≤ 16) × HasStation (now stations) (message .initiator .0) × HasRoom (now messages) (message .room) × CanStore (bounds .held) (now messages) (now store) (now text) ⌝ }
+    requires { ⌜ (message .room < rooms) × (message .initiator .0 < 16) × (n ≤ 16) × (message .number .0 < 4294967296) ⌝ }
+    requires { ⌜ (form (now lines) ≡ true) × (used (now lines) + n ≤ capacity (now lines)) ⌝ }
+    ensures { λ _. ⌜ KeptLong (bounds .held) (now (messages .entry)) (now (messages .exit)) (now (store .entry)) (now (store .exit)) (message .room) (message .initiator .0) n (message .number .0) (message .set) (now (text .entry)) ⌝ }
+    ensures { λ _. ⌜ Announced (now (stations .entry)) (now (stations .exit)) (now (lines .entry)) (now (lines .exit)) (message .room) (message .initiator .0) n (message .number .0) ⌝ }
+    ensures { λ r. ⌜ r ≡ putting n ⌝ }
+{
+    keep_long_message(messages, store, bounds.held, n, message, text);
+    announce(stations, lines, bounds.stations, n, message);
     reports::putting(n)
 }

@@ -18,8 +18,8 @@ use Rattle.dispatcher.proofs.next_radio.Tie as tie
 abbrev Inv-loop : tie.InvT-loop
 Inv-loop stations carts messages queued left₀ left =
     (k : ℕ) × Ahead 64 queued left k
-    × ((P : Product) (W T : List ℕ) (p : passesForm (limitsOf P) (floorIn (lent P stations carts messages W T)) ≡ true) (empty : AllEmpty (floorIn (lent P stations carts messages W T)))
-    → Nobody P stations carts messages W T p empty k)
+    × ((P : Product) (W T O : List ℕ) (p : passesForm (limitsOf P) (floorIn (lent P stations carts messages W T O)) ≡ true) (empty : AllEmpty (floorIn (lent P stations carts messages W T O)))
+    → Nobody P stations carts messages W T O p empty k)
 
 abbrev μ-loop : tie.MeasureT-loop
 μ-loop stations carts messages queued left₀ left = left
@@ -28,7 +28,7 @@ loop-holds : tie.Need-loop-holds Inv-loop μ-loop
 loop-holds c =
     let a = c .before .before .before .args in
     let small : a .queued < 18446744073709551616 = search needs in
-    (0, ahead-start 64 (a .queued) (omega arith) (word-below (a .queued) (omega arith)), λ P W T p empty k l. absurd (omega arith))
+    (0, ahead-start 64 (a .queued) (omega arith) (word-below (a .queued) (omega arith)), λ P W T O p empty k l. absurd (omega arith))
 
 first-requires : tie.Need-first-requires Inv-loop μ-loop
 first-requires c κs = search needs
@@ -46,8 +46,8 @@ returns c =
     let l = c .before .before .before .before .loop in
     let start = c .before .before .before .before .before .before .before .before in
     let a = start .args in
-    λ P W T p empty. radio-found P (a .stations .now) (a .carts .now) (a .messages .now) W T p empty (a .queued) (l .left) (l .inv .0) (start .pre .1) (l .inv .1) (l .inv .2 P W T p empty)
-    (first .first .result) (omega arith) (first .first .ensures) _ (asked .receiver-at .ensures P W T p empty) (omega arith)
+    λ P W T O p empty. radio-found P (a .stations .now) (a .carts .now) (a .messages .now) W T O p empty (a .queued) (l .left) (l .inv .0) (start .pre .1) (l .inv .1) (l .inv .2 P W T O p empty)
+    (first .first .result) (omega arith) (first .first .ensures) _ (asked .receiver-at .ensures P W T O p empty) (omega arith)
 
 without-first-requires : tie.Need-without-first-requires Inv-loop μ-loop
 without-first-requires c κs = search needs
@@ -71,9 +71,9 @@ loop-again c =
     let turn = ahead-turn 64 (a .queued) (l .left) (l .inv .0) (first .first .result) (l .inv .1) (omega arith) (first .first .ensures) (w .result) (w .ensures (first .first .result) (first .first .ensures)) in (
       first .first .result + 1,
       turn .ahead,
-      λ P W T p empty.
-          nobody-found P (a .stations .now) (a .carts .now) (a .messages .now) W T p empty (a .queued) (l .left) (l .inv .0) (start .pre .1) (l .inv .1) (l .inv .2 P W T p empty)
-          (first .first .result) (omega arith) (first .first .ensures) _ (asked .receiver-at .ensures P W T p empty) (omega arith),
+      λ P W T O p empty.
+          nobody-found P (a .stations .now) (a .carts .now) (a .messages .now) W T O p empty (a .queued) (l .left) (l .inv .0) (start .pre .1) (l .inv .1) (l .inv .2 P W T O p empty)
+          (first .first .result) (omega arith) (first .first .ensures) _ (asked .receiver-at .ensures P W T O p empty) (omega arith),
     )
 
 returns-2 : tie.Need-returns-2 Inv-loop μ-loop
@@ -81,7 +81,7 @@ returns-2 c =
     let l = c .before .loop in
     let start = c .before .before .before .before .before in
     let a = start .args in
-    λ P W T p empty. nothing-found P (a .stations .now) (a .carts .now) (a .messages .now) W T p empty (a .queued) (l .left) (l .inv .0) (start .pre .1) (l .inv .1) (l .inv .2 P W T p empty) (omega arith)
+    λ P W T O p empty. nothing-found P (a .stations .now) (a .carts .now) (a .messages .now) W T O p empty (a .queued) (l .left) (l .inv .0) (start .pre .1) (l .inv .1) (l .inv .2 P W T O p empty) (omega arith)
 
 pub next-radio-spec : {M : Type 1} → statement M
 next-radio-spec =

@@ -88,6 +88,12 @@ enum-known-outcome-13 c = search needs
 report-requires-13 : tie.Need-report-requires-13
 report-requires-13 c κs = search needs
 
+enum-known-outcome-14 : tie.Need-enum-known-outcome-14
+enum-known-outcome-14 c = search needs
+
+report-requires-14 : tie.Need-report-requires-14
+report-requires-14 c κs = search needs
+
 returns : tie.Need-returns
 returns c = let f = c .before .before .before .before .args .effect in c .report .ensures ∙ sym (ap (λ (o : Outcome). reportOf o f) (c .before .before .outcome .given .1))
 
@@ -132,6 +138,9 @@ returns-12 c = let f = c .before .before .before .before .args .effect in c .rep
 returns-13 : tie.Need-returns-13
 returns-13 c = let f = c .before .before .before .before .args .effect in c .report13 .ensures ∙ sym (ap (λ (o : Outcome). reportOf o f) (c .before .before .outcome13 .given .1))
 
+returns-14 : tie.Need-returns-14
+returns-14 c = let f = c .before .before .before .before .args .effect in c .report14 .ensures ∙ sym (ap (λ (o : Outcome). reportOf o f) (c .before .before .outcome14 .given .1))
+
 pub report-of-spec : {M : Type 1} → statement M
 report-of-spec =
     tie.close
@@ -163,6 +172,8 @@ report-of-spec =
     report-requires-12
     enum-known-outcome-13
     report-requires-13
+    enum-known-outcome-14
+    report-requires-14
     returns
     returns-2
     returns-3
@@ -175,4 +186,5 @@ report-of-spec =
     returns-10
     returns-11
     returns-12
-    returns-13)
+    returns-13
+    returns-14)

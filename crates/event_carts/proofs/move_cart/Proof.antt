@@ -14,24 +14,24 @@ use Rattle.event_carts.proofs.move_cart.Tie as tie
 
 is-started-requires : tie.Need-is-started-requires
 is-started-requires c κs =
-    let start = c .before .before .before .before .before in
+    let start = c .before .before .before .before .before .before in
     let a = start .args in
-    has-head (lent (start .pre .0) (now (a .stations)) (now (a .carts)) (now (a .messages)) (now (a .lines)) (now (a .texts))) (start .pre .1)
+    has-head (lent (start .pre .0) (now (a .stations)) (now (a .carts)) (now (a .messages)) (now (a .lines)) (now (a .texts)) (now (a .store))) (start .pre .1)
 
 returns : tie.Need-returns
 returns c =
     let asked = c .before in
-    let start = asked .before .before .before .before .before .before in
+    let start = asked .before .before .before .before .before .before .before in
     let a = start .args in
-    λ P R. broken-move (lent P (now (a .stations)) (now (a .carts)) (now (a .messages)) (now (a .lines)) (now (a .texts))) false (unstarted-breaks (lent P (now (a .stations)) (now (a .carts)) (now (a .messages)) (now (a .lines)) (now (a .texts))) _ (asked .is-started .ensures) (c .if1 .taken)) refl (a .cart .0) (a .to .0)
+    λ P R. broken-move (lent P (now (a .stations)) (now (a .carts)) (now (a .messages)) (now (a .lines)) (now (a .texts)) (now (a .store))) false (unstarted-breaks (lent P (now (a .stations)) (now (a .carts)) (now (a .messages)) (now (a .lines)) (now (a .texts)) (now (a .store))) _ (asked .is-started .ensures) (c .if1 .taken)) refl (a .cart .0) (a .to .0)
 
 move-refusal-requires : tie.Need-move-refusal-requires
 move-refusal-requires c κs =
     let begun = c .before in
-    let start = begun .before .before .before .before .before .before .before in
+    let start = begun .before .before .before .before .before .before .before .before in
     let a = start .args in
     let P = start .pre .0 in
-    checks-ready (lent P (now (a .stations)) (now (a .carts)) (now (a .messages)) (now (a .lines)) (now (a .texts))) (started-passes (lent P (now (a .stations)) (now (a .carts)) (now (a .messages)) (now (a .lines)) (now (a .texts))) _ (begun .before .is-started .ensures) (start .pre .1) (begun .if1 .left))
+    checks-ready (lent P (now (a .stations)) (now (a .carts)) (now (a .messages)) (now (a .lines)) (now (a .texts)) (now (a .store))) (started-passes (lent P (now (a .stations)) (now (a .carts)) (now (a .messages)) (now (a .lines)) (now (a .texts)) (now (a .store))) _ (begun .before .is-started .ensures) (start .pre .1) (begun .if1 .left))
 
 same-length : tie.Need-same-length
 same-length c = search needs
@@ -40,28 +40,28 @@ returns-2 : tie.Need-returns-2
 returns-2 c =
     let checked = c .before in
     let begun = checked .before .before in
-    let start = begun .before .before .before .before .before .before .before in
+    let start = begun .before .before .before .before .before .before .before .before in
     let a = start .args in
-    λ P R. meets-no (lent P (now (a .stations)) (now (a .carts)) (now (a .messages)) (now (a .lines)) (now (a .texts))) (move (a .cart .0) (a .to .0)) _ (started-passes (lent P (now (a .stations)) (now (a .carts)) (now (a .messages)) (now (a .lines)) (now (a .texts))) _ (begun .before .is-started .ensures) R (begun .if1 .left)) (checked .move-refusal .ensures P (now (a .messages)) (now (a .lines)) (now (a .texts))) (c .if2 .taken)
+    λ P R. meets-no (lent P (now (a .stations)) (now (a .carts)) (now (a .messages)) (now (a .lines)) (now (a .texts)) (now (a .store))) (move (a .cart .0) (a .to .0)) _ (started-passes (lent P (now (a .stations)) (now (a .carts)) (now (a .messages)) (now (a .lines)) (now (a .texts)) (now (a .store))) _ (begun .before .is-started .ensures) R (begun .if1 .left)) (checked .move-refusal .ensures P (now (a .messages)) (now (a .lines)) (now (a .texts)) (now (a .store))) (c .if2 .taken)
 
 station-of-requires : tie.Need-station-of-requires
 station-of-requires c κs =
     let free = c .before in
     let begun = free .before .before .before in
-    let start = begun .before .before .before .before .before .before .before in
+    let start = begun .before .before .before .before .before .before .before .before in
     let a = start .args in
     let P = start .pre .0 in
-    has-row P (now (a .stations)) (now (a .carts)) (now (a .messages)) (now (a .lines)) (now (a .texts)) (a .cart .0) (a .to .0) (started-passes (lent P (now (a .stations)) (now (a .carts)) (now (a .messages)) (now (a .lines)) (now (a .texts))) _ (begun .before .is-started .ensures) (start .pre .1) (begun .if1 .left)) (sym (free .if2 .left) ∙ free .before .move-refusal .ensures P (now (a .messages)) (now (a .lines)) (now (a .texts)))
+    has-row P (now (a .stations)) (now (a .carts)) (now (a .messages)) (now (a .lines)) (now (a .texts)) (now (a .store)) (a .cart .0) (a .to .0) (started-passes (lent P (now (a .stations)) (now (a .carts)) (now (a .messages)) (now (a .lines)) (now (a .texts)) (now (a .store))) _ (begun .before .is-started .ensures) (start .pre .1) (begun .if1 .left)) (sym (free .if2 .left) ∙ free .before .move-refusal .ensures P (now (a .messages)) (now (a .lines)) (now (a .texts)) (now (a .store)))
 
 on-move-requires : tie.Need-on-move-requires
 on-move-requires c κs =
     let found = c .before .before in
     let free = found .before .before in
     let begun = free .before .before .before in
-    let start = begun .before .before .before .before .before .before .before in
+    let start = begun .before .before .before .before .before .before .before .before in
     let a = start .args in
     let P = start .pre .0 in
-    move-asks P (now (a .stations)) (now (a .carts)) (now (a .messages)) (now (a .lines)) (now (a .texts)) (a .cart .0) (a .to .0) (started-passes (lent P (now (a .stations)) (now (a .carts)) (now (a .messages)) (now (a .lines)) (now (a .texts))) _ (begun .before .is-started .ensures) (start .pre .1) (begun .if1 .left)) (sym (free .if2 .left) ∙ free .before .move-refusal .ensures P (now (a .messages)) (now (a .lines)) (now (a .texts))) _ (found .station-of .ensures)
+    move-asks P (now (a .stations)) (now (a .carts)) (now (a .messages)) (now (a .lines)) (now (a .texts)) (now (a .store)) (a .cart .0) (a .to .0) (started-passes (lent P (now (a .stations)) (now (a .carts)) (now (a .messages)) (now (a .lines)) (now (a .texts)) (now (a .store))) _ (begun .before .is-started .ensures) (start .pre .1) (begun .if1 .left)) (sym (free .if2 .left) ∙ free .before .move-refusal .ensures P (now (a .messages)) (now (a .lines)) (now (a .texts)) (now (a .store))) _ (found .station-of .ensures)
 
 same-length-2 : tie.Need-same-length-2
 same-length-2 c = search needs
@@ -75,9 +75,9 @@ returns-3 c =
     let found = moved .before .before .before in
     let free = found .before .before in
     let begun = free .before .before .before in
-    let start = begun .before .before .before .before .before .before .before in
+    let start = begun .before .before .before .before .before .before .before .before in
     let a = start .args in
-    λ P R. meets-move P (now (a .stations)) (now (a .carts)) (now (a .messages)) (now (a .lines)) (now (a .texts)) (a .cart .0) (a .to .0) (started-passes (lent P (now (a .stations)) (now (a .carts)) (now (a .messages)) (now (a .lines)) (now (a .texts))) _ (begun .before .is-started .ensures) R (begun .if1 .left)) (sym (free .if2 .left) ∙ free .before .move-refusal .ensures P (now (a .messages)) (now (a .lines)) (now (a .texts))) _ (found .station-of .ensures) _ _ _ (moved .on-move .ensures .0) (moved .on-move .ensures .1)
+    λ P R. meets-move P (now (a .stations)) (now (a .carts)) (now (a .messages)) (now (a .lines)) (now (a .texts)) (now (a .store)) (a .cart .0) (a .to .0) (started-passes (lent P (now (a .stations)) (now (a .carts)) (now (a .messages)) (now (a .lines)) (now (a .texts)) (now (a .store))) _ (begun .before .is-started .ensures) R (begun .if1 .left)) (sym (free .if2 .left) ∙ free .before .move-refusal .ensures P (now (a .messages)) (now (a .lines)) (now (a .texts)) (now (a .store))) _ (found .station-of .ensures) _ _ _ (moved .on-move .ensures .0) (moved .on-move .ensures .1)
 
 pub move-cart-spec : {M : Type 1} → statement M
 move-cart-spec =

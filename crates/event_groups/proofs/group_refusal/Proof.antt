@@ -18,8 +18,8 @@ first-of-requires c κs = search needs
 returns : tie.Need-returns
 returns c =
     let a = c .before .before .before .before .before .args in
-    λ P M W T. group-checks P (floorIn (lent P (now (a .stations)) (now (a .carts)) M W T)) (a .group) (a .set) _ _ _
-    (c .before .before .named-refusal .ensures P M W T) (c .before .number-refusal .ensures) (c .first-of .ensures)
+    λ P M W T O. group-checks P (floorIn (lent P (now (a .stations)) (now (a .carts)) M W T O)) (a .group) (a .set) _ _ _
+    (c .before .before .named-refusal .ensures P M W T O) (c .before .number-refusal .ensures) (c .first-of .ensures)
 
 pub group-refusal-spec : {M : Type 1} → statement M
 group-refusal-spec = tie.close (tie.spec named-refusal-requires number-refusal-requires first-of-requires returns)

@@ -11,17 +11,17 @@ told-of-requires c κs = search needs
 returns : tie.Need-returns
 returns c =
     let told = c .before in
-    let start = told .before .before .before in
+    let start = told .before .before .before .before .before in
     let a = start .args in
-    lays-nothing (now (a .texts)) (a .handed) (told .told-of .result) (told .told-of .ensures) (now (a .buffer)) (c .if1 .taken)
+    lays-nothing (now (a .messages)) (now (a .texts)) (now (a .store)) (a .handed) (told .told-of .result) (told .told-of .ensures) (now (a .buffer)) (c .if1 .taken)
 
 copy-text-requires : tie.Need-copy-text-requires
 copy-text-requires c κs =
     let accepted = c .before in
     let told = accepted .before in
-    let start = told .before .before .before in
+    let start = told .before .before .before .before .before in
     let a = start .args in
-    copy-asks (now (a .texts)) (a .handed) (told .told-of .result) (told .told-of .ensures) (now (a .buffer)) (start .pre) (accepted .if1 .left)
+    copy-asks (now (a .messages)) (now (a .texts)) (now (a .store)) (a .handed) (told .told-of .result) (told .told-of .ensures) (now (a .buffer)) (start .pre) (accepted .if1 .left)
 
 same-length : tie.Need-same-length
 same-length c = search needs
@@ -31,9 +31,9 @@ returns-2 c =
     let copied = c .before .before in
     let accepted = copied .before .before in
     let told = accepted .before in
-    let start = told .before .before .before in
+    let start = told .before .before .before .before .before in
     let a = start .args in
-    lays-text (now (a .texts)) (a .handed) (told .told-of .result) (told .told-of .ensures) (now (a .buffer)) (start .pre) (accepted .if1 .left) _ (copied .copy-text .ensures .0)
+    lays-text (now (a .messages)) (now (a .texts)) (now (a .store)) (a .handed) (told .told-of .result) (told .told-of .ensures) (now (a .buffer)) (start .pre) (accepted .if1 .left) _ (copied .copy-text .ensures .0)
 
 pub deliver-spec : {M : Type 1} → statement M
 deliver-spec = tie.close (tie.spec told-of-requires returns copy-text-requires same-length returns-2)

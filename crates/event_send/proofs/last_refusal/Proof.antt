@@ -19,8 +19,8 @@ first-of-requires c κs = search needs
 returns : tie.Need-returns
 returns c =
     let a = c .before .before .before .before .before .args in
-    λ P C M W T e found. last-checks (limitsOf P) (floorIn (lent P (now (a .stations)) C M W T)) (a .station .0) (now (a .text)) _ _ _
-    (c .before .before .text-refusal .ensures) (c .before .room-refusal .ensures P C M W T e found) (c .first-of .ensures)
+    λ P C M W T O e found. last-checks (limitsOf P) (floorIn (lent P (now (a .stations)) C M W T O)) (a .station .0) (now (a .text)) _ _ _
+    (c .before .before .text-refusal .ensures) (c .before .room-refusal .ensures P C M W T O e found) (c .first-of .ensures)
 
 pub last-refusal-spec : {M : Type 1} → statement M
 last-refusal-spec = tie.close (tie.spec text-refusal-requires room-refusal-requires first-of-requires returns)

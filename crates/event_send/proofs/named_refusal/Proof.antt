@@ -20,7 +20,7 @@ returns c =
     let below = c .before in
     let counted = below .before in
     let a = counted .before .before .before .args in
-    λ P M W T. named-stranger (now (a .stations)) (now (a .carts)) (a .set) (below .all-below .result) P M W T (all-of _ _ _ (below .all-below .ensures) (counted .cart-count .ensures)) (c .if1 .taken)
+    λ P M W T O. named-stranger (now (a .stations)) (now (a .carts)) (a .set) (below .all-below .result) P M W T O (all-of _ _ _ (below .all-below .ensures) (counted .cart-count .ensures)) (c .if1 .taken)
 
 all-entered-requires : tie.Need-all-entered-requires
 all-entered-requires c κs =
@@ -40,7 +40,7 @@ returns-2 c =
     let counted = below .before in
     let s = counted .before .before .before in
     let a = s .args in
-    λ P M W T. named-passes (now (a .stations)) (now (a .carts)) (a .set) (below .all-below .result) P M W T (all-of _ _ _ (below .all-below .ensures) (counted .cart-count .ensures)) (omega (arith, on .if1 .left)) (s .pre .2) (walked .all-entered .result) (walked .all-entered .ensures) (c .if2 .taken)
+    λ P M W T O. named-passes (now (a .stations)) (now (a .carts)) (a .set) (below .all-below .result) P M W T O (all-of _ _ _ (below .all-below .ensures) (counted .cart-count .ensures)) (omega (arith, on .if1 .left)) (s .pre .2) (walked .all-entered .result) (walked .all-entered .ensures) (c .if2 .taken)
 
 returns-3 : tie.Need-returns-3
 returns-3 c =
@@ -50,7 +50,7 @@ returns-3 c =
     let counted = below .before in
     let s = counted .before .before .before in
     let a = s .args in
-    λ P M W T. named-outside (now (a .stations)) (now (a .carts)) (a .set) (below .all-below .result) P M W T (all-of _ _ _ (below .all-below .ensures) (counted .cart-count .ensures)) (omega (arith, on .if1 .left)) (s .pre .2) (walked .all-entered .result) (walked .all-entered .ensures) (c .if2 .left)
+    λ P M W T O. named-outside (now (a .stations)) (now (a .carts)) (a .set) (below .all-below .result) P M W T O (all-of _ _ _ (below .all-below .ensures) (counted .cart-count .ensures)) (omega (arith, on .if1 .left)) (s .pre .2) (walked .all-entered .result) (walked .all-entered .ensures) (c .if2 .left)
 
 pub named-refusal-spec : {M : Type 1} → statement M
 named-refusal-spec = tie.close (tie.spec cart-count-requires all-below-requires returns all-entered-requires returns-2 returns-3)

@@ -2,7 +2,7 @@
 use mathlib.Core.Path.{refl}
 use denote.Ref.{now}
 use borrow.Author.Needs.{needs}
-use Rattle.event_send.proofs.SendMeets.{on-send-asked, was-sent}
+use Rattle.event_send.proofs.SendMeets.{on-send-asked, was-kept, was-posted}
 use Rattle.event_send.proofs.post.Statement.{statement}
 use Rattle.event_send.proofs.post.Tie as tie
 
@@ -16,7 +16,7 @@ on-send-requires : tie.Need-on-send-requires
 on-send-requires c κs =
     let start = c .before .before .before .before .before .before .before .before .before .before .before .before .before in
     let a = start .args in
-    on-send-asked (now (a .stations)) (now (a .messages)) (now (a .lines)) (now (a .texts)) (a .m) (a .station .0) (now (a .text)) _ _ (c .before .before .before .before .before .before .station-count .ensures) (c .before .before .before .before .sent-of .ensures) (a .rows) (start .pre)
+    on-send-asked (now (a .stations)) (now (a .messages)) (now (a .lines)) (a .m) (a .station .0) (now (a .text)) _ _ (c .before .before .before .before .before .before .station-count .ensures) (c .before .before .before .before .sent-of .ensures) (now (a .texts)) (a .rows) (start .pre)
 
 same-length : tie.Need-same-length
 same-length c = search needs
@@ -34,7 +34,11 @@ returns : tie.Need-returns
 returns c =
     let a = c .before .before .before .before .before .before .before .before .before .before .before .before .before .before .before .before .before .before .before .before .before .before .args in
     let sent = c .before .before .before .before .before .before .before .before .on-send .ensures in
-    was-sent (now (a .stations)) (now (a .messages)) (now (a .lines)) (now (a .texts)) (a .m) (a .station .0) (now (a .text)) _ _ (c .before .before .before .before .before .before .before .before .before .before .before .before .before .before .before .station-count .ensures) (c .before .before .before .before .before .before .before .before .before .before .before .before .before .sent-of .ensures) _ _ _ _ (a .set) _ _ refl (sent .0) (sent .1)
+    let n = c .before .before .before .before .before .before .before .before .before .before .before .before .before .before .before .station-count .ensures in
+    let number = c .before .before .before .before .before .before .before .before .before .before .before .before .before .sent-of .ensures in (
+      was-kept (now (a .stations)) (now (a .messages)) (now (a .lines)) (a .m) (a .station .0) (now (a .text)) _ _ n number (sent .0),
+      was-posted (now (a .stations)) (now (a .messages)) (now (a .lines)) (a .m) (a .station .0) (now (a .text)) _ _ n number _ _ refl (sent .1 .0) (sent .1 .1),
+    )
 
 pub post-spec : {M : Type 1} → statement M
 post-spec =

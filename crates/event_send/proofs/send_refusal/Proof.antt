@@ -15,7 +15,7 @@ returns : tie.Need-returns
 returns c =
     let start = c .before .before .before .before .before .before in
     let a = start .args in
-    λ P M W T e found. send-no-station P (floorIn (lent P (now (a .stations)) (now (a .carts)) M W T)) (a .station .0) (a .set) (now (a .text)) (start .pre .4) (omega (arith, c .before .before .station-count .ensures, c .if1 .taken))
+    λ P M W T O e found. send-no-station P (floorIn (lent P (now (a .stations)) (now (a .carts)) M W T O)) (a .station .0) (a .set) (now (a .text)) (start .pre .4) (omega (arith, c .before .before .station-count .ensures, c .if1 .taken))
 
 set-refusal-requires : tie.Need-set-refusal-requires
 set-refusal-requires c κs = search needs
@@ -32,10 +32,10 @@ returns-2 c =
     let set = c .before .before .set-refusal in
     let start = c .before .before .before .before .before .before .before .before .before in
     let a = start .args in
-    λ P M W T e found.
+    λ P M W T O e found.
     c .first-of .ensures
-    ∙ send-checks P (floorIn (lent P (now (a .stations)) (now (a .carts)) M W T)) (a .station .0) (a .set) (now (a .text)) (start .pre .4) (omega (arith, c .before .before .before .before .before .station-count .ensures, c .before .before .before .if1 .left)) (set .result) (rest .result)
-    (set .ensures P M W T) (rest .ensures P (now (a .carts)) M W T e found)
+    ∙ send-checks P (floorIn (lent P (now (a .stations)) (now (a .carts)) M W T O)) (a .station .0) (a .set) (now (a .text)) (start .pre .4) (omega (arith, c .before .before .before .before .before .station-count .ensures, c .before .before .before .if1 .left)) (set .result) (rest .result)
+    (set .ensures P M W T O) (rest .ensures P (now (a .carts)) M W T O e found)
 
 pub send-refusal-spec : {M : Type 1} → statement M
 send-refusal-spec = tie.close (tie.spec station-count-requires returns set-refusal-requires last-refusal-requires first-of-requires returns-2)

@@ -11,7 +11,7 @@ use Rattle.event_start.proofs.start.Tie as tie
 
 lengths-ok-requires : tie.Need-lengths-ok-requires
 lengths-ok-requires c κs =
-    let start = c .before .before .before .before .before .before .before .before .before in
+    let start = c .before .before .before .before .before .before .before .before .before .before in
     start .pre
 
 same-length : tie.Need-same-length
@@ -28,18 +28,18 @@ same-length-4 c = search needs
 
 returns : tie.Need-returns
 returns c =
-    let start = c .before .before .before .before .before .before .before .before .before .before .before in
+    let start = c .before .before .before .before .before .before .before .before .before .before .before .before in
     let a = start .args in
-    λ P e. start-lengths P (now (a .stations)) (now (a .carts)) (now (a .messages)) (now (a .lines)) (now (a .texts)) (a .n) (a .k) _ (c .before .lengths-ok .ensures P e) (not-true _ (c .if1 .taken))
+    λ P e. start-lengths P (now (a .stations)) (now (a .carts)) (now (a .messages)) (now (a .lines)) (now (a .texts)) (now (a .store)) (a .n) (a .k) _ (c .before .lengths-ok .ensures P e) (not-true _ (c .if1 .taken))
 
 mark-of-requires : tie.Need-mark-of-requires
 mark-of-requires c κs =
     let sized = c .before in
-    let start = sized .before .before .before .before .before .before .before .before .before .before .before in
+    let start = sized .before .before .before .before .before .before .before .before .before .before .before .before in
     let a = start .args in
     let P = productOf (a .bounds) (start .pre) in
     let e = its-numbers (a .bounds) (start .pre) in
-    has-head P (now (a .stations)) (now (a .carts)) (now (a .messages)) (now (a .lines)) (now (a .texts)) (a .n) (a .k) _ (sized .before .lengths-ok .ensures P e) (not-false _ (sized .if1 .left))
+    has-head P (now (a .stations)) (now (a .carts)) (now (a .messages)) (now (a .lines)) (now (a .texts)) (now (a .store)) (a .n) (a .k) _ (sized .before .lengths-ok .ensures P e) (not-false _ (sized .if1 .left))
 
 same-length-5 : tie.Need-same-length-5
 same-length-5 c = search needs
@@ -56,9 +56,9 @@ same-length-8 c = search needs
 returns-2 : tie.Need-returns-2
 returns-2 c =
     let sized = c .before .before .before in
-    let start = sized .before .before .before .before .before .before .before .before .before .before .before in
+    let start = sized .before .before .before .before .before .before .before .before .before .before .before .before in
     let a = start .args in
-    λ P e. start-begun P (now (a .stations)) (now (a .carts)) (now (a .messages)) (now (a .lines)) (now (a .texts)) (a .n) (a .k) _ (sized .before .lengths-ok .ensures P e) (not-false _ (sized .if1 .left)) (sym (c .before .mark-of .ensures) ∙ c .if2 .taken)
+    λ P e. start-begun P (now (a .stations)) (now (a .carts)) (now (a .messages)) (now (a .lines)) (now (a .texts)) (now (a .store)) (a .n) (a .k) _ (sized .before .lengths-ok .ensures P e) (not-false _ (sized .if1 .left)) (sym (c .before .mark-of .ensures) ∙ c .if2 .taken)
 
 wrong-size-requires : tie.Need-wrong-size-requires
 wrong-size-requires c κs = search needs
@@ -80,20 +80,20 @@ returns-3 c =
     let small = c in
     let fresh = small .before .before in
     let sized = fresh .before .before .before in
-    let start = sized .before .before .before .before .before .before .before .before .before .before .before in
+    let start = sized .before .before .before .before .before .before .before .before .before .before .before .before in
     let a = start .args in
-    λ P e. start-size P (now (a .stations)) (now (a .carts)) (now (a .messages)) (now (a .lines)) (now (a .texts)) (a .n) (a .k) _ (sized .before .lengths-ok .ensures P e) (not-false _ (sized .if1 .left)) (λ z. fresh .if2 .left (fresh .before .mark-of .ensures ∙ z)) _ (small .before .wrong-size .ensures (limitsOf P) (e .stations-are) (e .carts-are)) (small .if3 .taken)
+    λ P e. start-size P (now (a .stations)) (now (a .carts)) (now (a .messages)) (now (a .lines)) (now (a .texts)) (now (a .store)) (a .n) (a .k) _ (sized .before .lengths-ok .ensures P e) (not-false _ (sized .if1 .left)) (λ z. fresh .if2 .left (fresh .before .mark-of .ensures ∙ z)) _ (small .before .wrong-size .ensures (limitsOf P) (e .stations-are) (e .carts-are)) (small .if3 .taken)
 
 start-floor-requires : tie.Need-start-floor-requires
 start-floor-requires c κs =
     let small = c .before .before .before .before in
     let fresh = small .before .before in
     let sized = fresh .before .before .before in
-    let start = sized .before .before .before .before .before .before .before .before .before .before .before in
+    let start = sized .before .before .before .before .before .before .before .before .before .before .before .before in
     let a = start .args in
     let P = productOf (a .bounds) (start .pre) in
     let e = its-numbers (a .bounds) (start .pre) in
-    start-fits P (now (a .stations)) (now (a .carts)) (now (a .messages)) (now (a .lines)) (now (a .texts)) (a .n) (a .k) _ (sized .before .lengths-ok .ensures P e) (not-false _ (sized .if1 .left)) (λ z. fresh .if2 .left (fresh .before .mark-of .ensures ∙ z)) _ (small .before .wrong-size .ensures (limitsOf P) (e .stations-are) (e .carts-are))
+    start-fits P (now (a .stations)) (now (a .carts)) (now (a .messages)) (now (a .lines)) (now (a .texts)) (now (a .store)) (a .n) (a .k) _ (sized .before .lengths-ok .ensures P e) (not-false _ (sized .if1 .left)) (λ z. fresh .if2 .left (fresh .before .mark-of .ensures ∙ z)) _ (small .before .wrong-size .ensures (limitsOf P) (e .stations-are) (e .carts-are))
 
 nothing-requires : tie.Need-nothing-requires
 nothing-requires c κs = search needs
@@ -116,9 +116,9 @@ returns-4 c =
     let small = begun .before .before .before .before .before in
     let fresh = small .before .before in
     let sized = fresh .before .before .before in
-    let start = sized .before .before .before .before .before .before .before .before .before .before .before in
+    let start = sized .before .before .before .before .before .before .before .before .before .before .before .before in
     let a = start .args in
-    λ P e. meets-start P (now (a .stations)) (now (a .carts)) (now (a .messages)) (now (a .lines)) (now (a .texts)) (a .n) (a .k) _ (sized .before .lengths-ok .ensures P e) (not-false _ (sized .if1 .left)) (λ z. fresh .if2 .left (fresh .before .mark-of .ensures ∙ z)) _ (small .before .wrong-size .ensures (limitsOf P) (e .stations-are) (e .carts-are)) (small .if3 .left) _ _ _ _ _ (begun .start-floor .ensures) (c .nothing .ensures)
+    λ P e. meets-start P (now (a .stations)) (now (a .carts)) (now (a .messages)) (now (a .lines)) (now (a .texts)) (now (a .store)) (a .n) (a .k) _ (sized .before .lengths-ok .ensures P e) (not-false _ (sized .if1 .left)) (λ z. fresh .if2 .left (fresh .before .mark-of .ensures ∙ z)) _ (small .before .wrong-size .ensures (limitsOf P) (e .stations-are) (e .carts-are)) (small .if3 .left) _ _ _ _ _ (begun .start-floor .ensures) (c .nothing .ensures)
 
 pub start-spec : {M : Type 1} → statement M
 start-spec =

@@ -17,13 +17,13 @@ station-count-requires : tie.Need-station-count-requires
 station-count-requires c κs =
     let a = c .before .before .before .before .before .before .before .before .before .args in
     let p = c .before .before .before .before .before .before .before .before .before .pre in
-    has-head (p .product) (now (a .stations)) (now (a .carts)) (now (a .messages)) (p .lines) (now (a .lines)) (p .texts) (a .from .0) (a .to .0) (a .said) (p .taken)
+    has-head (p .product) (now (a .stations)) (now (a .carts)) (now (a .messages)) (p .lines) (now (a .lines)) (p .texts) (p .store) (a .from .0) (a .to .0) (a .said) (p .taken)
 
 on-ack-list-requires : tie.Need-on-ack-list-requires
 on-ack-list-requires c κs =
     let a = c .before .before .before .before .before .before .before .before .before .before .before .before .args in
     let p = c .before .before .before .before .before .before .before .before .before .before .before .before .pre in
-    ack-list-asks (p .product) (now (a .stations)) (now (a .carts)) (now (a .messages)) (p .lines) (now (a .lines)) (p .texts) (a .from .0) (a .to .0) (a .said) (p .taken) (sym (c .before .before .before .before .before .before .before .kind-of .ensures) ∙ c .before .before .before .before .if2 .taken) _ (c .before .before .station-count .ensures)
+    ack-list-asks (p .product) (now (a .stations)) (now (a .carts)) (now (a .messages)) (p .lines) (now (a .lines)) (p .texts) (p .store) (a .from .0) (a .to .0) (a .said) (p .taken) (sym (c .before .before .before .before .before .before .before .kind-of .ensures) ∙ c .before .before .before .before .if2 .taken) _ (c .before .before .station-count .ensures)
 
 same-length : tie.Need-same-length
 same-length c = search needs
@@ -37,13 +37,13 @@ same-length-3 c = search needs
 returns : tie.Need-returns
 returns c =
     let a = c .before .before .before .before .before .before .before .before .before .before .before .before .before .before .before .before .before .args in
-    λ P W T off. meets-ack-list P (now (a .stations)) (now (a .carts)) (now (a .messages)) W (now (a .lines)) T (a .from .0) (a .to .0) (a .said) off (sym (c .before .before .before .before .before .before .before .before .before .before .before .before .kind-of .ensures) ∙ c .before .before .before .before .before .before .before .before .before .if2 .taken) _ _ _ _ _ (c .before .before .before .before .before .before .before .before .before .before .number-of .ensures) (c .before .before .before .before .before .before .before .station-count .ensures) (c .before .before .before .before .on-ack-list .ensures .0) (c .before .before .before .before .on-ack-list .ensures .1)
+    λ P W T O off. meets-ack-list P (now (a .stations)) (now (a .carts)) (now (a .messages)) W (now (a .lines)) T O (a .from .0) (a .to .0) (a .said) off (sym (c .before .before .before .before .before .before .before .before .before .before .before .before .kind-of .ensures) ∙ c .before .before .before .before .before .before .before .before .before .if2 .taken) _ _ _ _ _ (c .before .before .before .before .before .before .before .before .before .before .number-of .ensures) (c .before .before .before .before .before .before .before .station-count .ensures) (c .before .before .before .before .on-ack-list .ensures .0) (c .before .before .before .before .on-ack-list .ensures .1)
 
 on-delete-requires : tie.Need-on-delete-requires
 on-delete-requires c κs =
     let a = c .before .before .before .before .before .before .before .before .before .before .args in
     let p = c .before .before .before .before .before .before .before .before .before .before .pre in
-    delete-asks (p .product) (now (a .stations)) (now (a .carts)) (now (a .messages)) (p .lines) (now (a .lines)) (p .texts) (a .from .0) (a .to .0) (a .said) (p .taken) (sym (c .before .before .before .before .before .kind-of .ensures) ∙ c .before .if3 .taken)
+    delete-asks (p .product) (now (a .stations)) (now (a .carts)) (now (a .messages)) (p .lines) (now (a .lines)) (p .texts) (p .store) (a .from .0) (a .to .0) (a .said) (p .taken) (sym (c .before .before .before .before .before .kind-of .ensures) ∙ c .before .if3 .taken)
 
 same-length-4 : tie.Need-same-length-4
 same-length-4 c = search needs
@@ -51,7 +51,7 @@ same-length-4 c = search needs
 returns-2 : tie.Need-returns-2
 returns-2 c =
     let a = c .before .before .before .before .before .before .before .before .before .before .before .before .before .args in
-    λ P W T off. meets-delete P (now (a .stations)) (now (a .carts)) (now (a .messages)) W (now (a .lines)) T (a .from .0) (a .to .0) (a .said) off (sym (c .before .before .before .before .before .before .before .before .kind-of .ensures) ∙ c .before .before .before .before .if3 .taken) _ _ _ (c .before .before .before .before .before .before .number-of .ensures) (c .before .before .on-delete .ensures .0) (c .before .before .on-delete .ensures .1)
+    λ P W T O off. meets-delete P (now (a .stations)) (now (a .carts)) (now (a .messages)) W (now (a .lines)) T O (a .from .0) (a .to .0) (a .said) off (sym (c .before .before .before .before .before .before .before .before .kind-of .ensures) ∙ c .before .before .before .before .if3 .taken) _ _ _ (c .before .before .before .before .before .before .number-of .ensures) (c .before .before .on-delete .ensures .0) (c .before .before .on-delete .ensures .1)
 
 on-multicast-requires : tie.Need-on-multicast-requires
 on-multicast-requires c κs =
@@ -61,7 +61,7 @@ on-multicast-requires c κs =
     let few = c .before .before .before .before .before .before .if1 .taken in
     let two = c .before .before .before .before .if2 .left in
     let three = c .before .before .before .if3 .left in
-    multicast-asks (p .product) (now (a .stations)) (now (a .carts)) (now (a .messages)) (p .lines) (now (a .lines)) (p .texts) (a .from .0) (a .to .0) (a .said) (p .taken) (is-multicast (p .product) (now (a .stations)) (now (a .carts)) (now (a .messages)) (p .lines) (now (a .lines)) (p .texts) (a .from .0) (a .to .0) (a .said) (p .taken) (omega arith) (λ z. two (k ∙ z)) (λ z. three (k ∙ z)))
+    multicast-asks (p .product) (now (a .stations)) (now (a .carts)) (now (a .messages)) (p .lines) (now (a .lines)) (p .texts) (p .store) (a .from .0) (a .to .0) (a .said) (p .taken) (is-multicast (p .product) (now (a .stations)) (now (a .carts)) (now (a .messages)) (p .lines) (now (a .lines)) (p .texts) (p .store) (a .from .0) (a .to .0) (a .said) (p .taken) (omega arith) (λ z. two (k ∙ z)) (λ z. three (k ∙ z)))
 
 same-length-5 : tie.Need-same-length-5
 same-length-5 c = search needs
@@ -79,7 +79,7 @@ returns-3 c =
     let few = c .before .before .before .before .before .before .before .before .before .before .before .if1 .taken in
     let two = c .before .before .before .before .before .before .before .before .before .if2 .left in
     let three = c .before .before .before .before .before .before .before .before .if3 .left in
-    λ P W T off. meets-multicast P (now (a .stations)) (now (a .carts)) (now (a .messages)) W (now (a .lines)) T (a .from .0) (a .to .0) (a .said) off (is-multicast P (now (a .stations)) (now (a .carts)) (now (a .messages)) W (now (a .lines)) T (a .from .0) (a .to .0) (a .said) off (omega arith) (λ z. two (k ∙ z)) (λ z. three (k ∙ z))) _ _ _ _ (c .before .before .before .before .before .before .before .before .before .before .number-of .ensures) (c .before .before .before .before .on-multicast .ensures .0) (c .before .before .before .before .on-multicast .ensures .1 .0)
+    λ P W T O off. meets-multicast P (now (a .stations)) (now (a .carts)) (now (a .messages)) W (now (a .lines)) T O (a .from .0) (a .to .0) (a .said) off (is-multicast P (now (a .stations)) (now (a .carts)) (now (a .messages)) W (now (a .lines)) T O (a .from .0) (a .to .0) (a .said) off (omega arith) (λ z. two (k ∙ z)) (λ z. three (k ∙ z))) _ _ _ _ (c .before .before .before .before .before .before .before .before .before .before .number-of .ensures) (c .before .before .before .before .on-multicast .ensures .0) (c .before .before .before .before .on-multicast .ensures .1 .0)
 
 index-of-requires : tie.Need-index-of-requires
 index-of-requires c κs = search needs
@@ -88,7 +88,7 @@ on-deregister-requires : tie.Need-on-deregister-requires
 on-deregister-requires c κs =
     let a = c .before .before .before .before .before .before .before .before .before .before .before .before .args in
     let p = c .before .before .before .before .before .before .before .before .before .before .before .before .pre in
-    deregister-asks (p .product) (now (a .stations)) (now (a .carts)) (now (a .messages)) (p .lines) (now (a .lines)) (p .texts) (a .from .0) (a .to .0) (a .said) (p .taken) _ (c .before .before .before .before .before .index-of .ensures) (sym (c .before .before .before .before .before .before .before .kind-of .ensures) ∙ c .before .before .before .before .if4 .taken)
+    deregister-asks (p .product) (now (a .stations)) (now (a .carts)) (now (a .messages)) (p .lines) (now (a .lines)) (p .texts) (p .store) (a .from .0) (a .to .0) (a .said) (p .taken) _ (c .before .before .before .before .before .index-of .ensures) (sym (c .before .before .before .before .before .before .before .kind-of .ensures) ∙ c .before .before .before .before .if4 .taken)
 
 same-length-8 : tie.Need-same-length-8
 same-length-8 c = search needs
@@ -106,7 +106,7 @@ returns-4 : tie.Need-returns-4
 returns-4 c =
     let a = c .before .before .before .before .before .before .before .before .before .before .before .before .before .before .before .before .before .before .before .args in
     let gone = c .before .before .before .before .before .before .on-deregister .ensures in
-    λ P W T off. meets-deregister P (now (a .stations)) (now (a .carts)) (now (a .messages)) W (now (a .lines)) T (a .from .0) (a .to .0) (a .said) off _ (c .before .before .before .before .before .before .before .before .before .before .before .before .index-of .ensures) (sym (c .before .before .before .before .before .before .before .before .before .before .before .before .before .before .kind-of .ensures) ∙ c .before .before .before .before .before .before .before .before .before .before .before .if4 .taken) _ _ _ _ (gone .0) (gone .1)
+    λ P W T O off. meets-deregister P (now (a .stations)) (now (a .carts)) (now (a .messages)) W (now (a .lines)) T O (a .from .0) (a .to .0) (a .said) off _ (c .before .before .before .before .before .before .before .before .before .before .before .before .index-of .ensures) (sym (c .before .before .before .before .before .before .before .before .before .before .before .before .before .before .kind-of .ensures) ∙ c .before .before .before .before .before .before .before .before .before .before .before .if4 .taken) _ _ _ _ (gone .0) (gone .1)
 
 register-of-requires : tie.Need-register-of-requires
 register-of-requires c κs =
@@ -115,7 +115,7 @@ register-of-requires c κs =
     let k = c .before .before .before .before .kind-of .ensures in
     let many = c .before .before .before .if1 .left in
     let four = c .before .if4 .left in
-    row-asks (p .product) (now (a .stations)) (now (a .carts)) (now (a .messages)) (p .lines) (now (a .lines)) (p .texts) (a .from .0) (a .to .0) (a .said) (p .taken) _ (c .before .before .index-of .ensures) (λ z. omega arith) (λ z. omega arith) (λ z. omega arith) (λ z. four (k ∙ z))
+    row-asks (p .product) (now (a .stations)) (now (a .carts)) (now (a .messages)) (p .lines) (now (a .lines)) (p .texts) (p .store) (a .from .0) (a .to .0) (a .said) (p .taken) _ (c .before .before .index-of .ensures) (λ z. omega arith) (λ z. omega arith) (λ z. omega arith) (λ z. four (k ∙ z))
 
 on-register-requires : tie.Need-on-register-requires
 on-register-requires c κs =
@@ -124,7 +124,7 @@ on-register-requires c κs =
     let k = c .before .before .before .before .before .before .before .before .kind-of .ensures in
     let many = c .before .before .before .before .before .before .before .if1 .left in
     let four = c .before .before .before .before .before .if4 .left in
-    register-asks (p .product) (now (a .stations)) (now (a .carts)) (now (a .messages)) (p .lines) (now (a .lines)) (p .texts) (a .from .0) (a .to .0) (a .said) (p .taken) _ (c .before .before .before .before .before .before .index-of .ensures) (λ z. omega arith) (λ z. omega arith) (λ z. omega arith) (λ z. four (k ∙ z))
+    register-asks (p .product) (now (a .stations)) (now (a .carts)) (now (a .messages)) (p .lines) (now (a .lines)) (p .texts) (p .store) (a .from .0) (a .to .0) (a .said) (p .taken) _ (c .before .before .before .before .before .before .index-of .ensures) (λ z. omega arith) (λ z. omega arith) (λ z. omega arith) (λ z. four (k ∙ z))
 
 same-length-12 : tie.Need-same-length-12
 same-length-12 c = search needs
@@ -144,7 +144,7 @@ returns-5 c =
     let k = c .before .before .before .before .before .before .before .before .before .before .before .before .before .kind-of .ensures in
     let many = c .before .before .before .before .before .before .before .before .before .before .before .before .if1 .left in
     let four = c .before .before .before .before .before .before .before .before .before .before .if4 .left in
-    λ P W T off. meets-register P (now (a .stations)) (now (a .carts)) (now (a .messages)) W (now (a .lines)) T (a .from .0) (a .to .0) (a .said) off _ (c .before .before .before .before .before .before .before .before .before .before .before .index-of .ensures) (λ z. omega arith) (λ z. omega arith) (λ z. omega arith) (λ z. four (k ∙ z)) _ _ _ _ (c .before .before .before .before .before .before .before .before .register-of .ensures) (c .before .before .before .before .on-register .ensures .0) (c .before .before .before .before .on-register .ensures .1)
+    λ P W T O off. meets-register P (now (a .stations)) (now (a .carts)) (now (a .messages)) W (now (a .lines)) T O (a .from .0) (a .to .0) (a .said) off _ (c .before .before .before .before .before .before .before .before .before .before .before .index-of .ensures) (λ z. omega arith) (λ z. omega arith) (λ z. omega arith) (λ z. four (k ∙ z)) _ _ _ _ (c .before .before .before .before .before .before .before .before .register-of .ensures) (c .before .before .before .before .on-register .ensures .0) (c .before .before .before .before .on-register .ensures .1)
 
 pub handle-spec : {M : Type 1} → statement M
 handle-spec =

@@ -33,8 +33,8 @@ returns c =
     let S = stationsIn (a .stations .now) in
     let C = cartsIn (a .carts .now) in
     let R = roomsIn (a .messages .now) in
-    λ P texts. passed (a .lines .now) (c .passes .result) (passes (n .result) (k .result) S C R (a .lines .now)) (linesPass (lent P (a .stations .now) (a .carts .now) (a .messages .now) (a .lines .now) texts)) (c .passes .ensures)
-    (lent-passes (lent P (a .stations .now) (a .carts .now) (a .messages .now) (a .lines .now) texts) (n .result) (n .ensures) (k .result) (k .ensures) (passes (n .result) (k .result) S C R (a .lines .now)) (omega (arith, p .1, p .2, n .ensures)) (omega (arith, p .3, k .ensures)) refl)
+    λ P texts store. passed (a .lines .now) (c .passes .result) (passes (n .result) (k .result) S C R (a .lines .now)) (linesPass (lent P (a .stations .now) (a .carts .now) (a .messages .now) (a .lines .now) texts store)) (c .passes .ensures)
+    (lent-passes (lent P (a .stations .now) (a .carts .now) (a .messages .now) (a .lines .now) texts store) (n .result) (n .ensures) (k .result) (k .ensures) (passes (n .result) (k .result) S C R (a .lines .now)) (omega (arith, p .1, p .2, n .ensures)) (omega (arith, p .3, k .ensures)) refl)
 
 pub lines-pass-spec : {M : Type 1} → statement M
 lines-pass-spec =

@@ -1,7 +1,7 @@
 -- `form_tables::are_below` meets its contract.
 use native.Mathlib.Omega.{arith}
 use Rattle.protocol.specs.Claims.{both, lt}
-use Rattle.form_tables.proofs.Answers.{yes, no}
+use Rattle.protocol.proofs.Answers.{yes, no}
 use Rattle.form_tables.proofs.are_below.Statement.{statement}
 use Rattle.form_tables.proofs.are_below.Tie as tie
 

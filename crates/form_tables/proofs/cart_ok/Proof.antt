@@ -8,7 +8,7 @@ use Rattle.protocol.specs.Floor.{Place, limits, entered}
 use Rattle.protocol.specs.Claims.{test}
 use Rattle.protocol.specs.Form.{placeInside}
 use Rattle.form_tables.proofs.Places.{cart-outside, cart-beyond, cart-lost, cart-inside}
-use Rattle.form_tables.proofs.Answers.{passed, refused}
+use Rattle.protocol.proofs.Answers.{passed, refused}
 use Rattle.form_tables.specs.Tables.{tables}
 use Rattle.form_tables.proofs.cart_ok.Statement.{statement}
 use Rattle.form_tables.proofs.cart_ok.Tie as tie

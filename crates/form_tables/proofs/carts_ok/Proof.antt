@@ -6,7 +6,7 @@ use borrow.Author.Tests.{not-true, not-false}
 use Rattle.protocol.specs.Floor.{limits}
 use Rattle.protocol.specs.Claims.{True, all}
 use Rattle.protocol.specs.Form.{cartRule}
-use Rattle.form_tables.proofs.Answers.{passed, refused, one-more, all-yes, all-no}
+use Rattle.protocol.proofs.Answers.{passed, refused, one-more, all-yes, all-no}
 use Rattle.form_tables.specs.Tables.{tables}
 use Rattle.form_tables.proofs.carts_ok.Statement.{statement}
 use Rattle.form_tables.proofs.carts_ok.Tie as tie

@@ -6,7 +6,7 @@ use native.Mathlib.Omega.{arith}
 use borrow.Author.Needs.{needs}
 use borrow.Author.Tests.{not-true, not-false}
 use Rattle.form_tables.proofs.Names.{held-of}
-use Rattle.form_tables.proofs.Answers.{passed, refused}
+use Rattle.protocol.proofs.Answers.{passed, refused}
 use Rattle.form_tables.proofs.Copies.{Missing, missing-start, missing-more, copies-free, copies-no, copies-end, copy-past, expected-past}
 use Rattle.form_tables.specs.Tables.{tables, copyNamed}
 use Rattle.form_tables.proofs.copies_of.Statement.{statement}

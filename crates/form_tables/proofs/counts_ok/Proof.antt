@@ -7,7 +7,7 @@ use borrow.Author.Needs.{needs}
 use borrow.Author.Tests.{eqb-true, eq-eqb}
 use Rattle.protocol.specs.Claims.{Claim}
 use Rattle.products.specs.declared.Bounds.{Bounds}
-use Rattle.form_tables.proofs.Answers.{yes, no}
+use Rattle.protocol.proofs.Answers.{yes, no}
 use Rattle.form_tables.specs.Tables.{tables, countsRule}
 use Rattle.form_tables.proofs.counts_ok.Statement.{statement}
 use Rattle.form_tables.proofs.counts_ok.Tie as tie

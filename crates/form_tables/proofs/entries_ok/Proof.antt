@@ -7,7 +7,7 @@ use borrow.Author.Tests.{not-true, not-false}
 use Rattle.protocol.specs.Floor.{limits}
 use Rattle.protocol.specs.Claims.{Claim, True, all}
 use Rattle.protocol.specs.Form.{entryRule}
-use Rattle.form_tables.proofs.Answers.{passed, refused, one-more, all-yes, all-no}
+use Rattle.protocol.proofs.Answers.{passed, refused, one-more, all-yes, all-no}
 use Rattle.form_tables.specs.Tables.{tables}
 use Rattle.form_tables.specs.Parts.{mostOf}
 use Rattle.form_tables.proofs.entries_ok.Statement.{statement}

@@ -5,7 +5,7 @@ use native.Mathlib.Omega.{arith}
 use borrow.Author.Needs.{needs}
 use borrow.Author.Tests.{not-true, not-false}
 use Rattle.form_tables.proofs.Names.{held-of, names-as, delete-as, held-free, held-not-sent, held-twice, held-end}
-use Rattle.form_tables.proofs.Answers.{passed, refused}
+use Rattle.protocol.proofs.Answers.{passed, refused}
 use Rattle.form_tables.specs.Tables.{tables}
 use Rattle.form_tables.specs.Parts.{namesBefore}
 use Rattle.form_tables.proofs.held_ok.Statement.{statement}

@@ -8,7 +8,7 @@ use borrow.Author.Tests.{not-true}
 use Rattle.protocol.specs.Floor.{isMessage}
 use Rattle.protocol.specs.Claims.{True, all, is}
 use Rattle.protocol.proofs.Tests.{clash}
-use Rattle.form_tables.proofs.Answers.{one-more, all-yes, all-no}
+use Rattle.protocol.proofs.Answers.{one-more, all-yes, all-no}
 use Rattle.form_tables.specs.Tables.{tables}
 use Rattle.form_tables.proofs.is_alone.Statement.{statement}
 use Rattle.form_tables.proofs.is_alone.Tie as tie

@@ -7,12 +7,12 @@ use Rattle.protocol.specs.Floor.{wholeFloor}
 use Rattle.protocol.specs.Claims.{True, all, is}
 use Rattle.view.specs.View.{lent, localRight}
 use Rattle.form_tables.proofs.Locals.{mask-right}
-use Rattle.form_tables.proofs.Answers.{one-more, all-yes, all-no}
+use Rattle.protocol.proofs.Answers.{one-more, all-yes, all-no}
 use Rattle.form_tables.proofs.locals_ok.Statement.{statement}
 use Rattle.form_tables.proofs.locals_ok.Tie as tie
 
 abbrev Inv-loop : tie.InvT-loop
-Inv-loop stations carts n k locals t₀ t = (t ≤ n) × True (all t (λ j. is (localRight (lent wholeFloor stations carts [] [] []) j)))
+Inv-loop stations carts n k locals t₀ t = (t ≤ n) × True (all t (λ j. is (localRight (lent wholeFloor stations carts [] [] [] []) j)))
 
 abbrev μ-loop : tie.MeasureT-loop
 μ-loop stations carts n k locals t₀ t = n - t
@@ -37,7 +37,7 @@ returns c =
     let s = c .before .before .before .before .before .before .before .args in
     let a = c .before .before .before .loop in
     let found = c .before .local-of in
-    all-no (s .n) (λ k. is (localRight (lent wholeFloor (s .stations .now) (s .carts .now) [] [] []) k)) (a .t) (omega arith)
+    all-no (s .n) (λ k. is (localRight (lent wholeFloor (s .stations .now) (s .carts .now) [] [] [] []) k)) (a .t) (omega arith)
     (λ h. c .if1 .taken (mask-right (s .stations .now) (s .carts .now) (a .t) (found .result) _ (found .ensures) (c .before .before .before .before .locals-of .ensures (a .t) (omega arith)) .0 h))
 
 add-t : tie.Need-add-t Inv-loop μ-loop
@@ -52,7 +52,7 @@ loop-again c =
     let a = c .before .before .before .loop in
     let found = c .before .local-of in (
       omega arith,
-      one-more (λ k. is (localRight (lent wholeFloor (s .stations .now) (s .carts .now) [] [] []) k)) (a .t) (a .inv .1)
+      one-more (λ k. is (localRight (lent wholeFloor (s .stations .now) (s .carts .now) [] [] [] []) k)) (a .t) (a .inv .1)
           (mask-right (s .stations .now) (s .carts .now) (a .t) (found .result) _ (found .ensures) (c .before .before .before .before .locals-of .ensures (a .t) (omega arith)) .1 (c .if1 .left)),
     )
 
@@ -60,7 +60,7 @@ returns-2 : tie.Need-returns-2 Inv-loop μ-loop
 returns-2 c =
     let s = c .before .before .before .before .before .args in
     let a = c .before .loop in
-    all-yes (s .n) (λ k. is (localRight (lent wholeFloor (s .stations .now) (s .carts .now) [] [] []) k)) (a .t) (omega arith) (a .inv .1)
+    all-yes (s .n) (λ k. is (localRight (lent wholeFloor (s .stations .now) (s .carts .now) [] [] [] []) k)) (a .t) (omega arith) (a .inv .1)
 
 pub locals-ok-spec : {M : Type 1} → statement M
 locals-ok-spec =

@@ -6,7 +6,7 @@ use native.Mathlib.Omega.{arith}
 use borrow.Author.Tests.{not-true, not-false}
 use Rattle.protocol.specs.Claims.{True, all}
 use Rattle.form_tables.proofs.Names.{names-alone}
-use Rattle.form_tables.proofs.Answers.{passed, refused, one-more, all-yes, all-no}
+use Rattle.protocol.proofs.Answers.{passed, refused, one-more, all-yes, all-no}
 use Rattle.form_tables.specs.Tables.{tables}
 use Rattle.form_tables.specs.Parts.{heldBefore}
 use Rattle.form_tables.proofs.messages_ok.Statement.{statement}

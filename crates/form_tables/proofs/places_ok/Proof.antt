@@ -6,7 +6,7 @@ use borrow.Author.Tests.{not-true, not-false}
 use Rattle.protocol.specs.Claims.{True, all, is}
 use Rattle.protocol.proofs.Tests.{clash}
 use Rattle.carts.specs.View.{canonicalIn}
-use Rattle.form_tables.proofs.Answers.{one-more, all-yes, all-no}
+use Rattle.protocol.proofs.Answers.{one-more, all-yes, all-no}
 use Rattle.form_tables.proofs.places_ok.Statement.{statement}
 use Rattle.form_tables.proofs.places_ok.Tie as tie
 

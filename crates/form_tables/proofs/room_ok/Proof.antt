@@ -4,7 +4,7 @@ use mathlib.Core.List.{[]}
 use native.Mathlib.Omega.{arith}
 use borrow.Author.Needs.{needs}
 use Rattle.form_tables.proofs.Sets.{within-most, most-within}
-use Rattle.form_tables.proofs.Answers.{yes, no}
+use Rattle.protocol.proofs.Answers.{yes, no}
 use Rattle.form_tables.specs.Tables.{tables, roomSets}
 use Rattle.form_tables.specs.Parts.{mostOf}
 use Rattle.form_tables.proofs.room_ok.Statement.{statement}

@@ -4,7 +4,7 @@ use Prim.Native.Nat.{ℕ, _-_, _≤_}
 use native.Mathlib.Omega.{arith}
 use Rattle.protocol.specs.Claims.{Claim, True, all, when, le, eq, both}
 use Rattle.stations.specs.View.{stationsIn}
-use Rattle.form_tables.proofs.Answers.{one-more, all-yes, all-no}
+use Rattle.protocol.proofs.Answers.{one-more, all-yes, all-no}
 use Rattle.form_tables.proofs.rooms_end.Statement.{statement}
 use Rattle.form_tables.proofs.rooms_end.Tie as tie
 

@@ -4,7 +4,7 @@ use Prim.Native.Nat.{_-_, _≤_}
 use native.Mathlib.Omega.{arith}
 use borrow.Author.Tests.{not-true, not-false}
 use Rattle.protocol.specs.Claims.{True, all}
-use Rattle.form_tables.proofs.Answers.{passed, refused, one-more, all-yes, all-no}
+use Rattle.protocol.proofs.Answers.{passed, refused, one-more, all-yes, all-no}
 use Rattle.form_tables.specs.Tables.{tables, roomSets}
 use Rattle.form_tables.proofs.rooms_ok.Statement.{statement}
 use Rattle.form_tables.proofs.rooms_ok.Tie as tie

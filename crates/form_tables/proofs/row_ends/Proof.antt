@@ -4,7 +4,7 @@ use native.Mathlib.Omega.{arith}
 use borrow.Author.Needs.{needs}
 use Rattle.protocol.specs.Claims.{True, all, when, le, eq}
 use Rattle.carts.specs.View.{cartsIn}
-use Rattle.form_tables.proofs.Answers.{one-more, all-yes, all-no}
+use Rattle.protocol.proofs.Answers.{one-more, all-yes, all-no}
 use Rattle.form_tables.proofs.row_ends.Statement.{statement}
 use Rattle.form_tables.proofs.row_ends.Tie as tie
 

@@ -8,7 +8,7 @@ use Rattle.stations.proofs.TableLaws.{sent-past}
 use Rattle.protocol.specs.Claims.{True, all, le, when, eq}
 use Rattle.stations.specs.View.{stationsIn}
 use Rattle.carts.specs.View.{cartsIn}
-use Rattle.form_tables.proofs.Answers.{one-more, all-no, same-answer}
+use Rattle.protocol.proofs.Answers.{one-more, all-no, same-answer}
 use Rattle.form_tables.proofs.row_sent.Statement.{statement}
 use Rattle.form_tables.proofs.row_sent.Tie as tie
 

@@ -3,7 +3,7 @@ use mathlib.Core.List.{[]}
 use native.Mathlib.Omega.{arith}
 use borrow.Author.Needs.{needs}
 use Rattle.protocol.specs.Form.{stationRule}
-use Rattle.form_tables.proofs.Answers.{yes, no}
+use Rattle.protocol.proofs.Answers.{yes, no}
 use Rattle.form_tables.specs.Tables.{tables}
 use Rattle.form_tables.proofs.station_ok.Statement.{statement}
 use Rattle.form_tables.proofs.station_ok.Tie as tie

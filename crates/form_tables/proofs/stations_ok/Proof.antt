@@ -7,7 +7,7 @@ use mathlib.Core.Path.{_≡_}
 use Rattle.protocol.specs.Floor.{Limits}
 use Rattle.protocol.specs.Claims.{True, all}
 use Rattle.protocol.specs.Form.{stationRule}
-use Rattle.form_tables.proofs.Answers.{passed, refused, one-more, all-yes, all-no}
+use Rattle.protocol.proofs.Answers.{passed, refused, one-more, all-yes, all-no}
 use Rattle.form_tables.specs.Tables.{tables}
 use Rattle.form_tables.proofs.stations_ok.Statement.{statement}
 use Rattle.form_tables.proofs.stations_ok.Tie as tie

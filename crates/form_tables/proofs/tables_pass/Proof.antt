@@ -7,8 +7,10 @@ use Rattle.protocol.specs.Floor.{wholeFloor, limits}
 use Rattle.protocol.specs.Claims.{all, is}
 use Rattle.protocol.specs.Form.{stationRule, cartRule, entryRule}
 use Rattle.carts.specs.View.{canonicalIn}
-use Rattle.view.specs.View.{lent, localRight, shortText}
-use Rattle.form_tables.proofs.Answers.{no, passed, refused, same-answer}
+use Rattle.messages.specs.View.{roomsIn}
+use Rattle.store.specs.Layout.{layoutRule}
+use Rattle.view.specs.View.{lent, localRight}
+use Rattle.protocol.proofs.Answers.{no, passed, refused, same-answer}
 use Rattle.form_tables.specs.Tables.{tables, OnTables, countsRule, roomSets, heldNames, copiesRule, roomsEnd, tablesRule}
 use Rattle.form_tables.proofs.tables_pass.Statement.{statement}
 use Rattle.form_tables.proofs.tables_pass.Tie as tie
@@ -67,11 +69,10 @@ returns-3 c =
     let t = c .before .places-ok in
     λ N e. no (tablesRule N n k h S C M) (λ z. refused (all k (λ j. is (canonicalIn C j))) (t .result) (t .ensures) (not-true _ (c .if3 .taken)) (z .1 .1 .0))
 
-texts-ok-requires : tie.Need-texts-ok-requires
-texts-ok-requires c κs =
-    let f = c .before .before .before .before .before .before .before .before .before .pre .0 in
+texts-lie-right-requires : tie.Need-texts-lie-right-requires
+texts-lie-right-requires c κs =
     let p = c .before .before .before .before .before .before .before .before .before .pre .1 in
-    (p .messages, f .few-held)
+    p .messages
 
 returns-4 : tie.Need-returns-4
 returns-4 c =
@@ -82,8 +83,8 @@ returns-4 c =
     let n = a .bounds .stations in
     let k = a .bounds .carts in
     let h = a .bounds .held in
-    let t = c .before .texts-ok in
-    λ N e. no (tablesRule N n k h S C M) (λ z. refused (all h (λ m. is (shortText (lent wholeFloor [] [] M [] []) m))) (t .result) (t .ensures) (not-true _ (c .if4 .taken)) (z .1 .1 .1 .0))
+    let t = c .before .texts-lie-right in
+    λ N e. no (tablesRule N n k h S C M) (λ z. refused (layoutRule h (roomsIn M)) (t .result) (t .ensures) (not-true _ (c .if4 .taken)) (z .1 .1 .1 .0))
 
 locals-ok-requires : tie.Need-locals-ok-requires
 locals-ok-requires c κs =
@@ -101,7 +102,7 @@ returns-5 c =
     let k = a .bounds .carts in
     let h = a .bounds .held in
     let t = c .before .locals-ok in
-    λ N e. no (tablesRule N n k h S C M) (λ z. refused (all n (λ t. is (localRight (lent wholeFloor S C [] [] []) t))) (t .result) (t .ensures) (not-true _ (c .if5 .taken)) (z .1 .1 .1 .1 .0))
+    λ N e. no (tablesRule N n k h S C M) (λ z. refused (all n (λ t. is (localRight (lent wholeFloor S C [] [] [] []) t))) (t .result) (t .ensures) (not-true _ (c .if5 .taken)) (z .1 .1 .1 .1 .0))
 
 carts-ok-requires : tie.Need-carts-ok-requires
 carts-ok-requires c κs =
@@ -164,7 +165,7 @@ entries-ok-requires c κs =
     let s = c .before .before .before .before .before .before .before .before .before .before .before .before .before .before .before .before .before .before .before .args in
     let counts = passed (countsRule (s .bounds .stations) (s .bounds .carts) (tables (s .stations .now) [] [])) (c .before .before .before .before .before .before .before .before .before .before .before .before .before .before .before .counts-ok .result) (c .before .before .before .before .before .before .before .before .before .before .before .before .before .before .before .counts-ok .ensures) (not-false _ (c .before .before .before .before .before .before .before .before .before .before .before .before .before .before .if1 .left)) in
     let on : OnTables (s .stations .now) (s .carts .now) = record { rows = s .bounds .stations; whole = p .stations; few = f .few-stations; stations = counts .1 .0 .1; carts = (let z = counts .1 .1 .1 in omega (arith, p .carts, z)) } in
-    let right = passed (all (s .bounds .stations) (λ t. is (localRight (lent wholeFloor (s .stations .now) (s .carts .now) [] [] []) t))) (c .before .before .before .before .before .before .before .locals-ok .result) (c .before .before .before .before .before .before .before .locals-ok .ensures) (not-false _ (c .before .before .before .before .before .before .if5 .left)) in
+    let right = passed (all (s .bounds .stations) (λ t. is (localRight (lent wholeFloor (s .stations .now) (s .carts .now) [] [] [] []) t))) (c .before .before .before .before .before .before .before .locals-ok .result) (c .before .before .before .before .before .before .before .locals-ok .ensures) (not-false _ (c .before .before .before .before .before .before .if5 .left)) in
     (on, right, p .stations, f .few-stations, p .messages, f .few-held)
 
 returns-9 : tie.Need-returns-9
@@ -224,9 +225,9 @@ returns-11 c =
         (
           passed (all k (λ j. is (canonicalIn C j))) (c .before .before .before .before .before .before .before .before .before .before .before .before .before .before .before .before .places-ok .result) (c .before .before .before .before .before .before .before .before .before .before .before .before .before .before .before .before .places-ok .ensures) (not-false _ (c .before .before .before .before .before .before .before .before .before .before .before .before .before .before .before .if3 .left)),
           (
-            passed (all h (λ m. is (shortText (lent wholeFloor [] [] M [] []) m))) (c .before .before .before .before .before .before .before .before .before .before .before .before .before .before .texts-ok .result) (c .before .before .before .before .before .before .before .before .before .before .before .before .before .before .texts-ok .ensures) (not-false _ (c .before .before .before .before .before .before .before .before .before .before .before .before .before .if4 .left)),
+            passed (layoutRule h (roomsIn M)) (c .before .before .before .before .before .before .before .before .before .before .before .before .before .before .texts-lie-right .result) (c .before .before .before .before .before .before .before .before .before .before .before .before .before .before .texts-lie-right .ensures) (not-false _ (c .before .before .before .before .before .before .before .before .before .before .before .before .before .if4 .left)),
             (
-              passed (all n (λ t. is (localRight (lent wholeFloor S C [] [] []) t))) (c .before .before .before .before .before .before .before .before .before .before .before .before .locals-ok .result) (c .before .before .before .before .before .before .before .before .before .before .before .before .locals-ok .ensures) (not-false _ (c .before .before .before .before .before .before .before .before .before .before .before .if5 .left)),
+              passed (all n (λ t. is (localRight (lent wholeFloor S C [] [] [] []) t))) (c .before .before .before .before .before .before .before .before .before .before .before .before .locals-ok .result) (c .before .before .before .before .before .before .before .before .before .before .before .before .locals-ok .ensures) (not-false _ (c .before .before .before .before .before .before .before .before .before .before .before .if5 .left)),
               (
                 passed (all k (cartRule limits (tables S C []))) (c .before .before .before .before .before .before .before .before .before .before .carts-ok .result) (c .before .before .before .before .before .before .before .before .before .before .carts-ok .ensures) (not-false _ (c .before .before .before .before .before .before .before .before .before .if6 .left)),
                 (
@@ -260,7 +261,7 @@ tables-pass-spec =
     returns-2
     places-ok-requires
     returns-3
-    texts-ok-requires
+    texts-lie-right-requires
     returns-4
     locals-ok-requires
     returns-5

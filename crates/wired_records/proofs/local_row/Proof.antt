@@ -16,7 +16,7 @@ returns c =
     let start = c .before .before in
     let a = start .args in
     let read = c .local-of .ensures in
-    (read, λ P C M W T passes on. let L = lent P (now (a .stations)) C M W T in read ∙ row-made L (standing L passes) (a .to .0) on)
+    (read, λ P C M W T O passes on. let L = lent P (now (a .stations)) C M W T O in read ∙ row-made L (standing L passes) (a .to .0) on)
 
 pub local-row-spec : {M : Type 1} → statement M
 local-row-spec = tie.close (tie.spec local-of-requires returns)

@@ -28,7 +28,7 @@ returns c =
     let p = c .before .before .before .before .before .before .put-message .ensures in
     let t = c .before .before .put-text .ensures in
     record {
-      rooms = subst (λ (w : ℕ). roomsIn (c .before .before .before .before .before .before .put-message .last .0) ≡ withMessage (roomsIn (a .messages .now)) (a .message .room) (a .message .initiator .0) (a .message .number .0) (a .message .set) w (length (a .text .now))) (c .before .before .before .before .before .before .before .all-below .ensures) (p .0);
+      rooms = subst (λ (w : ℕ). roomsIn (c .before .before .before .before .before .before .put-message .last .0) ≡ withMessage (roomsIn (a .messages .now)) (a .message .room) (a .message .initiator .0) (a .message .number .0) (a .message .set) w (length (a .text .now)) 0) (c .before .before .before .before .before .before .before .all-below .ensures) (p .0);
       words = p .1;
       here = t .0;
       others = t .1 .0;

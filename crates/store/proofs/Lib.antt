@@ -1,0 +1,14 @@
+pub mod Looks
+pub mod Octets
+pub mod Taken
+pub mod Apart
+pub mod TextLaws
+pub mod Lowest
+pub mod Moving
+pub mod Turns
+pub mod Fits
+pub mod Room
+pub mod Counted
+pub mod HeldText
+pub mod Changes
+pub mod Sent

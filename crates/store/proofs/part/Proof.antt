@@ -1,0 +1,23 @@
+-- `store::part` meets its contract.
+use borrow.Author.Needs.{needs}
+use Rattle.store.proofs.Octets.{part-is}
+use Rattle.store.proofs.part.Statement.{statement}
+use Rattle.store.proofs.part.Tie as tie
+
+add-end : tie.Need-add-end
+add-end c = search needs
+
+sub-result : tie.Need-sub-result
+sub-result c = search needs
+
+part-result-start : tie.Need-part-result-start
+part-result-start c = search needs
+
+part-result-end : tie.Need-part-result-end
+part-result-end c = search needs
+
+returns : tie.Need-returns
+returns c = let a = c .before .args in part-is (a .octets .now) (a .at) (a .n)
+
+pub part-spec : {M : Type 1} → statement M
+part-spec = tie.close (tie.spec add-end sub-result part-result-start part-result-end returns)
