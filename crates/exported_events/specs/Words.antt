@@ -1,5 +1,6 @@
 -- WHAT A CALL FROM ANOTHER LANGUAGE IS TOLD: the answer of its event, in eight words.
 use mathlib.Core.Path.{_≡_}
+use mathlib.Core.Bool.{cond}
 use mathlib.Core.List.{List}
 use Prim.Native.Nat.{ℕ}
 use lib.ListN.{set}
@@ -13,6 +14,7 @@ use Rattle.event_answers.specs.Delivered.{Delivered}
 use Rattle.dispatcher.specs.declared.Quiet.{Quiet}
 use Rattle.dispatcher.specs.declared.Quiet.the-variants.{Refused, After}
 use Rattle.dispatcher.specs.Called.{QuietMet}
+use Rattle.reading.specs.declared.Found.{Found}
 
 -- the first eight words are these, and the others as they were
 unfoldable pub answerRow : List ℕ → ℕ → ℕ → ℕ → ℕ → ℕ → ℕ → ℕ → ℕ → List ℕ
@@ -49,3 +51,8 @@ pub record AnsweredQuiet (L L′ : Lent) (buffer buffer′ out out′ : List ℕ
   pub answered : Quiet
   pub met : QuietMet L L′ buffer buffer′ answered
   pub words : out′ ≡ quietWords out answered
+
+-- the reading call, in the first four words: its number, "0 if not refused"; the slice that the text's part is of, 1 for the store and 0 for the short table;
+-- from which octet on, and how many octets
+abbrev pub readWords : List ℕ → Found → List ℕ
+readWords out r = set (set (set (set out 0 (r .refusal)) 1 (cond (r .part .stored) 1 0)) 2 (r .part .at)) 3 (r .part .octets)

@@ -1,22 +1,26 @@
 // The events under C names, for bench/events, which tries them on damaged floors and measures them. Each does what it calls does, on a floor
-// lent by a program in another language. An answer cannot cross as it is, so each asks for eight words to put it into: this crate is for
-// measuring alone, and asks for them by `requires`. A name with `step` leaves the form test out and asks for a floor that events can go on with.
+// lent by a program in another language. An answer cannot cross as it is, so each asks for eight words to put it into, or as many as it has: this crate
+// is for measuring alone, and asks for them by `requires`. A name with `step` leaves the form test out and asks for a floor that events can go on with.
 use dispatcher::Quiet;
 use event_answers::Answer;
 use ids::CartNumber;
+use ids::MessageNumber;
 use ids::Station;
+use reading::Found;
 ghost use mathlib.Core.Path.{_≡_};
 ghost use mathlib.Core.Bool.{not};
 ghost use mathlib.Core.List.{[]};
-ghost use Prim.Native.Nat.{_≤_};
+ghost use Prim.Native.Nat.{_≤_, _<_};
 ghost use lib.Dec.{eqb};
 ghost use lib.ListN.{length, set};
-ghost use Rattle.protocol.specs.Floor.{wholeFloor};
-ghost use Rattle.protocol.specs.Events.{start, enter, send, wire, move, flag, sendGroup};
+ghost use Rattle.protocol.specs.Floor.{wholeFloor, limits};
+ghost use Rattle.protocol.specs.Events.{start, enter, send, wire, move, flag, sendGroup, sendLong};
 ghost use Rattle.protocol.specs.Events as events;
-ghost use Rattle.view.specs.View.{lent};
+ghost use Rattle.protocol.specs.ReadText.{readRefusal};
+ghost use Rattle.view.specs.View.{lent, floorIn};
 ghost use Rattle.event_answers.specs.Met.{Ready};
-ghost use Rattle.exported_events.specs.Words.{answerRow, answerWords, quietWords, Answered, AnsweredText, AnsweredQuiet};
+ghost use Rattle.reading.specs.Parts.{readIn};
+ghost use Rattle.exported_events.specs.Words.{answerRow, answerWords, quietWords, readWords, Answered, AnsweredText, AnsweredQuiet};
 
 // Eight words, at the front of the lent ones.
 fn put_words(
@@ -88,6 +92,19 @@ fn put_quiet_words(out: &mut [u64], quiet: Quiet)
     }
 }
 
+// The words of a reading call: its number, "0 if not refused"; 1 for the store, or 0 for the short table; from which octet on, and how many octets.
+fn put_read_words(out: &mut [u64], found: Found)
+    requires { ⌜ 4 ≤ length (now out) ⌝ }
+    ensures { λ _. ⌜ now (out .exit) ≡ readWords (now (out .entry)) found ⌝ }
+    ensures { λ _. ⌜ length (now (out .exit)) ≡ length (now (out .entry)) ⌝ }
+{
+    let part = found.part;
+    out[0] = found.refusal;
+    out[1] = part.stored as u64;
+    out[2] = part.at as u64;
+    out[3] = part.octets as u64;
+}
+
 // Start, of so many stations and carts.
 #[no_mangle]
 pub extern "C" fn mekhturia_start(
@@ -96,14 +113,15 @@ pub extern "C" fn mekhturia_start(
     messages: &mut [u64],
     lines: &mut [u64],
     texts: &[u8],
+    store: &[u8],
     n: u64,
     k: u64,
     out: &mut [u64],
 )
     requires { ⌜ 8 ≤ length (now out) ⌝ }
-    ensures { λ _. ⌜ Answered (lent wholeFloor (now (stations .entry)) (now (carts .entry)) (now (messages .entry)) (now (lines .entry)) (now (texts .entry))) (lent wholeFloor (now (stations .exit)) (now (carts .exit)) (now (messages .exit)) (now (lines .exit)) (now (texts .entry))) (start n k) [] (now (out .entry)) (now (out .exit)) ⌝ }
+    ensures { λ _. ⌜ Answered (lent wholeFloor (now (stations .entry)) (now (carts .entry)) (now (messages .entry)) (now (lines .entry)) (now (texts .entry)) (now (store .entry))) (lent wholeFloor (now (stations .exit)) (now (carts .exit)) (now (messages .exit)) (now (lines .exit)) (now (texts .entry)) (now (store .entry))) (start n k) [] (now (out .entry)) (now (out .exit)) ⌝ }
 {
-    let answer = controller::start(stations, carts, messages, lines, texts, n, k);
+    let answer = controller::start(stations, carts, messages, lines, texts, store, n, k);
     put_answer_words(out, answer);
 }
 
@@ -115,12 +133,13 @@ pub extern "C" fn mekhturia_enter(
     messages: &[u64],
     lines: &[u64],
     texts: &[u8],
+    store: &[u8],
     station: u64,
     cart: u64,
     out: &mut [u64],
 )
     requires { ⌜ 8 ≤ length (now out) ⌝ }
-    ensures { λ _. ⌜ Answered (lent wholeFloor (now (stations .entry)) (now (carts .entry)) (now (messages .entry)) (now (lines .entry)) (now (texts .entry))) (lent wholeFloor (now (stations .exit)) (now (carts .exit)) (now (messages .entry)) (now (lines .entry)) (now (texts .entry))) (enter station cart) [] (now (out .entry)) (now (out .exit)) ⌝ }
+    ensures { λ _. ⌜ Answered (lent wholeFloor (now (stations .entry)) (now (carts .entry)) (now (messages .entry)) (now (lines .entry)) (now (texts .entry)) (now (store .entry))) (lent wholeFloor (now (stations .exit)) (now (carts .exit)) (now (messages .entry)) (now (lines .entry)) (now (texts .entry)) (now (store .entry))) (enter station cart) [] (now (out .entry)) (now (out .exit)) ⌝ }
 {
     let answer = controller::enter(
         stations,
@@ -128,6 +147,7 @@ pub extern "C" fn mekhturia_enter(
         messages,
         lines,
         texts,
+        store,
         Station(station),
         CartNumber(cart),
     );
@@ -142,13 +162,14 @@ pub extern "C" fn mekhturia_send(
     messages: &mut [u64],
     lines: &mut [u64],
     texts: &mut [u8],
+    store: &[u8],
     station: u64,
     set: u64,
     text: &[u8],
     out: &mut [u64],
 )
     requires { ⌜ 8 ≤ length (now out) ⌝ }
-    ensures { λ _. ⌜ Answered (lent wholeFloor (now (stations .entry)) (now (carts .entry)) (now (messages .entry)) (now (lines .entry)) (now (texts .entry))) (lent wholeFloor (now (stations .exit)) (now (carts .entry)) (now (messages .exit)) (now (lines .exit)) (now (texts .exit))) (send station set (now (text .entry))) [] (now (out .entry)) (now (out .exit)) ⌝ }
+    ensures { λ _. ⌜ Answered (lent wholeFloor (now (stations .entry)) (now (carts .entry)) (now (messages .entry)) (now (lines .entry)) (now (texts .entry)) (now (store .entry))) (lent wholeFloor (now (stations .exit)) (now (carts .entry)) (now (messages .exit)) (now (lines .exit)) (now (texts .exit)) (now (store .entry))) (send station set (now (text .entry))) [] (now (out .entry)) (now (out .exit)) ⌝ }
 {
     let answer = controller::send(
         stations,
@@ -156,6 +177,7 @@ pub extern "C" fn mekhturia_send(
         messages,
         lines,
         texts,
+        store,
         Station(station),
         set,
         text,
@@ -171,12 +193,13 @@ pub extern "C" fn mekhturia_wire(
     messages: &mut [u64],
     lines: &mut [u64],
     texts: &[u8],
+    store: &[u8],
     from: u64,
     to: u64,
     out: &mut [u64],
 )
     requires { ⌜ 8 ≤ length (now out) ⌝ }
-    ensures { λ _. ⌜ Answered (lent wholeFloor (now (stations .entry)) (now (carts .entry)) (now (messages .entry)) (now (lines .entry)) (now (texts .entry))) (lent wholeFloor (now (stations .exit)) (now (carts .exit)) (now (messages .exit)) (now (lines .exit)) (now (texts .entry))) (wire from to) [] (now (out .entry)) (now (out .exit)) ⌝ }
+    ensures { λ _. ⌜ Answered (lent wholeFloor (now (stations .entry)) (now (carts .entry)) (now (messages .entry)) (now (lines .entry)) (now (texts .entry)) (now (store .entry))) (lent wholeFloor (now (stations .exit)) (now (carts .exit)) (now (messages .exit)) (now (lines .exit)) (now (texts .entry)) (now (store .entry))) (wire from to) [] (now (out .entry)) (now (out .exit)) ⌝ }
 {
     let answer = controller::wire(
         stations,
@@ -184,6 +207,7 @@ pub extern "C" fn mekhturia_wire(
         messages,
         lines,
         texts,
+        store,
         Station(from),
         Station(to),
     );
@@ -198,13 +222,14 @@ pub extern "C" fn mekhturia_radio(
     messages: &[u64],
     lines: &mut [u64],
     texts: &[u8],
+    store: &[u8],
     station: u64,
     cart: u64,
     buffer: &mut [u8],
     out: &mut [u64],
 )
     requires { ⌜ 8 ≤ length (now out) ⌝ }
-    ensures { λ _. ⌜ AnsweredText (lent wholeFloor (now (stations .entry)) (now (carts .entry)) (now (messages .entry)) (now (lines .entry)) (now (texts .entry))) (lent wholeFloor (now (stations .exit)) (now (carts .exit)) (now (messages .entry)) (now (lines .exit)) (now (texts .entry))) station cart (now (buffer .entry)) (now (buffer .exit)) (now (out .entry)) (now (out .exit)) ⌝ }
+    ensures { λ _. ⌜ AnsweredText (lent wholeFloor (now (stations .entry)) (now (carts .entry)) (now (messages .entry)) (now (lines .entry)) (now (texts .entry)) (now (store .entry))) (lent wholeFloor (now (stations .exit)) (now (carts .exit)) (now (messages .entry)) (now (lines .exit)) (now (texts .entry)) (now (store .entry))) station cart (now (buffer .entry)) (now (buffer .exit)) (now (out .entry)) (now (out .exit)) ⌝ }
 {
     let answer = controller::radio(
         stations,
@@ -212,6 +237,7 @@ pub extern "C" fn mekhturia_radio(
         messages,
         lines,
         texts,
+        store,
         Station(station),
         CartNumber(cart),
         buffer,
@@ -227,12 +253,13 @@ pub extern "C" fn mekhturia_move(
     messages: &[u64],
     lines: &mut [u64],
     texts: &[u8],
+    store: &[u8],
     cart: u64,
     to: u64,
     out: &mut [u64],
 )
     requires { ⌜ 8 ≤ length (now out) ⌝ }
-    ensures { λ _. ⌜ Answered (lent wholeFloor (now (stations .entry)) (now (carts .entry)) (now (messages .entry)) (now (lines .entry)) (now (texts .entry))) (lent wholeFloor (now (stations .entry)) (now (carts .exit)) (now (messages .entry)) (now (lines .exit)) (now (texts .entry))) (move cart to) [] (now (out .entry)) (now (out .exit)) ⌝ }
+    ensures { λ _. ⌜ Answered (lent wholeFloor (now (stations .entry)) (now (carts .entry)) (now (messages .entry)) (now (lines .entry)) (now (texts .entry)) (now (store .entry))) (lent wholeFloor (now (stations .entry)) (now (carts .exit)) (now (messages .entry)) (now (lines .exit)) (now (texts .entry)) (now (store .entry))) (move cart to) [] (now (out .entry)) (now (out .exit)) ⌝ }
 {
     let answer = controller::move_cart(
         stations,
@@ -240,6 +267,7 @@ pub extern "C" fn mekhturia_move(
         messages,
         lines,
         texts,
+        store,
         CartNumber(cart),
         Station(to),
     );
@@ -254,12 +282,13 @@ pub extern "C" fn mekhturia_flag(
     messages: &[u64],
     lines: &[u64],
     texts: &[u8],
+    store: &[u8],
     cart: u64,
     steady: u64,
     out: &mut [u64],
 )
     requires { ⌜ 8 ≤ length (now out) ⌝ }
-    ensures { λ _. ⌜ Answered (lent wholeFloor (now (stations .entry)) (now (carts .entry)) (now (messages .entry)) (now (lines .entry)) (now (texts .entry))) (lent wholeFloor (now (stations .entry)) (now (carts .exit)) (now (messages .entry)) (now (lines .entry)) (now (texts .entry))) (flag cart (not (eqb steady 0))) [] (now (out .entry)) (now (out .exit)) ⌝ }
+    ensures { λ _. ⌜ Answered (lent wholeFloor (now (stations .entry)) (now (carts .entry)) (now (messages .entry)) (now (lines .entry)) (now (texts .entry)) (now (store .entry))) (lent wholeFloor (now (stations .entry)) (now (carts .exit)) (now (messages .entry)) (now (lines .entry)) (now (texts .entry)) (now (store .entry))) (flag cart (not (eqb steady 0))) [] (now (out .entry)) (now (out .exit)) ⌝ }
 {
     let answer = controller::flag_cart(
         stations,
@@ -267,6 +296,7 @@ pub extern "C" fn mekhturia_flag(
         messages,
         lines,
         texts,
+        store,
         CartNumber(cart),
         steady != 0,
     );
@@ -281,14 +311,24 @@ pub extern "C" fn mekhturia_group(
     messages: &[u64],
     lines: &[u64],
     texts: &[u8],
+    store: &[u8],
     group: u64,
     set: u64,
     out: &mut [u64],
 )
     requires { ⌜ 8 ≤ length (now out) ⌝ }
-    ensures { λ _. ⌜ Answered (lent wholeFloor (now (stations .entry)) (now (carts .entry)) (now (messages .entry)) (now (lines .entry)) (now (texts .entry))) (lent wholeFloor (now (stations .exit)) (now (carts .entry)) (now (messages .entry)) (now (lines .entry)) (now (texts .entry))) (events.group group set) [] (now (out .entry)) (now (out .exit)) ⌝ }
+    ensures { λ _. ⌜ Answered (lent wholeFloor (now (stations .entry)) (now (carts .entry)) (now (messages .entry)) (now (lines .entry)) (now (texts .entry)) (now (store .entry))) (lent wholeFloor (now (stations .exit)) (now (carts .entry)) (now (messages .entry)) (now (lines .entry)) (now (texts .entry)) (now (store .entry))) (events.group group set) [] (now (out .entry)) (now (out .exit)) ⌝ }
 {
-    let answer = controller::define_group(stations, carts, messages, lines, texts, group, set);
+    let answer = controller::define_group(
+        stations,
+        carts,
+        messages,
+        lines,
+        texts,
+        store,
+        group,
+        set,
+    );
     put_answer_words(out, answer);
 }
 
@@ -300,13 +340,14 @@ pub extern "C" fn mekhturia_send_group(
     messages: &mut [u64],
     lines: &mut [u64],
     texts: &mut [u8],
+    store: &[u8],
     station: u64,
     group: u64,
     text: &[u8],
     out: &mut [u64],
 )
     requires { ⌜ 8 ≤ length (now out) ⌝ }
-    ensures { λ _. ⌜ Answered (lent wholeFloor (now (stations .entry)) (now (carts .entry)) (now (messages .entry)) (now (lines .entry)) (now (texts .entry))) (lent wholeFloor (now (stations .exit)) (now (carts .entry)) (now (messages .exit)) (now (lines .exit)) (now (texts .exit))) (sendGroup station group (now (text .entry))) [] (now (out .entry)) (now (out .exit)) ⌝ }
+    ensures { λ _. ⌜ Answered (lent wholeFloor (now (stations .entry)) (now (carts .entry)) (now (messages .entry)) (now (lines .entry)) (now (texts .entry)) (now (store .entry))) (lent wholeFloor (now (stations .exit)) (now (carts .entry)) (now (messages .exit)) (now (lines .exit)) (now (texts .exit)) (now (store .entry))) (sendGroup station group (now (text .entry))) [] (now (out .entry)) (now (out .exit)) ⌝ }
 {
     let answer = controller::send_group(
         stations,
@@ -314,8 +355,40 @@ pub extern "C" fn mekhturia_send_group(
         messages,
         lines,
         texts,
+        store,
         Station(station),
         group,
+        text,
+    );
+    put_answer_words(out, answer);
+}
+
+// "Kind 9 is a send whose text has 33 to 512 octets".
+#[no_mangle]
+pub extern "C" fn mekhturia_send_long(
+    stations: &mut [u64],
+    carts: &[u64],
+    messages: &mut [u64],
+    lines: &mut [u64],
+    texts: &[u8],
+    store: &mut [u8],
+    station: u64,
+    set: u64,
+    text: &[u8],
+    out: &mut [u64],
+)
+    requires { ⌜ 8 ≤ length (now out) ⌝ }
+    ensures { λ _. ⌜ Answered (lent wholeFloor (now (stations .entry)) (now (carts .entry)) (now (messages .entry)) (now (lines .entry)) (now (texts .entry)) (now (store .entry))) (lent wholeFloor (now (stations .exit)) (now (carts .entry)) (now (messages .exit)) (now (lines .exit)) (now (texts .entry)) (now (store .exit))) (sendLong station set (now (text .entry))) [] (now (out .entry)) (now (out .exit)) ⌝ }
+{
+    let answer = controller::send_long(
+        stations,
+        carts,
+        messages,
+        lines,
+        texts,
+        store,
+        Station(station),
+        set,
         text,
     );
     put_answer_words(out, answer);
@@ -329,14 +402,73 @@ pub extern "C" fn mekhturia_quiet(
     messages: &mut [u64],
     lines: &mut [u64],
     texts: &[u8],
+    store: &[u8],
     buffer: &mut [u8],
     out: &mut [u64],
 )
     requires { ⌜ 2 ≤ length (now out) ⌝ }
-    ensures { λ _. ⌜ AnsweredQuiet (lent wholeFloor (now (stations .entry)) (now (carts .entry)) (now (messages .entry)) (now (lines .entry)) (now (texts .entry))) (lent wholeFloor (now (stations .exit)) (now (carts .exit)) (now (messages .exit)) (now (lines .exit)) (now (texts .entry))) (now (buffer .entry)) (now (buffer .exit)) (now (out .entry)) (now (out .exit)) ⌝ }
+    ensures { λ _. ⌜ AnsweredQuiet (lent wholeFloor (now (stations .entry)) (now (carts .entry)) (now (messages .entry)) (now (lines .entry)) (now (texts .entry)) (now (store .entry))) (lent wholeFloor (now (stations .exit)) (now (carts .exit)) (now (messages .exit)) (now (lines .exit)) (now (texts .entry)) (now (store .entry))) (now (buffer .entry)) (now (buffer .exit)) (now (out .entry)) (now (out .exit)) ⌝ }
 {
-    let quiet = controller::quiet(stations, carts, messages, lines, texts, buffer);
+    let quiet = controller::quiet(stations, carts, messages, lines, texts, store, buffer);
     put_quiet_words(out, quiet);
+}
+
+// THE READING CALL. A part of a lent slice cannot cross as it is, so four words say which it is: the call's number, the slice, from which octet on, and how
+// many octets.
+#[no_mangle]
+pub extern "C" fn mekhturia_text(
+    stations: &[u64],
+    carts: &[u64],
+    messages: &[u64],
+    lines: &[u64],
+    texts: &[u8],
+    store: &[u8],
+    initiator: u64,
+    number: u64,
+    out: &mut [u64],
+)
+    requires { ⌜ 4 ≤ length (now out) ⌝ }
+    ensures { λ _. ⌜ now (out .exit) ≡ readWords (now (out .entry)) (readIn (lent wholeFloor (now (stations .entry)) (now (carts .entry)) (now (messages .entry)) (now (lines .entry)) (now (texts .entry)) (now (store .entry))) initiator number) ⌝ }
+    ensures { λ _. ⌜ length (now (out .exit)) ≡ length (now (out .entry)) ⌝ }
+{
+    let found = tested_events::read(
+        stations,
+        carts,
+        messages,
+        lines,
+        texts,
+        store,
+        Station(initiator),
+        MessageNumber(number),
+        products::floor_bounds(),
+    );
+    put_read_words(out, found);
+}
+
+// "a call beside it gives the number, 0 if not refused".
+#[no_mangle]
+pub extern "C" fn mekhturia_text_refusal(
+    stations: &[u64],
+    carts: &[u64],
+    messages: &[u64],
+    lines: &[u64],
+    texts: &[u8],
+    store: &[u8],
+    initiator: u64,
+    number: u64,
+) -> u64
+    ensures { λ r. ⌜ r ≡ readRefusal limits (floorIn (lent wholeFloor (now (stations .entry)) (now (carts .entry)) (now (messages .entry)) (now (lines .entry)) (now (texts .entry)) (now (store .entry)))) initiator number ⌝ }
+{
+    controller::text_refusal(
+        stations,
+        carts,
+        messages,
+        lines,
+        texts,
+        store,
+        Station(initiator),
+        MessageNumber(number),
+    )
 }
 
 // "Enter (station, cart)", on a floor that events can go on with.
@@ -347,13 +479,14 @@ pub extern "C" fn mekhturia_step_enter(
     messages: &[u64],
     lines: &[u64],
     texts: &[u8],
+    store: &[u8],
     station: u64,
     cart: u64,
     out: &mut [u64],
 )
-    requires { ⌜ Ready (lent wholeFloor (now stations) (now carts) (now messages) (now lines) (now texts)) ⌝ }
+    requires { ⌜ Ready (lent wholeFloor (now stations) (now carts) (now messages) (now lines) (now texts) (now store)) ⌝ }
     requires { ⌜ 8 ≤ length (now out) ⌝ }
-    ensures { λ _. ⌜ Answered (lent wholeFloor (now (stations .entry)) (now (carts .entry)) (now (messages .entry)) (now (lines .entry)) (now (texts .entry))) (lent wholeFloor (now (stations .exit)) (now (carts .exit)) (now (messages .entry)) (now (lines .entry)) (now (texts .entry))) (enter station cart) [] (now (out .entry)) (now (out .exit)) ⌝ }
+    ensures { λ _. ⌜ Answered (lent wholeFloor (now (stations .entry)) (now (carts .entry)) (now (messages .entry)) (now (lines .entry)) (now (texts .entry)) (now (store .entry))) (lent wholeFloor (now (stations .exit)) (now (carts .exit)) (now (messages .entry)) (now (lines .entry)) (now (texts .entry)) (now (store .entry))) (enter station cart) [] (now (out .entry)) (now (out .exit)) ⌝ }
 {
     let answer = event_carts::enter(
         stations,
@@ -361,6 +494,7 @@ pub extern "C" fn mekhturia_step_enter(
         messages,
         lines,
         texts,
+        store,
         Station(station),
         CartNumber(cart),
     );
@@ -375,15 +509,16 @@ pub extern "C" fn mekhturia_step_send(
     messages: &mut [u64],
     lines: &mut [u64],
     texts: &mut [u8],
+    store: &[u8],
     station: u64,
     set: u64,
     text: &[u8],
     out: &mut [u64],
 )
-    requires { ⌜ Ready (lent wholeFloor (now stations) (now carts) (now messages) (now lines) (now texts)) ⌝ }
+    requires { ⌜ Ready (lent wholeFloor (now stations) (now carts) (now messages) (now lines) (now texts) (now store)) ⌝ }
     requires { ⌜ length (now text) ≤ 32 ⌝ }
     requires { ⌜ 8 ≤ length (now out) ⌝ }
-    ensures { λ _. ⌜ Answered (lent wholeFloor (now (stations .entry)) (now (carts .entry)) (now (messages .entry)) (now (lines .entry)) (now (texts .entry))) (lent wholeFloor (now (stations .exit)) (now (carts .entry)) (now (messages .exit)) (now (lines .exit)) (now (texts .exit))) (send station set (now (text .entry))) [] (now (out .entry)) (now (out .exit)) ⌝ }
+    ensures { λ _. ⌜ Answered (lent wholeFloor (now (stations .entry)) (now (carts .entry)) (now (messages .entry)) (now (lines .entry)) (now (texts .entry)) (now (store .entry))) (lent wholeFloor (now (stations .exit)) (now (carts .entry)) (now (messages .exit)) (now (lines .exit)) (now (texts .exit)) (now (store .entry))) (send station set (now (text .entry))) [] (now (out .entry)) (now (out .exit)) ⌝ }
 {
     let answer = event_send::send(
         stations,
@@ -391,6 +526,7 @@ pub extern "C" fn mekhturia_step_send(
         messages,
         lines,
         texts,
+        store,
         Station(station),
         set,
         text,
@@ -407,13 +543,14 @@ pub extern "C" fn mekhturia_step_wire(
     messages: &mut [u64],
     lines: &mut [u64],
     texts: &[u8],
+    store: &[u8],
     from: u64,
     to: u64,
     out: &mut [u64],
 )
-    requires { ⌜ Ready (lent wholeFloor (now stations) (now carts) (now messages) (now lines) (now texts)) ⌝ }
+    requires { ⌜ Ready (lent wholeFloor (now stations) (now carts) (now messages) (now lines) (now texts) (now store)) ⌝ }
     requires { ⌜ 8 ≤ length (now out) ⌝ }
-    ensures { λ _. ⌜ Answered (lent wholeFloor (now (stations .entry)) (now (carts .entry)) (now (messages .entry)) (now (lines .entry)) (now (texts .entry))) (lent wholeFloor (now (stations .exit)) (now (carts .exit)) (now (messages .exit)) (now (lines .exit)) (now (texts .entry))) (wire from to) [] (now (out .entry)) (now (out .exit)) ⌝ }
+    ensures { λ _. ⌜ Answered (lent wholeFloor (now (stations .entry)) (now (carts .entry)) (now (messages .entry)) (now (lines .entry)) (now (texts .entry)) (now (store .entry))) (lent wholeFloor (now (stations .exit)) (now (carts .exit)) (now (messages .exit)) (now (lines .exit)) (now (texts .entry)) (now (store .entry))) (wire from to) [] (now (out .entry)) (now (out .exit)) ⌝ }
 {
     let answer = event_wire::wire(
         stations,
@@ -421,6 +558,7 @@ pub extern "C" fn mekhturia_step_wire(
         messages,
         lines,
         texts,
+        store,
         Station(from),
         Station(to),
     );
@@ -435,14 +573,15 @@ pub extern "C" fn mekhturia_step_radio(
     messages: &[u64],
     lines: &mut [u64],
     texts: &[u8],
+    store: &[u8],
     station: u64,
     cart: u64,
     buffer: &mut [u8],
     out: &mut [u64],
 )
-    requires { ⌜ Ready (lent wholeFloor (now stations) (now carts) (now messages) (now lines) (now texts)) ⌝ }
+    requires { ⌜ Ready (lent wholeFloor (now stations) (now carts) (now messages) (now lines) (now texts) (now store)) ⌝ }
     requires { ⌜ 8 ≤ length (now out) ⌝ }
-    ensures { λ _. ⌜ AnsweredText (lent wholeFloor (now (stations .entry)) (now (carts .entry)) (now (messages .entry)) (now (lines .entry)) (now (texts .entry))) (lent wholeFloor (now (stations .exit)) (now (carts .exit)) (now (messages .entry)) (now (lines .exit)) (now (texts .entry))) station cart (now (buffer .entry)) (now (buffer .exit)) (now (out .entry)) (now (out .exit)) ⌝ }
+    ensures { λ _. ⌜ AnsweredText (lent wholeFloor (now (stations .entry)) (now (carts .entry)) (now (messages .entry)) (now (lines .entry)) (now (texts .entry)) (now (store .entry))) (lent wholeFloor (now (stations .exit)) (now (carts .exit)) (now (messages .entry)) (now (lines .exit)) (now (texts .entry)) (now (store .entry))) station cart (now (buffer .entry)) (now (buffer .exit)) (now (out .entry)) (now (out .exit)) ⌝ }
 {
     let answer = event_radio::radio_into(
         stations,
@@ -450,6 +589,7 @@ pub extern "C" fn mekhturia_step_radio(
         messages,
         lines,
         texts,
+        store,
         Station(station),
         CartNumber(cart),
         buffer,
@@ -465,13 +605,14 @@ pub extern "C" fn mekhturia_step_move(
     messages: &[u64],
     lines: &mut [u64],
     texts: &[u8],
+    store: &[u8],
     cart: u64,
     to: u64,
     out: &mut [u64],
 )
-    requires { ⌜ Ready (lent wholeFloor (now stations) (now carts) (now messages) (now lines) (now texts)) ⌝ }
+    requires { ⌜ Ready (lent wholeFloor (now stations) (now carts) (now messages) (now lines) (now texts) (now store)) ⌝ }
     requires { ⌜ 8 ≤ length (now out) ⌝ }
-    ensures { λ _. ⌜ Answered (lent wholeFloor (now (stations .entry)) (now (carts .entry)) (now (messages .entry)) (now (lines .entry)) (now (texts .entry))) (lent wholeFloor (now (stations .entry)) (now (carts .exit)) (now (messages .entry)) (now (lines .exit)) (now (texts .entry))) (move cart to) [] (now (out .entry)) (now (out .exit)) ⌝ }
+    ensures { λ _. ⌜ Answered (lent wholeFloor (now (stations .entry)) (now (carts .entry)) (now (messages .entry)) (now (lines .entry)) (now (texts .entry)) (now (store .entry))) (lent wholeFloor (now (stations .entry)) (now (carts .exit)) (now (messages .entry)) (now (lines .exit)) (now (texts .entry)) (now (store .entry))) (move cart to) [] (now (out .entry)) (now (out .exit)) ⌝ }
 {
     let answer = event_carts::move_cart(
         stations,
@@ -479,6 +620,7 @@ pub extern "C" fn mekhturia_step_move(
         messages,
         lines,
         texts,
+        store,
         CartNumber(cart),
         Station(to),
     );
@@ -493,13 +635,14 @@ pub extern "C" fn mekhturia_step_flag(
     messages: &[u64],
     lines: &[u64],
     texts: &[u8],
+    store: &[u8],
     cart: u64,
     steady: u64,
     out: &mut [u64],
 )
-    requires { ⌜ Ready (lent wholeFloor (now stations) (now carts) (now messages) (now lines) (now texts)) ⌝ }
+    requires { ⌜ Ready (lent wholeFloor (now stations) (now carts) (now messages) (now lines) (now texts) (now store)) ⌝ }
     requires { ⌜ 8 ≤ length (now out) ⌝ }
-    ensures { λ _. ⌜ Answered (lent wholeFloor (now (stations .entry)) (now (carts .entry)) (now (messages .entry)) (now (lines .entry)) (now (texts .entry))) (lent wholeFloor (now (stations .entry)) (now (carts .exit)) (now (messages .entry)) (now (lines .entry)) (now (texts .entry))) (flag cart (not (eqb steady 0))) [] (now (out .entry)) (now (out .exit)) ⌝ }
+    ensures { λ _. ⌜ Answered (lent wholeFloor (now (stations .entry)) (now (carts .entry)) (now (messages .entry)) (now (lines .entry)) (now (texts .entry)) (now (store .entry))) (lent wholeFloor (now (stations .entry)) (now (carts .exit)) (now (messages .entry)) (now (lines .entry)) (now (texts .entry)) (now (store .entry))) (flag cart (not (eqb steady 0))) [] (now (out .entry)) (now (out .exit)) ⌝ }
 {
     let answer = event_carts::flag_cart(
         stations,
@@ -507,6 +650,7 @@ pub extern "C" fn mekhturia_step_flag(
         messages,
         lines,
         texts,
+        store,
         CartNumber(cart),
         steady != 0,
     );
@@ -521,15 +665,25 @@ pub extern "C" fn mekhturia_step_group(
     messages: &[u64],
     lines: &[u64],
     texts: &[u8],
+    store: &[u8],
     group: u64,
     set: u64,
     out: &mut [u64],
 )
-    requires { ⌜ Ready (lent wholeFloor (now stations) (now carts) (now messages) (now lines) (now texts)) ⌝ }
+    requires { ⌜ Ready (lent wholeFloor (now stations) (now carts) (now messages) (now lines) (now texts) (now store)) ⌝ }
     requires { ⌜ 8 ≤ length (now out) ⌝ }
-    ensures { λ _. ⌜ Answered (lent wholeFloor (now (stations .entry)) (now (carts .entry)) (now (messages .entry)) (now (lines .entry)) (now (texts .entry))) (lent wholeFloor (now (stations .exit)) (now (carts .entry)) (now (messages .entry)) (now (lines .entry)) (now (texts .entry))) (events.group group set) [] (now (out .entry)) (now (out .exit)) ⌝ }
+    ensures { λ _. ⌜ Answered (lent wholeFloor (now (stations .entry)) (now (carts .entry)) (now (messages .entry)) (now (lines .entry)) (now (texts .entry)) (now (store .entry))) (lent wholeFloor (now (stations .exit)) (now (carts .entry)) (now (messages .entry)) (now (lines .entry)) (now (texts .entry)) (now (store .entry))) (events.group group set) [] (now (out .entry)) (now (out .exit)) ⌝ }
 {
-    let answer = event_groups::define_group(stations, carts, messages, lines, texts, group, set);
+    let answer = event_groups::define_group(
+        stations,
+        carts,
+        messages,
+        lines,
+        texts,
+        store,
+        group,
+        set,
+    );
     put_answer_words(out, answer);
 }
 
@@ -541,15 +695,16 @@ pub extern "C" fn mekhturia_step_send_group(
     messages: &mut [u64],
     lines: &mut [u64],
     texts: &mut [u8],
+    store: &[u8],
     station: u64,
     group: u64,
     text: &[u8],
     out: &mut [u64],
 )
-    requires { ⌜ Ready (lent wholeFloor (now stations) (now carts) (now messages) (now lines) (now texts)) ⌝ }
+    requires { ⌜ Ready (lent wholeFloor (now stations) (now carts) (now messages) (now lines) (now texts) (now store)) ⌝ }
     requires { ⌜ length (now text) ≤ 32 ⌝ }
     requires { ⌜ 8 ≤ length (now out) ⌝ }
-    ensures { λ _. ⌜ Answered (lent wholeFloor (now (stations .entry)) (now (carts .entry)) (now (messages .entry)) (now (lines .entry)) (now (texts .entry))) (lent wholeFloor (now (stations .exit)) (now (carts .entry)) (now (messages .exit)) (now (lines .exit)) (now (texts .exit))) (sendGroup station group (now (text .entry))) [] (now (out .entry)) (now (out .exit)) ⌝ }
+    ensures { λ _. ⌜ Answered (lent wholeFloor (now (stations .entry)) (now (carts .entry)) (now (messages .entry)) (now (lines .entry)) (now (texts .entry)) (now (store .entry))) (lent wholeFloor (now (stations .exit)) (now (carts .entry)) (now (messages .exit)) (now (lines .exit)) (now (texts .exit)) (now (store .entry))) (sendGroup station group (now (text .entry))) [] (now (out .entry)) (now (out .exit)) ⌝ }
 {
     let answer = event_send::send_group(
         stations,
@@ -557,8 +712,43 @@ pub extern "C" fn mekhturia_step_send_group(
         messages,
         lines,
         texts,
+        store,
         Station(station),
         group,
+        text,
+        products::floor_bounds(),
+    );
+    put_answer_words(out, answer);
+}
+
+// The same of a send of a long text.
+#[no_mangle]
+pub extern "C" fn mekhturia_step_send_long(
+    stations: &mut [u64],
+    carts: &[u64],
+    messages: &mut [u64],
+    lines: &mut [u64],
+    texts: &[u8],
+    store: &mut [u8],
+    station: u64,
+    set: u64,
+    text: &[u8],
+    out: &mut [u64],
+)
+    requires { ⌜ Ready (lent wholeFloor (now stations) (now carts) (now messages) (now lines) (now texts) (now store)) ⌝ }
+    requires { ⌜ (32 < length (now text)) × (length (now text) ≤ 512) ⌝ }
+    requires { ⌜ 8 ≤ length (now out) ⌝ }
+    ensures { λ _. ⌜ Answered (lent wholeFloor (now (stations .entry)) (now (carts .entry)) (now (messages .entry)) (now (lines .entry)) (now (texts .entry)) (now (store .entry))) (lent wholeFloor (now (stations .exit)) (now (carts .entry)) (now (messages .exit)) (now (lines .exit)) (now (texts .entry)) (now (store .exit))) (sendLong station set (now (text .entry))) [] (now (out .entry)) (now (out .exit)) ⌝ }
+{
+    let answer = event_send::send_long(
+        stations,
+        carts,
+        messages,
+        lines,
+        texts,
+        store,
+        Station(station),
+        set,
         text,
         products::floor_bounds(),
     );

@@ -99,8 +99,9 @@ pub extern "C" fn mekhturia_passes(
     messages: &[u64],
     lines: &[u64],
     texts: &[u8],
+    store: &[u8],
 ) -> bool
-    ensures { λ r. ⌜ r ≡ passesForm limits (floorIn (lent wholeFloor (now (stations .entry)) (now (carts .entry)) (now (messages .entry)) (now (lines .entry)) (now (texts .entry)))) ⌝ }
+    ensures { λ r. ⌜ r ≡ passesForm limits (floorIn (lent wholeFloor (now (stations .entry)) (now (carts .entry)) (now (messages .entry)) (now (lines .entry)) (now (texts .entry)) (now (store .entry)))) ⌝ }
 {
     form_test::passes(
         stations,
@@ -108,6 +109,7 @@ pub extern "C" fn mekhturia_passes(
         messages,
         lines,
         texts,
+        store,
         products::floor_bounds(),
     )
 }

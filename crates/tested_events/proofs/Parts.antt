@@ -7,7 +7,7 @@ use Prim.Native.Nat.{ℕ, _+_, _*_, _≤_}
 use native.Mathlib.Omega.{arith}
 use lib.ListN.{length}
 use Rattle.protocol.specs.Floor.{Product, limitsOf, mostRecords, wholeFloor, kit}
-use Rattle.protocol.specs.Events.{Event, Answer, start, enter, send, wire, radio, move, flag, group, sendGroup, refused}
+use Rattle.protocol.specs.Events.{Event, Answer, start, enter, send, wire, radio, move, flag, group, sendGroup, sendLong, refused}
 use Rattle.protocol.specs.Form.{passesForm}
 use Rattle.protocol.specs.Quiet.{turnedAway}
 use Rattle.protocol.proofs.Tests.{by-test}
@@ -16,12 +16,14 @@ use Rattle.view.proofs.Lengths.{Lengths, lengths-of}
 use Rattle.form_test.proofs.Split.{fails-lengths}
 use Rattle.event_start.proofs.Starts.{start-lengths}
 use Rattle.event_answers.specs.Met.{Met}
-use Rattle.event_answers.proofs.Broken.{broken-enter, broken-send, broken-wire, broken-radio, broken-move, broken-flag, broken-group, broken-send-group}
+use Rattle.event_answers.proofs.Broken.{broken-enter, broken-send, broken-wire, broken-radio, broken-move, broken-flag, broken-group, broken-send-group, broken-send-long}
 use Rattle.dispatcher.specs.declared.Quiet.{Quiet}
 use Rattle.dispatcher.specs.declared.Quiet.the-variants.{Refused, After}
 use Rattle.dispatcher.specs.Called.{quietIn, QuietMet}
 use Rattle.dispatcher.proofs.CalledLaws.{quiet-broken}
-use Rattle.tested_events.specs.Parts.{SharesPart, ShortText}
+use Rattle.reading.specs.Parts.{readIn}
+use Rattle.reading.proofs.PartLaws.{refusedBy, read-broken}
+use Rattle.tested_events.specs.Parts.{SharesPart, FitText}
 
 -- two products that differ in all these numbers have no part of the same length
 module _ (P Q : Product) (stations : P .stations ≡ Q .stations → ⊥) (carts : P .carts ≡ Q .carts → ⊥) (held : P .held ≡ Q .held → ⊥)
@@ -34,7 +36,7 @@ module _ (P Q : Product) (stations : P .stations ≡ Q .stations → ⊥) (carts
     not-both : Lengths K → SharesPart K L → Lengths L → ⊥
     not-both k (inl e) l = stations (let z = between (λ X. X .stations) (λ X. 116 + X .stations * 116) (k .stations) (l .stations) e in omega arith)
     not-both k (inr (inl e)) l = carts (let z = between (λ X. X .carts) (λ X. X .carts * 19) (k .carts) (l .carts) e in omega arith)
-    not-both k (inr (inr (inl e))) l = held (let z = between (λ X. X .messages) (λ X. X .held * 6) (k .messages) (l .messages) e in omega arith)
+    not-both k (inr (inr (inl e))) l = held (let z = between (λ X. X .messages) (λ X. X .held * 7) (k .messages) (l .messages) e in omega arith)
     not-both k (inr (inr (inr (inl e)))) l = records (let z = between (λ X. X .lines) (λ X. 1842 + mostRecords (limitsOf X) * 3) (k .lines) (l .lines) e in omega arith)
     not-both k (inr (inr (inr (inr e)))) l = held (let z = between (λ X. X .texts) (λ X. X .held * 32) (k .texts) (l .texts) e in omega arith)
 
@@ -51,10 +53,10 @@ kit-part-wrong-for-floor = wrong kit wholeFloor (λ z. omega arith) (λ z. omega
 -- 5, of every event, and no word is changed
 module _ (L : Lent) (lengths : lengthsIn L ≡ false) where
   breaks : false ≡ passesForm (limitsOf (L .product)) (floorIn L)
-  breaks = fails-lengths (L .product) (L .stations) (L .carts) (L .messages) (L .lines) (L .texts) (lengthsIn L) refl lengths
+  breaks = fails-lengths (L .product) (L .stations) (L .carts) (L .messages) (L .lines) (L .texts) (L .store) (lengthsIn L) refl lengths
 
-  meets-5 : (e : Event) → ShortText e → Met L L e (refused 5)
-  meets-5 (start n k) _ = start-lengths (L .product) (L .stations) (L .carts) (L .messages) (L .lines) (L .texts) n k (lengthsIn L) refl lengths
+  meets-5 : (e : Event) → FitText e → Met L L e (refused 5)
+  meets-5 (start n k) _ = start-lengths (L .product) (L .stations) (L .carts) (L .messages) (L .lines) (L .texts) (L .store) n k (lengthsIn L) refl lengths
   meets-5 (enter t c) _ = broken-enter L false breaks refl t c
   meets-5 (send s set text) short = broken-send L false breaks refl s set text short
   meets-5 (wire i j) _ = broken-wire L false breaks refl i j
@@ -63,9 +65,10 @@ module _ (L : Lent) (lengths : lengthsIn L ≡ false) where
   meets-5 (flag c b) _ = broken-flag L false breaks refl c b
   meets-5 (group g set) _ = broken-group L false breaks refl g set
   meets-5 (sendGroup s g text) short = broken-send-group L false breaks refl s g text short
+  meets-5 (sendLong s set text) long = broken-send-long L false breaks refl s set text (long .0) (long .1)
 
-  -- 4 is met before it: a send with a text that is too long
-  pub wrong-lengths-are-5 : (L′ : Lent) (e : Event) (a : Answer) → Met L L′ e a → ShortText e → (a ≡ refused 5) × (L′ ≡ L)
+  -- 4 is met before it: a send with a text that is too long, or a long send with one of another length
+  pub wrong-lengths-are-5 : (L′ : Lent) (e : Event) (a : Answer) → Met L L′ e a → FitText e → (a ≡ refused 5) × (L′ ≡ L)
   wrong-lengths-are-5 L′ e a met short = let five = met .answers ∙ sym (meets-5 e short .answers) in (five, met .untouched 5 five)
 
   refused-is : (a : Quiet) → quietIn a ≡ turnedAway 5 → a ≡ Refused 5
@@ -76,3 +79,7 @@ module _ (L : Lent) (lengths : lengthsIn L ≡ false) where
   quiet-wrong-lengths-is-5 L′ buffer buffer′ a met =
       let five = refused-is a (met .answers ∙ sym (quiet-broken L buffer (sym breaks) .answers)) in
       (five, met .untouched 5 five)
+
+  -- and the reading call lends back nothing
+  pub read-wrong-lengths-is-5 : (s n : ℕ) → readIn L s n ≡ refusedBy 5
+  read-wrong-lengths-is-5 s n = sym (read-broken L s n (sym breaks))

@@ -1,24 +1,29 @@
 // THE EVENTS BEHIND THE FORM TEST, once for every product: each tests the lent floor by its caller's limits, "Refusals 5 (form rule and lent lengths) .. use the
-// caller's limits", and then calls the event's own crate. A contract holds for each product that has these numbers. The start, which does
-// not ask the form rule, is `event_start`'s.
+// caller's limits", and then calls the event's own crate. So does the reading call, which is no event. A contract holds for each product that has these
+// numbers. The start, which does not ask the form rule, is `event_start`'s.
 use dispatcher::Quiet;
 use event_answers::Answer;
 use ids::CartNumber;
+use ids::MessageNumber;
 use ids::Station;
 use products::Bounds;
+use reading::Found;
 ghost use mathlib.Core.Path.{_≡_};
 ghost use mathlib.Core.List.{[]};
 ghost use lib.Dec.{ltb};
 ghost use lib.ListN.{length};
-ghost use Rattle.protocol.specs.Floor.{Product};
-ghost use Rattle.protocol.specs.Events.{enter, send, wire, move, flag, sendGroup};
+ghost use Rattle.protocol.specs.Floor.{Product, limits, limitsOf};
+ghost use Rattle.protocol.specs.Events.{enter, send, wire, move, flag, sendGroup, sendLong};
 ghost use Rattle.protocol.specs.Events as events;
+ghost use Rattle.protocol.specs.Store.{notLong};
+ghost use Rattle.protocol.specs.ReadText.{readRefusal};
 ghost use Rattle.products.specs.Numbers.{Fits, NumbersOf};
-ghost use Rattle.view.specs.View.{lent};
+ghost use Rattle.view.specs.View.{lent, floorIn};
 ghost use Rattle.event_answers.specs.Answers.{answerIn};
 ghost use Rattle.event_answers.specs.Met.{Met};
 ghost use Rattle.event_answers.specs.Delivered.{Delivered};
 ghost use Rattle.dispatcher.specs.Called.{QuietMet};
+ghost use Rattle.reading.specs.Parts.{readIn, TextLent};
 
 // "Enter (station, cart)".
 pub fn enter(
@@ -27,17 +32,27 @@ pub fn enter(
     messages: &[u64],
     lines: &[u64],
     texts: &[u8],
+    store: &[u8],
     station: Station,
     cart: CartNumber,
     bounds: Bounds,
 ) -> Answer
     requires { ⌜ Fits bounds ⌝ }
-    ensures { λ a. ⌜ ((P : Product) → NumbersOf P bounds → Met (lent P (now (stations .entry)) (now (carts .entry)) (now (messages .entry)) (now (lines .entry)) (now (texts .entry))) (lent P (now (stations .exit)) (now (carts .exit)) (now (messages .entry)) (now (lines .entry)) (now (texts .entry))) (enter (station .0) (cart .0)) (answerIn a [])) ⌝ }
+    ensures { λ a. ⌜ ((P : Product) → NumbersOf P bounds → Met (lent P (now (stations .entry)) (now (carts .entry)) (now (messages .entry)) (now (lines .entry)) (now (texts .entry)) (now (store .entry))) (lent P (now (stations .exit)) (now (carts .exit)) (now (messages .entry)) (now (lines .entry)) (now (texts .entry)) (now (store .entry))) (enter (station .0) (cart .0)) (answerIn a [])) ⌝ }
 {
-    if !form_test::passes(stations, carts, messages, lines, texts, bounds) {
+    if !form_test::passes(stations, carts, messages, lines, texts, store, bounds) {
         return Answer::Refused(5);
     }
-    event_carts::enter(stations, carts, messages, lines, texts, station, cart)
+    event_carts::enter(
+        stations,
+        carts,
+        messages,
+        lines,
+        texts,
+        store,
+        station,
+        cart,
+    )
 }
 
 // "text longer than 32"
@@ -54,18 +69,19 @@ pub fn send(
     messages: &mut [u64],
     lines: &mut [u64],
     texts: &mut [u8],
+    store: &[u8],
     station: Station,
     set: u64,
     text: &[u8],
     bounds: Bounds,
 ) -> Answer
     requires { ⌜ Fits bounds ⌝ }
-    ensures { λ a. ⌜ ((P : Product) → NumbersOf P bounds → Met (lent P (now (stations .entry)) (now (carts .entry)) (now (messages .entry)) (now (lines .entry)) (now (texts .entry))) (lent P (now (stations .exit)) (now (carts .entry)) (now (messages .exit)) (now (lines .exit)) (now (texts .exit))) (send (station .0) set (now (text .entry))) (answerIn a [])) ⌝ }
+    ensures { λ a. ⌜ ((P : Product) → NumbersOf P bounds → Met (lent P (now (stations .entry)) (now (carts .entry)) (now (messages .entry)) (now (lines .entry)) (now (texts .entry)) (now (store .entry))) (lent P (now (stations .exit)) (now (carts .entry)) (now (messages .exit)) (now (lines .exit)) (now (texts .exit)) (now (store .entry))) (send (station .0) set (now (text .entry))) (answerIn a [])) ⌝ }
 {
     if is_too_long(text) {
         return Answer::Refused(4);
     }
-    if !form_test::passes(stations, carts, messages, lines, texts, bounds) {
+    if !form_test::passes(stations, carts, messages, lines, texts, store, bounds) {
         return Answer::Refused(5);
     }
     event_send::send(
@@ -74,6 +90,7 @@ pub fn send(
         messages,
         lines,
         texts,
+        store,
         station,
         set,
         text,
@@ -88,17 +105,18 @@ pub fn wire(
     messages: &mut [u64],
     lines: &mut [u64],
     texts: &[u8],
+    store: &[u8],
     from: Station,
     to: Station,
     bounds: Bounds,
 ) -> Answer
     requires { ⌜ Fits bounds ⌝ }
-    ensures { λ a. ⌜ ((P : Product) → NumbersOf P bounds → Met (lent P (now (stations .entry)) (now (carts .entry)) (now (messages .entry)) (now (lines .entry)) (now (texts .entry))) (lent P (now (stations .exit)) (now (carts .exit)) (now (messages .exit)) (now (lines .exit)) (now (texts .entry))) (wire (from .0) (to .0)) (answerIn a [])) ⌝ }
+    ensures { λ a. ⌜ ((P : Product) → NumbersOf P bounds → Met (lent P (now (stations .entry)) (now (carts .entry)) (now (messages .entry)) (now (lines .entry)) (now (texts .entry)) (now (store .entry))) (lent P (now (stations .exit)) (now (carts .exit)) (now (messages .exit)) (now (lines .exit)) (now (texts .entry)) (now (store .entry))) (wire (from .0) (to .0)) (answerIn a [])) ⌝ }
 {
-    if !form_test::passes(stations, carts, messages, lines, texts, bounds) {
+    if !form_test::passes(stations, carts, messages, lines, texts, store, bounds) {
         return Answer::Refused(5);
     }
-    event_wire::wire(stations, carts, messages, lines, texts, from, to)
+    event_wire::wire(stations, carts, messages, lines, texts, store, from, to)
 }
 
 // "Radio (station, cart)": `Delivered` says of the lent text buffer, too, what it is afterwards.
@@ -108,15 +126,16 @@ pub fn radio(
     messages: &[u64],
     lines: &mut [u64],
     texts: &[u8],
+    store: &[u8],
     station: Station,
     cart: CartNumber,
     buffer: &mut [u8],
     bounds: Bounds,
 ) -> Answer
     requires { ⌜ Fits bounds ⌝ }
-    ensures { λ a. ⌜ ((P : Product) → NumbersOf P bounds → Delivered (lent P (now (stations .entry)) (now (carts .entry)) (now (messages .entry)) (now (lines .entry)) (now (texts .entry))) (lent P (now (stations .exit)) (now (carts .exit)) (now (messages .entry)) (now (lines .exit)) (now (texts .entry))) (station .0) (cart .0) a (now (buffer .entry)) (now (buffer .exit))) ⌝ }
+    ensures { λ a. ⌜ ((P : Product) → NumbersOf P bounds → Delivered (lent P (now (stations .entry)) (now (carts .entry)) (now (messages .entry)) (now (lines .entry)) (now (texts .entry)) (now (store .entry))) (lent P (now (stations .exit)) (now (carts .exit)) (now (messages .entry)) (now (lines .exit)) (now (texts .entry)) (now (store .entry))) (station .0) (cart .0) a (now (buffer .entry)) (now (buffer .exit))) ⌝ }
 {
-    if !form_test::passes(stations, carts, messages, lines, texts, bounds) {
+    if !form_test::passes(stations, carts, messages, lines, texts, store, bounds) {
         return Answer::Refused(5);
     }
     event_radio::radio_into(
@@ -125,6 +144,7 @@ pub fn radio(
         messages,
         lines,
         texts,
+        store,
         station,
         cart,
         buffer,
@@ -138,17 +158,18 @@ pub fn move_cart(
     messages: &[u64],
     lines: &mut [u64],
     texts: &[u8],
+    store: &[u8],
     cart: CartNumber,
     to: Station,
     bounds: Bounds,
 ) -> Answer
     requires { ⌜ Fits bounds ⌝ }
-    ensures { λ a. ⌜ ((P : Product) → NumbersOf P bounds → Met (lent P (now (stations .entry)) (now (carts .entry)) (now (messages .entry)) (now (lines .entry)) (now (texts .entry))) (lent P (now (stations .entry)) (now (carts .exit)) (now (messages .entry)) (now (lines .exit)) (now (texts .entry))) (move (cart .0) (to .0)) (answerIn a [])) ⌝ }
+    ensures { λ a. ⌜ ((P : Product) → NumbersOf P bounds → Met (lent P (now (stations .entry)) (now (carts .entry)) (now (messages .entry)) (now (lines .entry)) (now (texts .entry)) (now (store .entry))) (lent P (now (stations .entry)) (now (carts .exit)) (now (messages .entry)) (now (lines .exit)) (now (texts .entry)) (now (store .entry))) (move (cart .0) (to .0)) (answerIn a [])) ⌝ }
 {
-    if !form_test::passes(stations, carts, messages, lines, texts, bounds) {
+    if !form_test::passes(stations, carts, messages, lines, texts, store, bounds) {
         return Answer::Refused(5);
     }
-    event_carts::move_cart(stations, carts, messages, lines, texts, cart, to)
+    event_carts::move_cart(stations, carts, messages, lines, texts, store, cart, to)
 }
 
 // "A cart counts as steady from its entry until told": the cart is told steady, or not.
@@ -158,17 +179,18 @@ pub fn flag_cart(
     messages: &[u64],
     lines: &[u64],
     texts: &[u8],
+    store: &[u8],
     cart: CartNumber,
     steady: bool,
     bounds: Bounds,
 ) -> Answer
     requires { ⌜ Fits bounds ⌝ }
-    ensures { λ a. ⌜ ((P : Product) → NumbersOf P bounds → Met (lent P (now (stations .entry)) (now (carts .entry)) (now (messages .entry)) (now (lines .entry)) (now (texts .entry))) (lent P (now (stations .entry)) (now (carts .exit)) (now (messages .entry)) (now (lines .entry)) (now (texts .entry))) (flag (cart .0) steady) (answerIn a [])) ⌝ }
+    ensures { λ a. ⌜ ((P : Product) → NumbersOf P bounds → Met (lent P (now (stations .entry)) (now (carts .entry)) (now (messages .entry)) (now (lines .entry)) (now (texts .entry)) (now (store .entry))) (lent P (now (stations .entry)) (now (carts .exit)) (now (messages .entry)) (now (lines .entry)) (now (texts .entry)) (now (store .entry))) (flag (cart .0) steady) (answerIn a [])) ⌝ }
 {
-    if !form_test::passes(stations, carts, messages, lines, texts, bounds) {
+    if !form_test::passes(stations, carts, messages, lines, texts, store, bounds) {
         return Answer::Refused(5);
     }
-    event_carts::flag_cart(stations, carts, messages, lines, texts, cart, steady)
+    event_carts::flag_cart(stations, carts, messages, lines, texts, store, cart, steady)
 }
 
 // "Kind 7 carries a group number .. and the set; an empty set undefines the group".
@@ -178,17 +200,18 @@ pub fn define_group(
     messages: &[u64],
     lines: &[u64],
     texts: &[u8],
+    store: &[u8],
     group: u64,
     set: u64,
     bounds: Bounds,
 ) -> Answer
     requires { ⌜ Fits bounds ⌝ }
-    ensures { λ a. ⌜ ((P : Product) → NumbersOf P bounds → Met (lent P (now (stations .entry)) (now (carts .entry)) (now (messages .entry)) (now (lines .entry)) (now (texts .entry))) (lent P (now (stations .exit)) (now (carts .entry)) (now (messages .entry)) (now (lines .entry)) (now (texts .entry))) (events.group group set) (answerIn a [])) ⌝ }
+    ensures { λ a. ⌜ ((P : Product) → NumbersOf P bounds → Met (lent P (now (stations .entry)) (now (carts .entry)) (now (messages .entry)) (now (lines .entry)) (now (texts .entry)) (now (store .entry))) (lent P (now (stations .exit)) (now (carts .entry)) (now (messages .entry)) (now (lines .entry)) (now (texts .entry)) (now (store .entry))) (events.group group set) (answerIn a [])) ⌝ }
 {
-    if !form_test::passes(stations, carts, messages, lines, texts, bounds) {
+    if !form_test::passes(stations, carts, messages, lines, texts, store, bounds) {
         return Answer::Refused(5);
     }
-    event_groups::define_group(stations, carts, messages, lines, texts, group, set)
+    event_groups::define_group(stations, carts, messages, lines, texts, store, group, set)
 }
 
 // "Kind 8 carries station, group .. and length, then text, and sends to the members as they are at that send". A text longer than 32 octets is met
@@ -199,18 +222,19 @@ pub fn send_group(
     messages: &mut [u64],
     lines: &mut [u64],
     texts: &mut [u8],
+    store: &[u8],
     station: Station,
     group: u64,
     text: &[u8],
     bounds: Bounds,
 ) -> Answer
     requires { ⌜ Fits bounds ⌝ }
-    ensures { λ a. ⌜ ((P : Product) → NumbersOf P bounds → Met (lent P (now (stations .entry)) (now (carts .entry)) (now (messages .entry)) (now (lines .entry)) (now (texts .entry))) (lent P (now (stations .exit)) (now (carts .entry)) (now (messages .exit)) (now (lines .exit)) (now (texts .exit))) (sendGroup (station .0) group (now (text .entry))) (answerIn a [])) ⌝ }
+    ensures { λ a. ⌜ ((P : Product) → NumbersOf P bounds → Met (lent P (now (stations .entry)) (now (carts .entry)) (now (messages .entry)) (now (lines .entry)) (now (texts .entry)) (now (store .entry))) (lent P (now (stations .exit)) (now (carts .entry)) (now (messages .exit)) (now (lines .exit)) (now (texts .exit)) (now (store .entry))) (sendGroup (station .0) group (now (text .entry))) (answerIn a [])) ⌝ }
 {
     if is_too_long(text) {
         return Answer::Refused(4);
     }
-    if !form_test::passes(stations, carts, messages, lines, texts, bounds) {
+    if !form_test::passes(stations, carts, messages, lines, texts, store, bounds) {
         return Answer::Refused(5);
     }
     event_send::send_group(
@@ -219,6 +243,7 @@ pub fn send_group(
         messages,
         lines,
         texts,
+        store,
         station,
         group,
         text,
@@ -226,25 +251,161 @@ pub fn send_group(
     )
 }
 
-// "Run the floor until it is quiet", with a lent text buffer: 5, "21 if that buffer is shorter than 32, after 5, before the first step", and then all steps
-// that there are to be taken, wires first.
+// "for kind 9, 4 for other lengths" than "33 to 512 octets".
+fn is_not_long(text: &[u8]) -> bool
+    ensures { λ r. ⌜ r ≡ notLong limits (length (now (text .entry))) ⌝ }
+{
+    if text.len() <= products::TEXT {
+        return true;
+    }
+    products::LONG < text.len()
+}
+
+// "Kind 9 is a send whose text has 33 to 512 octets". A text of another length is met before anything of the floor.
+pub fn send_long(
+    stations: &mut [u64],
+    carts: &[u64],
+    messages: &mut [u64],
+    lines: &mut [u64],
+    texts: &[u8],
+    store: &mut [u8],
+    station: Station,
+    set: u64,
+    text: &[u8],
+    bounds: Bounds,
+) -> Answer
+    requires { ⌜ Fits bounds ⌝ }
+    ensures { λ a. ⌜ ((P : Product) → NumbersOf P bounds → Met (lent P (now (stations .entry)) (now (carts .entry)) (now (messages .entry)) (now (lines .entry)) (now (texts .entry)) (now (store .entry))) (lent P (now (stations .exit)) (now (carts .entry)) (now (messages .exit)) (now (lines .exit)) (now (texts .entry)) (now (store .exit))) (sendLong (station .0) set (now (text .entry))) (answerIn a [])) ⌝ }
+{
+    if is_not_long(text) {
+        return Answer::Refused(4);
+    }
+    if !form_test::passes(stations, carts, messages, lines, texts, store, bounds) {
+        return Answer::Refused(5);
+    }
+    event_send::send_long(
+        stations,
+        carts,
+        messages,
+        lines,
+        texts,
+        store,
+        station,
+        set,
+        text,
+        bounds,
+    )
+}
+
+// "Run the floor until it is quiet", with a lent text buffer: 5, "21 if that buffer is shorter", now "below 512", "after 5, before the first step", and then
+// all steps that there are to be taken, wires first.
 pub fn quiet(
     stations: &mut [u64],
     carts: &mut [u64],
     messages: &mut [u64],
     lines: &mut [u64],
     texts: &[u8],
+    store: &[u8],
     buffer: &mut [u8],
     bounds: Bounds,
 ) -> Quiet
     requires { ⌜ Fits bounds ⌝ }
-    ensures { λ a. ⌜ ((P : Product) → NumbersOf P bounds → QuietMet (lent P (now (stations .entry)) (now (carts .entry)) (now (messages .entry)) (now (lines .entry)) (now (texts .entry))) (lent P (now (stations .exit)) (now (carts .exit)) (now (messages .exit)) (now (lines .exit)) (now (texts .entry))) (now (buffer .entry)) (now (buffer .exit)) a) ⌝ }
+    ensures { λ a. ⌜ ((P : Product) → NumbersOf P bounds → QuietMet (lent P (now (stations .entry)) (now (carts .entry)) (now (messages .entry)) (now (lines .entry)) (now (texts .entry)) (now (store .entry))) (lent P (now (stations .exit)) (now (carts .exit)) (now (messages .exit)) (now (lines .exit)) (now (texts .entry)) (now (store .entry))) (now (buffer .entry)) (now (buffer .exit)) a) ⌝ }
 {
-    if !form_test::passes(stations, carts, messages, lines, texts, bounds) {
+    if !form_test::passes(stations, carts, messages, lines, texts, store, bounds) {
         return Quiet::Refused(5);
     }
-    if buffer.len() < products::TEXT {
+    if buffer.len() < products::LONG {
         return Quiet::Refused(21);
     }
-    Quiet::After(dispatcher::run_until_quiet(stations, carts, messages, lines, texts, buffer))
+    Quiet::After(dispatcher::run_until_quiet(
+        stations,
+        carts,
+        messages,
+        lines,
+        texts,
+        store,
+        buffer,
+    ))
+}
+
+// What the reading call comes to: "for the reading call, 5, 8, then 28 message not held", or 0, and the part that it lends back.
+pub fn read(
+    stations: &[u64],
+    carts: &[u64],
+    messages: &[u64],
+    lines: &[u64],
+    texts: &[u8],
+    store: &[u8],
+    initiator: Station,
+    number: MessageNumber,
+    bounds: Bounds,
+) -> Found
+    requires { ⌜ Fits bounds ⌝ }
+    ensures { λ r. ⌜ ((P : Product) → NumbersOf P bounds → r ≡ readIn (lent P (now (stations .entry)) (now (carts .entry)) (now (messages .entry)) (now (lines .entry)) (now (texts .entry)) (now (store .entry))) (initiator .0) (number .0)) ⌝ }
+{
+    if !form_test::passes(stations, carts, messages, lines, texts, store, bounds) {
+        return reading::refused(5);
+    }
+    reading::read(stations, messages, bounds.held, initiator, number)
+}
+
+// THE READING CALL: "by initiator and number, lends back that text's own part of the short table or of the long store"; "refused, it lends back the empty
+// part at the front of the short table".
+pub fn text_of<'a>(
+    stations: &[u64],
+    carts: &[u64],
+    messages: &[u64],
+    lines: &[u64],
+    texts: &'a [u8],
+    store: &'a [u8],
+    initiator: Station,
+    number: MessageNumber,
+    bounds: Bounds,
+) -> &'a [u8]
+    requires { ⌜ Fits bounds ⌝ }
+    ensures { λ r. ⌜ ((P : Product) → NumbersOf P bounds → TextLent (lent P (now (stations .entry)) (now (carts .entry)) (now (messages .entry)) (now (lines .entry)) (now (texts .entry)) (now (store .entry))) (texts .entry) (store .entry) (initiator .0) (number .0) r) ⌝ }
+{
+    let found = read(
+        stations,
+        carts,
+        messages,
+        lines,
+        texts,
+        store,
+        initiator,
+        number,
+        bounds,
+    );
+    let part = found.part;
+    reading::lend(texts, store, part)
+}
+
+// "a call beside it gives the number, 0 if not refused".
+pub fn text_refusal(
+    stations: &[u64],
+    carts: &[u64],
+    messages: &[u64],
+    lines: &[u64],
+    texts: &[u8],
+    store: &[u8],
+    initiator: Station,
+    number: MessageNumber,
+    bounds: Bounds,
+) -> u64
+    requires { ⌜ Fits bounds ⌝ }
+    ensures { λ r. ⌜ ((P : Product) → NumbersOf P bounds → r ≡ readRefusal (limitsOf P) (floorIn (lent P (now (stations .entry)) (now (carts .entry)) (now (messages .entry)) (now (lines .entry)) (now (texts .entry)) (now (store .entry)))) (initiator .0) (number .0)) ⌝ }
+{
+    let found = read(
+        stations,
+        carts,
+        messages,
+        lines,
+        texts,
+        store,
+        initiator,
+        number,
+        bounds,
+    );
+    found.refusal
 }

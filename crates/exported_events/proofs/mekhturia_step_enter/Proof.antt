@@ -20,7 +20,7 @@ same-length-3 : tie.Need-same-length-3
 same-length-3 c = search needs
 
 returns : tie.Need-returns
-returns c = record { answered = c .before .before .before .before .before .before .before .before .enter .result; met = c .before .before .before .before .before .before .before .before .enter .ensures wholeFloor (c .before .before .before .before .before .before .before .before .before .before .before .before .before .before .before .before .before .pre .0); words = c .before .before .put-answer-words .ensures .0 }
+returns c = record { answered = c .before .before .before .before .before .before .before .before .enter .result; met = c .before .before .before .before .before .before .before .before .enter .ensures wholeFloor (c .before .before .before .before .before .before .before .before .before .before .before .before .before .before .before .before .before .before .pre .0); words = c .before .before .put-answer-words .ensures .0 }
 
 pub mekhturia-step-enter-spec : {M : Type 1} → statement M
 mekhturia-step-enter-spec =

@@ -28,7 +28,7 @@ same-length-5 c = search needs
 returns : tie.Need-returns
 returns c =
     let r = c .before .before .before .before .before .before .before .before .before .before .before .before .radio-into in
-    record { answered = r .result; delivered = r .ensures wholeFloor (c .before .before .before .before .before .before .before .before .before .before .before .before .before .before .before .before .before .before .before .before .before .before .before .before .pre .0); words = c .before .before .put-answer-words .ensures .0 }
+    record { answered = r .result; delivered = r .ensures wholeFloor (c .before .before .before .before .before .before .before .before .before .before .before .before .before .before .before .before .before .before .before .before .before .before .before .before .before .pre .0); words = c .before .before .put-answer-words .ensures .0 }
 
 pub mekhturia-step-radio-spec : {M : Type 1} → statement M
 mekhturia-step-radio-spec =

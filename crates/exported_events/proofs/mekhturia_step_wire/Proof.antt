@@ -26,7 +26,7 @@ same-length-5 : tie.Need-same-length-5
 same-length-5 c = search needs
 
 returns : tie.Need-returns
-returns c = record { answered = c .before .before .before .before .before .before .before .before .before .before .before .before .wire .result; met = c .before .before .before .before .before .before .before .before .before .before .before .before .wire .ensures wholeFloor (c .before .before .before .before .before .before .before .before .before .before .before .before .before .before .before .before .before .before .before .before .before .before .before .pre .0); words = c .before .before .put-answer-words .ensures .0 }
+returns c = record { answered = c .before .before .before .before .before .before .before .before .before .before .before .before .wire .result; met = c .before .before .before .before .before .before .before .before .before .before .before .before .wire .ensures wholeFloor (c .before .before .before .before .before .before .before .before .before .before .before .before .before .before .before .before .before .before .before .before .before .before .before .before .pre .0); words = c .before .before .put-answer-words .ensures .0 }
 
 pub mekhturia-step-wire-spec : {M : Type 1} → statement M
 mekhturia-step-wire-spec =

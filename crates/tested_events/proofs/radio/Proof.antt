@@ -13,14 +13,14 @@ use Rattle.tested_events.proofs.radio.Tie as tie
 
 returns : tie.Need-returns
 returns c P e =
-    let a = c .before .before .before .before .before .before .before .before .before .before .before .args in
-    let L = lent P (now (a .stations)) (now (a .carts)) (now (a .messages)) (now (a .lines)) (now (a .texts)) in
+    let a = c .before .before .before .before .before .before .before .before .before .before .before .before .args in
+    let L = lent P (now (a .stations)) (now (a .carts)) (now (a .messages)) (now (a .lines)) (now (a .texts)) (now (a .store)) in
     delivers-refused L L (a .station .0) (a .cart .0) (now (a .buffer)) 5
     (broken-radio L _ (c .before .passes .ensures P e) (not-true _ (c .if1 .taken)) (a .station .0) (a .cart .0) (length (now (a .buffer))))
 
 radio-into-requires : tie.Need-radio-into-requires
 radio-into-requires c κs =
-    let start = c .before .before .before .before .before .before .before .before .before .before .before .before .before .before .before in
+    let start = c .before .before .before .before .before .before .before .before .before .before .before .before .before .before .before .before in
     (productOf (start .args .bounds) (start .pre), tested-ready _ _ (c .before .before .before .before .before .passes .ensures _ (its-numbers (start .args .bounds) (start .pre))) (c .before .before .before .before .if1 .left))
 
 returns-2 : tie.Need-returns-2
