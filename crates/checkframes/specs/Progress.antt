@@ -5,6 +5,7 @@ use mathlib.Core.List.{List, _++_}
 use Prim.Native.Nat.{ℕ, _≤_, _<_}
 use lib.Dec.{eqb, ltb}
 use lib.ListN.{length}
+use Rattle.frames.specs.Decoded.{longestFrame}
 use Rattle.frame_reader.specs.Checks.{Found, checked, checkIn, Fed}
 use Rattle.checkframes.specs.declared.Progress.{Progress}
 
@@ -18,7 +19,7 @@ pub record Inside (input : List ℕ) (p : Progress) : Type 0 where
   pub room : length input ≡ 65536
   pub kept : p .kept ≤ length input
   pub few : p .found .frames ≤ p .found .at
-  pub wants : p .state ≡ 0 → p .kept ≤ 47
+  pub wants : p .state ≡ 0 → p .kept < longestFrame
   pub refused : p .state ≡ 2 → 1 < p .found .refusal
 
 -- ONE TURN, from what was kept and found to what is kept and found then: whatever was read before, some octets more were read

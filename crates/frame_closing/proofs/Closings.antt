@@ -180,11 +180,11 @@ module _ (F : Floor) (U : Unstarted F) (ts : List Turn) (made : Turns (begin who
       (line-is over later b (S .left) refl ∙ ap (λ (t : Bool). cond t (closingLine limits (S .floor)) []) last)
 
 -- and what the code comes to: a run over lent parts, and a line behind it
-pub closed : (S C M W T : List ℕ) (L′ : Lent) (run r : Ending) (h : Handed) (line : List ℕ) → Unstarted (floorIn (lent wholeFloor S C M W T))
-    → RanAll (lent wholeFloor S C M W T) L′ run
+pub closed : (S C M W T O : List ℕ) (L′ : Lent) (run r : Ending) (h : Handed) (line : List ℕ) → Unstarted (floorIn (lent wholeFloor S C M W T O))
+    → RanAll (lent wholeFloor S C M W T O) L′ run
     → (take (h .size) line ≡ lastLine run (floorIn L′)) × (h .size ≤ length line) → r ≡ afterLine run h → Closed r
-closed S C M W T L′ run r h line U ran put e =
-    let F = floorIn (lent wholeFloor S C M W T) in
+closed S C M W T O L′ run r h line U ran put e =
+    let F = floorIn (lent wholeFloor S C M W T O) in
     let ts = ran .finished .turns in
     let X = streamAfter (begin wholeFloor F) ts .floor in
     let octets : take (h .size) line ≡ lastLine run X = put .0 ∙ ap (lastLine run) (ran .floor) in

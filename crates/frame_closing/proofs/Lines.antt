@@ -58,7 +58,7 @@ line-unstarted M F s = rw (quiet-5-first M F _ (form-unstarted M F s)) refl
 pub line-quiet : (F : Floor) → passesForm limits F ≡ true → closingLine limits F ≡ answerLine (quietAfter (quietSteps limits F)) (heldCount limits (quietFloor limits F))
 unfolding closingLine
 line-quiet F h =
-    let runs = quiet-runs limits F (replicate 32 0) h (omega arith) in
+    let runs = quiet-runs limits F (replicate 512 0) h (omega arith) in
     rw (runs .0, runs .1 .0) refl
 
 -- as the code does: by the steps that it counted and the floor that it left

@@ -36,7 +36,7 @@ fn taken(messages: &[u64], m: usize) -> u64
 
 // "how many messages are then held"
 fn held_messages(messages: &[u64]) -> u64
-    requires { ⌜ length (now messages) ≡ 192 ⌝ }
+    requires { ⌜ length (now messages) ≡ 224 ⌝ }
     ensures { λ r. ⌜ r ≡ count 32 (isTaken (now (messages .entry))) ⌝ }
 {
     let mut held: u64 = 0;
@@ -89,15 +89,24 @@ fn put_line(
     messages: &mut [u64],
     lines: &mut [u64],
     texts: &[u8],
+    store: &[u8],
 ) -> usize
-    requires { ⌜ Ready (lent wholeFloor (now stations) (now carts) (now messages) (now lines) (now texts)) × (longestClosing ≤ length (now line)) ⌝ }
-    ensures { λ r. ⌜ Wrote longestClosing (closingLine limits (floorIn (lent wholeFloor (now (stations .entry)) (now (carts .entry)) (now (messages .entry)) (now (lines .entry)) (now (texts .entry))))) (now (line .entry)) (now (line .exit)) 0 r ⌝ }
+    requires { ⌜ Ready (lent wholeFloor (now stations) (now carts) (now messages) (now lines) (now texts) (now store)) × (longestClosing ≤ length (now line)) ⌝ }
+    ensures { λ r. ⌜ Wrote longestClosing (closingLine limits (floorIn (lent wholeFloor (now (stations .entry)) (now (carts .entry)) (now (messages .entry)) (now (lines .entry)) (now (texts .entry)) (now (store .entry))))) (now (line .entry)) (now (line .exit)) 0 r ⌝ }
 {
     if !stations::is_started(stations) {
         return put_refused(line, NOT_STARTED);
     }
-    let mut buffer = [0u8; products::TEXT];
-    let steps = dispatcher::run_until_quiet(stations, carts, messages, lines, texts, &mut buffer);
+    let mut buffer = [0u8; products::LONG];
+    let steps = dispatcher::run_until_quiet(
+        stations,
+        carts,
+        messages,
+        lines,
+        texts,
+        store,
+        &mut buffer,
+    );
     put_steps(line, steps, held_messages(messages))
 }
 
@@ -121,9 +130,10 @@ fn hand_line(
     messages: &mut [u64],
     lines: &mut [u64],
     texts: &[u8],
+    store: &[u8],
 ) -> Handed
-    requires { ⌜ Ready (lent wholeFloor (now stations) (now carts) (now messages) (now lines) (now texts)) × (longestClosing ≤ length (now line)) ⌝ }
-    ensures { λ r. ⌜ (take (r .size) (now (line .exit)) ≡ lastLine run (floorIn (lent wholeFloor (now (stations .entry)) (now (carts .entry)) (now (messages .entry)) (now (lines .entry)) (now (texts .entry))))) × (r .size ≤ length (now (line .exit))) ⌝ }
+    requires { ⌜ Ready (lent wholeFloor (now stations) (now carts) (now messages) (now lines) (now texts) (now store)) × (longestClosing ≤ length (now line)) ⌝ }
+    ensures { λ r. ⌜ (take (r .size) (now (line .exit)) ≡ lastLine run (floorIn (lent wholeFloor (now (stations .entry)) (now (carts .entry)) (now (messages .entry)) (now (lines .entry)) (now (texts .entry)) (now (store .entry))))) × (r .size ≤ length (now (line .exit))) ⌝ }
 {
     if !at_end(run) {
         return Handed {
@@ -131,7 +141,7 @@ fn hand_line(
             accepted: true,
         };
     }
-    let n = put_line(line, stations, carts, messages, lines, texts);
+    let n = put_line(line, stations, carts, messages, lines, texts, store);
     frame_stream::hand_on(to, &line[..n])
 }
 
@@ -159,6 +169,7 @@ pub fn close(from: i32, to: i32) -> Ending
     let mut messages = frame_stream::no_messages();
     let mut lines = frame_stream::no_lines();
     let mut texts = frame_stream::no_texts();
+    let mut store = frame_stream::no_store();
     let run = frame_stream::run_over(
         from,
         to,
@@ -167,6 +178,7 @@ pub fn close(from: i32, to: i32) -> Ending
         &mut messages,
         &mut lines,
         &mut texts,
+        &mut store,
         products::floor_bounds(),
     );
     let mut line = [0u8; LONGEST];
@@ -179,6 +191,7 @@ pub fn close(from: i32, to: i32) -> Ending
         &mut messages,
         &mut lines,
         &texts,
+        &store,
     );
     after_line(run, handed)
 }

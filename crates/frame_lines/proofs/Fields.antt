@@ -5,14 +5,14 @@ use mathlib.Core.List.{List, [], _∷_, _++_, append-assoc, append-nil}
 use Prim.Native.Nat.{ℕ, zero, suc, _+_, _*_, _≤_, _<_}
 use native.Mathlib.Omega.{arith}
 use lib.ListN.{length, take, set, length-append, length-set}
-use lib.Seq.{length-take-le}
+use lib.Seq.{length-take-le, take-all}
 use lib.Dec.{eqb}
 use borrow.Author.Tests.{eq-eqb, ne-eqb}
 use Rattle.protocol.proofs.Tests.{by-lt}
 use Rattle.protocol.specs.Events.{Report, Answer, accepted, refused}
 use Rattle.protocol.specs.Printed.{digitChar, decimal, hexadecimal, field, textField, reportFields, restOf, lineOf}
 use Rattle.frame_lines.specs.Lines.{written, Wrote, Began, fourOctets, longestNumber, longestField, shortField, longestPair, longestHead, longestNumbers}
-use Rattle.frame_lines.specs.Lines.{textOctets, textDigits, longestText, longestFields, longestRest, longestNo, shortRest}
+use Rattle.frame_lines.specs.Lines.{textOctets, longDigits, longestText, longestFields, longestRest, longestNo, shortRest}
 use Rattle.frame_lines.proofs.Octets.{wrote-one, wrote-all, wrote-then, wrote-wider, began-all, began-then, began-more, pair-stored}
 use Rattle.frame_lines.proofs.Numbers.{digit-small, decimal-one, some-digit, word-of, digit-written, hex-length, hex-front}
 
@@ -61,7 +61,7 @@ pub text-empty : (room l : List ℕ) (at size : ℕ) → size ≡ 0 → at + lon
     → Wrote longestText (textField (take size room)) l (set (set l at 32) (at + 1) 45) at (at + 2)
 text-empty room l at size e h = rw (none-of room size e) (wrote-wider (omega arith) (pair-stored l at 32 45 (omega arith)))
 
-some-text : (text l l₁ : List ℕ) (at next : ℕ) → 0 < length text → at + longestText ≤ length l → Wrote textDigits (hexadecimal text) (set l at 32) l₁ (at + 1) next
+some-text : (text l l₁ : List ℕ) (at next : ℕ) → 0 < length text → at + longestText ≤ length l → Wrote longDigits (hexadecimal text) (set l at 32) l₁ (at + 1) next
     → Wrote longestText (textField text) l l₁ at next
 some-text [] l l₁ at next e h w = absurd (omega arith)
 some-text (x ∷ text) l l₁ at next e h w = wrote-then (omega arith) (wrote-one l at 32 (at + 1) (omega arith) refl) w
@@ -84,6 +84,13 @@ text-some room digits l l₁ at size e k r h d q =
     some : 0 < size
     some = by-lt 0 size (λ s. s) (λ s. absurd (e (omega arith)))
 
+-- all digits of a text
+pub text-long : (text l l₁ : List ℕ) (at i next : ℕ) → i ≡ length text → 0 < length text → at + longestText ≤ length l
+    → Wrote longDigits (hexadecimal (take i text)) (set l at 32) l₁ (at + 1) next → Wrote longestText (textField text) l l₁ at next
+text-long text l l₁ at i next e some h w =
+    some-text text l l₁ at next some h
+    (subst (λ (a : List ℕ). Wrote longDigits (hexadecimal a) (set l at 32) l₁ (at + 1) next) (take-all i text (omega arith)) w)
+
 -- A REPORT
 
 -- kind, a, b, p; and behind them w and q
@@ -105,23 +112,31 @@ report-long r =
     let v = length-append (numbers r) (cond (eqb (r .kind) 4) (textField (r .text)) []) in
     omega arith
 
-module _ (r : Report) {l l₁ l₂ : List ℕ} {at p₁ p₂ : ℕ} (room : at + longestFields ≤ length l) (head : Began 3 longestHead (headOf r) l l₁ at p₁)
-    (last : Wrote longestPair (field (r .w) ++ field (r .q)) l₁ l₂ p₁ p₂) where
-  numbers-written : Wrote longestNumbers (numbers r) l l₂ at p₂
-  numbers-written =
+module _ (r : Report) where
+  -- the head by the table, and w and q
+  pub numbers-spelled : {l l₁ l₂ : List ℕ} {at p₁ p₂ : ℕ} → Began 3 longestHead (headOf r) l l₁ at p₁ → Wrote longestPair (field (r .w) ++ field (r .q)) l₁ l₂ p₁ p₂
+      → Wrote longestNumbers (numbers r) l l₂ at p₂
+  numbers-spelled {l} {l₁} {l₂} {at} {p₁} {p₂} head last =
       subst (λ (x : List ℕ). Wrote longestNumbers x l l₂ at p₂) (sym (append-assoc (headOf r) (field (r .w)) (field (r .q))))
       (began-then (fields-long (r .w) (r .q)) head last)
 
-  pub with-text : {l₃ : List ℕ} {next : ℕ} → r .kind ≡ 4 → Wrote longestText (textField (r .text)) l₂ l₃ p₂ next
-      → Wrote longestFields (reportFields r) l l₃ at next
-  with-text {l₃} {next} k t =
-      subst (λ (x : Bool). Wrote longestFields (numbers r ++ cond x (textField (r .text)) []) l l₃ at next) (sym (eq-eqb (r .kind) 4 k))
-      (wrote-then (omega arith) numbers-written t)
+  -- three pairs of numbers
+  pub numbers-paired : {l l₁ l₂ l₃ : List ℕ} {at p₁ p₂ p₃ : ℕ} → at + longestNumbers ≤ length l → Wrote longestPair (field (r .kind) ++ field (r .a)) l l₁ at p₁
+      → Wrote longestPair (field (r .b) ++ field (r .p)) l₁ l₂ p₁ p₂ → Wrote longestPair (field (r .w) ++ field (r .q)) l₂ l₃ p₂ p₃ → Wrote longestNumbers (numbers r) l l₃ at p₃
+  numbers-paired room u v w =
+      let head = wrote-then (omega arith) u v in
+      numbers-spelled (four-joined (r .kind) (r .a) (r .b) (r .p) (began-all 3 (let z = head .few in omega arith) head)) w
 
-  pub without-text : (r .kind ≡ 4 → ⊥) → Wrote longestFields (reportFields r) l l₂ at p₂
-  without-text k =
-      subst (λ (x : Bool). Wrote longestFields (numbers r ++ cond x (textField (r .text)) []) l l₂ at p₂) (sym (ne-eqb (r .kind) 4 k))
-      (subst (λ (x : List ℕ). Wrote longestFields x l l₂ at p₂) (sym (append-nil (numbers r))) (wrote-wider (omega arith) numbers-written))
+  module _ {l l₁ : List ℕ} {at p : ℕ} (room : at + longestFields ≤ length l) (written : Wrote longestNumbers (numbers r) l l₁ at p) where
+    pub with-text : {l₂ : List ℕ} {next : ℕ} → r .kind ≡ 4 → Wrote longestText (textField (r .text)) l₁ l₂ p next → Wrote longestFields (reportFields r) l l₂ at next
+    with-text {l₂} {next} k t =
+        subst (λ (x : Bool). Wrote longestFields (numbers r ++ cond x (textField (r .text)) []) l l₂ at next) (sym (eq-eqb (r .kind) 4 k))
+        (wrote-then (omega arith) written t)
+
+    pub without-text : (r .kind ≡ 4 → ⊥) → Wrote longestFields (reportFields r) l l₁ at p
+    without-text k =
+        subst (λ (x : Bool). Wrote longestFields (numbers r ++ cond x (textField (r .text)) []) l l₁ at p) (sym (ne-eqb (r .kind) 4 k))
+        (subst (λ (x : List ℕ). Wrote longestFields x l l₁ at p) (sym (append-nil (numbers r))) (wrote-wider (omega arith) written))
 
 -- LINES
 

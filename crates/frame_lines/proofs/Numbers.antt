@@ -7,7 +7,7 @@ use native.Mathlib.Numerals.{add-one}
 use native.Mathlib.Omega.{arith}
 use lib.Dec.{ltb}
 use lib.ListN.{length, getD, take, drop, set, length-append, length-drop, length-set}
-use lib.Seq.{take-suc, take-all, take-nil, take-at, getD-set-same, getD-set-other}
+use lib.Seq.{length-take-le, take-suc, take-all, take-nil, take-at, getD-set-same, getD-set-other}
 use borrow.Author.Tests.{lt-ltb, le-ltb}
 use Rattle.protocol.proofs.Tests.{by-test, by-lt}
 use Rattle.protocol.specs.Printed.{digitChar, decimalDigits, decimal, hexadecimal}
@@ -438,31 +438,33 @@ hex-more text i x h e =
     ∙ sym (hex-append (take i text) (getD text i 0 ∷ []))
     ∙ ap (λ (k : List ℕ). hexadecimal k) (sym (take-suc text i 0 h) ∙ ap (λ (n : ℕ). take n text) (sym (add-one i)))
 
-pub hex-stored : (text l l₁ : List ℕ) (i x u v : ℕ) → i < textOctets → length text ≡ textOctets → length l ≡ textDigits
-    → x ≡ getD text i 0 → u ≡ digitChar (x / 16) → v ≡ digitChar (x % 16)
-    → Wrote textDigits (hexadecimal (take i text)) l l₁ 0 (2 * i)
-    → Wrote textDigits (hexadecimal (take (i + 1) text)) l (set (set l₁ (2 * i) u) (2 * i + 1) v) 0 (2 * (i + 1))
-hex-stored text l l₁ i x u v h t r e eu ev w =
-    subst (λ (a : List ℕ). Wrote textDigits a l (set (set l₁ (2 * i) u) (2 * i + 1) v) 0 (2 * (i + 1))) line
-    (wrote-join textDigits (omega arith) (omega arith) w two)
-  where
-    line : hexadecimal (take i text) ++ (u ∷ v ∷ []) ≡ hexadecimal (take (i + 1) text)
-    line = ap₂ (λ (y z : ℕ). hexadecimal (take i text) ++ (y ∷ z ∷ [])) eu ev ∙ hex-more text i x (omega arith) e
-
-    two : Wrote 2 (u ∷ v ∷ []) l₁ (set (set l₁ (2 * i) u) (2 * i + 1) v) (2 * i) (2 * (i + 1))
-    two =
-        subst (λ (n : ℕ). Wrote 2 (u ∷ v ∷ []) l₁ (set (set l₁ (2 * i) u) (2 * i + 1) v) (2 * i) n)
-        (let z : 2 * i + 2 ≡ 2 * (i + 1) = omega arith in z)
-        (pair-stored l₁ (2 * i) u v (let k = w .kept in omega arith))
-
-pub hex-none : (text l : List ℕ) → Wrote textDigits (hexadecimal (take 0 text)) l l 0 0
-unfolding hexadecimal
-hex-none text l = record { octets = sym (written-none l 0); behind = refl; few = omega arith; kept = refl }
-
 pub hex-length : (text : List ℕ) → length (hexadecimal text) ≡ 2 * length text
 unfolding hexadecimal
 hex-length [] = refl
 hex-length (x ∷ text) = let z = hex-length text in omega arith
+
+-- its digits are stored behind those before it
+pub hex-stored : (most : ℕ) (text l l₁ : List ℕ) (at i p next x u v : ℕ) → i < length text → 2 * length text ≤ most → at + 2 * length text ≤ length l → next ≡ p + 2
+    → x ≡ getD text i 0 → u ≡ digitChar (x / 16) → v ≡ digitChar (x % 16) → Wrote most (hexadecimal (take i text)) l l₁ at p
+    → Wrote most (hexadecimal (take (i + 1) text)) l (set (set l₁ p u) (p + 1) v) at next
+hex-stored most text l l₁ at i p next x u v h t r n e eu ev w =
+    subst (λ (a : List ℕ). Wrote most a l (set (set l₁ p u) (p + 1) v) at next) line
+    (wrote-join most (let z = place in omega arith) (let z = place in omega arith) w two)
+  where
+    place : p ≡ at + 2 * i
+    place = let z = w .behind in let y = hex-length (take i text) in let f = length-take-le i text (omega arith) in omega arith
+
+    line : hexadecimal (take i text) ++ (u ∷ v ∷ []) ≡ hexadecimal (take (i + 1) text)
+    line = ap₂ (λ (y z : ℕ). hexadecimal (take i text) ++ (y ∷ z ∷ [])) eu ev ∙ hex-more text i x h e
+
+    two : Wrote 2 (u ∷ v ∷ []) l₁ (set (set l₁ p u) (p + 1) v) p next
+    two =
+        subst (λ (m : ℕ). Wrote 2 (u ∷ v ∷ []) l₁ (set (set l₁ p u) (p + 1) v) p m) (sym n)
+        (pair-stored l₁ p u v (let k = w .kept in let z = place in omega arith))
+
+pub hex-none : (most : ℕ) (text l : List ℕ) (at : ℕ) → Wrote most (hexadecimal (take 0 text)) l l at at
+unfolding hexadecimal
+hex-none most text l at = record { octets = sym (written-none l at); behind = omega arith; few = omega arith; kept = refl }
 
 pub hex-done : (text l l₁ : List ℕ) (i : ℕ) → i ≡ textOctets → length text ≡ textOctets → length l ≡ textDigits → Wrote textDigits (hexadecimal (take i text)) l l₁ 0 (2 * i)
     → l₁ ≡ hexadecimal text

@@ -35,9 +35,12 @@ pub record Began (over most : ℕ) (line l l′ : List ℕ) (at next : ℕ) : Ty
 abbrev pub longestNumber : ℕ
 longestNumber = 20
 
--- a text, before it is printed
+-- a text in a room, before it is printed; and one in the long store
 abbrev pub textOctets : ℕ
 textOctets = 32
+
+abbrev pub longOctets : ℕ
+longOctets = 512
 
 -- a blank and a number
 abbrev pub longestField : ℕ
@@ -57,12 +60,15 @@ longestPair = 2 * longestField
 abbrev pub longestNumbers : ℕ
 longestNumbers = longestHead + longestPair
 
--- a text's digits, two for each octet, and a blank before them
+-- a text's digits, two for each octet; and with a blank before them
 abbrev pub textDigits : ℕ
 textDigits = 2 * textOctets
 
+abbrev pub longDigits : ℕ
+longDigits = 2 * longOctets
+
 abbrev pub longestText : ℕ
-longestText = 1 + textDigits
+longestText = 1 + longDigits
 
 -- the numbers and the text; then the line end, and before all this the index
 abbrev pub longestFields : ℕ
@@ -74,21 +80,16 @@ longestRest = longestFields + 1
 abbrev pub longestLine : ℕ
 longestLine = longestNumber + longestRest
 
--- the rooms that these are written in, where a text is among them: as many octets as the longest text has digits are moved behind it, and put back
+-- what a text in a room is written over: all digits that it may have are moved, and as many octets behind it are put back
 abbrev pub digitsRoom : ℕ
 digitsRoom = textDigits + textDigits
 
-abbrev pub textRoom : ℕ
-textRoom = longestText + textDigits
-
-abbrev pub fieldsRoom : ℕ
-fieldsRoom = longestFields + textDigits
-
+-- the rooms that a line and its rest are written in: with the octets that are moved behind it, a text in a room takes less than the longest text
 abbrev pub restRoom : ℕ
-restRoom = longestRest + textDigits
+restRoom = longestRest
 
 abbrev pub lineRoom : ℕ
-lineRoom = longestNumber + restRoom
+lineRoom = longestLine
 
 -- the line of a refusal: a blank and "no", a number and the line end
 abbrev pub longestNo : ℕ

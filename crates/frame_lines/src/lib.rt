@@ -11,8 +11,8 @@ ghost use Rattle.protocol.specs.Events.{refused};
 ghost use Rattle.protocol.specs.Printed.{digitChar, decimal, hexadecimal, field, textField, reportFields, restOf, lineOf};
 ghost use Rattle.reports.specs.Effects.{reportIn, acceptedIn};
 ghost use Rattle.frame_lines.specs.Lines.{written, Wrote, Began, Spells, Tabled, lastDigits, fourOctets};
-ghost use Rattle.frame_lines.specs.Lines.{longestNumber, longestField, shortField, longestPair, longestHead, textOctets, textDigits, longestText, longestFields, longestRest};
-ghost use Rattle.frame_lines.specs.Lines.{digitsRoom, textRoom, fieldsRoom, restRoom, longestNo, shortRest, longestRefusal};
+ghost use Rattle.frame_lines.specs.Lines.{longestNumber, longestField, shortField, longestPair, longestHead, longestNumbers, textOctets, textDigits, longOctets};
+ghost use Rattle.frame_lines.specs.Lines.{longestText, longestFields, longestRest, digitsRoom, restRoom, longestNo, shortRest, longestRefusal};
 
 // The longest number has so many digits.
 const LONGEST_NUMBER: usize = 20;
@@ -20,16 +20,20 @@ const LONGEST_NUMBER: usize = 20;
 // So many numbers stand behind the index, each with a blank before it: kind, a, b, p, w and q.
 const FIELDS: usize = 6;
 
-// The longest text has so many octets, and each is printed as two digits.
+// A text in a room has at most so many octets, and each is printed as two digits.
 const TEXT_OCTETS: usize = 32;
 
 const TEXT_DIGITS: usize = 2 * TEXT_OCTETS;
 
-// The longest line: the index, the numbers, a blank and the text, and the line end.
-const LONGEST_LINE: usize = LONGEST_NUMBER + FIELDS * (1 + LONGEST_NUMBER) + 1 + TEXT_DIGITS + 1;
+// The longest text has so many, and lies in the long store.
+const LONG_OCTETS: usize = 512;
 
-// The room that a line is written in. As many octets as the longest text has digits are moved behind it, and put back.
-pub const LINE_ROOM: usize = LONGEST_LINE + TEXT_DIGITS;
+// The room that a line is written in, which is the longest line's: the index, the numbers, a blank and the text, and the line end.
+pub const LINE_ROOM: usize = LONGEST_NUMBER
+    + FIELDS * (1 + LONGEST_NUMBER)
+    + 1
+    + 2 * LONG_OCTETS
+    + 1;
 
 // So many numbers are spelled in the lent table: those of at most four digits.
 const NUMBERS: usize = 10000;
@@ -353,7 +357,7 @@ fn copy_digits(out: &mut [u8], at: usize, digits: &[u8], count: usize)
 
 // A blank and a text, the first octets of its room: "in lower-case hexadecimal, - if empty".
 fn put_text(out: &mut [u8], at: usize, room: &[u8], size: usize) -> usize
-    requires { ⌜ (at + textRoom ≤ length (now out)) × (length (now room) ≡ textOctets) × (size ≤ textOctets) ⌝ }
+    requires { ⌜ (at + longestText ≤ length (now out)) × (length (now room) ≡ textOctets) × (size ≤ textOctets) ⌝ }
     ensures { λ r. ⌜ Wrote longestText (textField (take size (now (room .entry)))) (now (out .entry)) (now (out .exit)) at r ⌝ }
 {
     out[at] = b' ';
@@ -376,7 +380,7 @@ fn put_fields(
     room: &[u8],
     size: usize,
 ) -> usize
-    requires { ⌜ (at + fieldsRoom ≤ length (now out)) × Tabled (now numbers) × (length (now room) ≡ textOctets) × (size ≤ textOctets) ⌝ }
+    requires { ⌜ (at + longestFields ≤ length (now out)) × Tabled (now numbers) × (length (now room) ≡ textOctets) × (size ≤ textOctets) ⌝ }
     ensures { λ n. ⌜ Wrote longestFields (reportFields (reportIn r (take size (now (room .entry))))) (now (out .entry)) (now (out .exit)) at n ⌝ }
 {
     let p = put_head(out, at, numbers, r);
@@ -401,6 +405,56 @@ pub fn end_accepted(
     ensures { λ n. ⌜ Wrote longestRest (restOf (acceptedIn r (take size (now (room .entry))))) (now (out .entry)) (now (out .exit)) at n ⌝ }
 {
     let fields = put_fields(out, at, numbers, r, room, size);
+    out[fields] = b'\n';
+    fields + 1
+}
+
+// A blank and a text that lies in the long store, which is lent alone: its octets are many, and a loop over them costs no more than they do.
+fn put_long_text(out: &mut [u8], at: usize, text: &[u8]) -> usize
+    requires { ⌜ (at + longestText ≤ length (now out)) × (0 < length (now text)) × (length (now text) ≤ longOctets) ⌝ }
+    ensures { λ r. ⌜ Wrote longestText (textField (now (text .entry))) (now (out .entry)) (now (out .exit)) at r ⌝ }
+{
+    out[at] = b' ';
+    let mut next = at + 1;
+    let mut i: usize = 0;
+    while i < text.len() {
+        let x = wide(text[i]);
+        out[next] = digit(x / 16);
+        out[next + 1] = digit(x % 16);
+        next += 2;
+        i += 1;
+    }
+    next
+}
+
+// "kind, a, b, p, w" and q, without the table: before a long text it would save little.
+fn put_numbers(out: &mut [u8], at: usize, r: Report) -> usize
+    requires { ⌜ at + longestNumbers ≤ length (now out) ⌝ }
+    ensures { λ n. ⌜ Wrote longestNumbers (field (r .kind) ++ field (r .a) ++ field (r .b) ++ field (r .effect .passed) ++ field (r .effect .records) ++ field (r .effect .place)) (now (out .entry)) (now (out .exit)) at n ⌝ }
+{
+    let b = put_two_fields(out, at, r.kind, r.a);
+    let w = put_two_fields(out, b, r.b, r.effect.passed);
+    put_two_fields(out, w, r.effect.records, r.effect.place)
+}
+
+// The fields with a long text, of which only a radio step's line has the text.
+fn put_long_fields(out: &mut [u8], at: usize, r: Report, text: &[u8]) -> usize
+    requires { ⌜ (at + longestFields ≤ length (now out)) × (0 < length (now text)) × (length (now text) ≤ longOctets) ⌝ }
+    ensures { λ n. ⌜ Wrote longestFields (reportFields (reportIn r (now (text .entry)))) (now (out .entry)) (now (out .exit)) at n ⌝ }
+{
+    let q = put_numbers(out, at, r);
+    if r.kind != 4 {
+        return q;
+    }
+    put_long_text(out, q, text)
+}
+
+// THE REST OF THE LINE of an accepted event whose text lies in the long store.
+pub fn end_accepted_long(out: &mut [u8], at: usize, r: Report, text: &[u8]) -> usize
+    requires { ⌜ (at + restRoom ≤ length (now out)) × (0 < length (now text)) × (length (now text) ≤ longOctets) ⌝ }
+    ensures { λ n. ⌜ Wrote longestRest (restOf (acceptedIn r (now (text .entry)))) (now (out .entry)) (now (out .exit)) at n ⌝ }
+{
+    let fields = put_long_fields(out, at, r, text);
     out[fields] = b'\n';
     fields + 1
 }

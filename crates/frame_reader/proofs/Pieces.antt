@@ -3,14 +3,14 @@ use mathlib.Core.Path.{_≡_, refl, sym, ap, ap₂, _∙_, subst}
 use mathlib.Core.List.{List, [], _∷_, _++_, append-assoc, append-nil}
 use Prim.Native.Nat.{ℕ, _+_, _-_, _≤_, _<_}
 use native.Mathlib.Omega.{arith}
-use lib.Dec.{eqb}
 use lib.ListN.{length, drop, length-drop}
 use lib.Seq.{drop-append-le, drop-drop}
 use Rattle.protocol.specs.Floor.{limits}
 use Rattle.protocol.specs.Events.{Event}
-use Rattle.protocol.specs.Frames.{Fields, Reading, fieldsOf, unlisted, lastKind, fieldsRefusal, end, refusedFrame, taken, frameOf, readAt}
-use Rattle.protocol.proofs.Tests.{by-test, by-lt, by-eq}
-use Rattle.frames.proofs.Laws.{no-kind, stray-field, long-text, no-refusal, taken-frame, refused-frame}
+use Rattle.protocol.specs.Frames.{Fields, Reading, fieldsOf, fieldsRefusal, end, refusedFrame, taken, frameOf, readAt}
+use Rattle.protocol.proofs.Tests.{by-lt, by-eq}
+use Rattle.frames.specs.Decoded.{longestFrame}
+use Rattle.frames.proofs.Laws.{text-at-most, text-right, text-cut, taken-frame, refused-frame}
 use Rattle.frames.proofs.Stands.{frame-stands}
 use Rattle.frame_reader.specs.Checks.{Found, noFrame, whole, after, checkFrom, checked, Fed, foundIn, joined}
 use Rattle.frame_reader.proofs.Stream.{same-found, after-none, after-after, check-end, check-refused, check-taken, taken-some, taken-there, by-frames}
@@ -107,18 +107,8 @@ stands p q some whole = splits q p ∙ ap (after (checked p)) (by (frameOf limit
         ∙ e ∙ ap refusedFrame (sym h))
     by (taken v size) e h = absurd h
 
--- WHAT IS KEPT IS SHORT: a frame that is only cut has at most 47 octets
-cut-text-short : (f : Fields) (behind : ℕ) → fieldsRefusal limits f behind ≡ 1 → (behind < f .length) × (f .length ≤ 32)
-cut-text-short f behind e =
-    by-lt lastKind (f .kind)
-    (λ k. absurd (let z : 2 ≡ 1 = no-kind f behind k ∙ e in omega arith))
-    (λ k. by-test (eqb (unlisted f) 0)
-    (λ u. by-lt 32 (f .length)
-    (λ t. absurd (let z : 4 ≡ 1 = long-text f behind k u t ∙ e in omega arith))
-    (λ t. by-lt behind (f .length) (λ b. (b, t)) (λ b. absurd (let z : 0 ≡ 1 = no-refusal f behind k u t b ∙ e in omega arith))))
-    (λ u. absurd (let z : 3 ≡ 1 = stray-field f behind k u ∙ e in omega arith)))
-
-short-front : (l : List ℕ) (n : ℕ) → Stops (frameOf limits l) n → n ≤ 1 → length l ≤ 47
+-- WHAT IS KEPT IS SHORT: a frame that is only cut has fewer octets than the longest
+short-front : (l : List ℕ) (n : ℕ) → Stops (frameOf limits l) n → n ≤ 1 → length l < longestFrame
 unfolding readAt
 short-front l n h k =
     by-lt (length l) 16 (λ s. omega arith)
@@ -126,8 +116,9 @@ short-front l n h k =
     (λ z. absurd (subst (λ (x : Reading). Stops x n) (sym (taken-frame l 0 f (omega arith) refl (sym z))) h))
     (λ z.
     let same : n ≡ r = subst (λ (x : Reading). Stops x n) (sym (refused-frame l 0 f (omega arith) refl r refl z)) h in
-    let short = cut-text-short f (length l - 0 - 16) (omega arith) in
-    (let a = short .0 in let b = short .1 in omega arith)))
+    let cut = text-cut f (length l - 0 - 16) (omega arith) in
+    let most = text-at-most f (text-right f (length l - 0 - 16) (omega arith)) in
+    omega arith))
   where
     f : Fields
     f = fieldsOf l
@@ -135,7 +126,7 @@ short-front l n h k =
     r : ℕ
     r = fieldsRefusal limits f (length l - 0 - 16)
 
-pub short-left : (l : List ℕ) → checked l .refusal ≤ 1 → length (drop (checked l .octets) l) ≤ 47
+pub short-left : (l : List ℕ) → checked l .refusal ≤ 1 → length (drop (checked l .octets) l) < longestFrame
 short-left l = short-front (drop (checked l .octets) l) (checked l .refusal) (stops-behind l)
 
 -- PIECE BY PIECE: before the first piece; with one piece more; and all pieces

@@ -10,7 +10,7 @@ use lib.Seq.{drop-drop}
 use Rattle.protocol.specs.Folds.{isEmpty}
 use Rattle.protocol.specs.Floor.{limits}
 use Rattle.protocol.specs.Events.{Event}
-use Rattle.protocol.specs.Frames.{Reading, fieldsOf, frameRefusal, end, refusedFrame, taken, frameOf, readAt, movedTo}
+use Rattle.protocol.specs.Frames.{Reading, fieldsOf, textLength, frameRefusal, end, refusedFrame, taken, frameOf, readAt, movedTo}
 use Rattle.frames.proofs.Values.{taken-inside}
 use Rattle.frames.specs.Decoded.{refusalNumber}
 use Rattle.frame_reader.specs.Checks.{Found, noFrame, whole, after, checkFrom, checked}
@@ -33,7 +33,7 @@ after-after f g h = same-found (omega arith) (omega arith) refl
 -- a frame has sixteen octets at least
 pub taken-some : (l : List ℕ) (e : Event) (n : ℕ) → frameOf limits l ≡ taken e n → 16 ≤ n
 unfolding frameOf
-taken-some l e n q = by (isEmpty l) (eqb (frameRefusal limits l) 0) _ (fieldsOf l .length) (frameRefusal limits l) q
+taken-some l e n q = by (isEmpty l) (eqb (frameRefusal limits l) 0) _ (textLength (fieldsOf l)) (frameRefusal limits l) q
   where
     by : (a b : Bool) (x : Event) (k r : ℕ) → cond a end (cond b (taken x (16 + k)) (refusedFrame r)) ≡ taken e n → 16 ≤ n
     by true b x k r q = absurd (let z : _≡_ {A = ℕ} 0 1 = cc q in omega arith)

@@ -136,10 +136,13 @@ module _ (L L′ : Lent) (R : Ready L) (R′ : Ready L′) (same : L′ .product
   same-carts = a′ .carts ∙ ap (λ (P : Product). P .carts * 19) same ∙ sym (a .carts)
 
   pub same-messages : length (L′ .messages) ≡ length (L .messages)
-  same-messages = a′ .messages ∙ ap (λ (P : Product). P .held * 6) same ∙ sym (a .messages)
+  same-messages = a′ .messages ∙ ap (λ (P : Product). P .held * 7) same ∙ sym (a .messages)
 
   pub same-lines : length (L′ .lines) ≡ length (L .lines)
   same-lines = a′ .lines ∙ ap (λ (P : Product). 1842 + mostRecords (limitsOf P) * 3) same ∙ sym (a .lines)
 
   pub same-texts : length (L′ .texts) ≡ length (L .texts)
   same-texts = a′ .texts ∙ ap (λ (P : Product). P .held * 32) same ∙ sym (a .texts)
+
+  pub same-store : length (L′ .store) ≡ length (L .store)
+  same-store = a′ .store ∙ sym (a .store)

@@ -1,21 +1,21 @@
 -- A PIECE BOUNDARY IS NOTHING: what was run of a piece is what is run of the whole input, and the rest follows from there.
 use mathlib.Core.Path.{_≡_, refl, sym, ap, ap₂, _∙_, subst}
-use mathlib.Core.Bool.{Bool, true, false, not}
+use mathlib.Core.Bool.{Bool, true, false}
 use mathlib.Core.List.{List, _++_, append-assoc}
 use Prim.Native.Nat.{ℕ, zero, suc, _+_, _-_, _≤_, _<_}
 use native.Mathlib.Omega.{arith}
-use lib.Dec.{eqb, ltb}
+use lib.Dec.{eqb}
 use lib.ListN.{length, drop, length-drop}
 use lib.Seq.{drop-append-le, drop-drop}
-use borrow.Author.Tests.{ltb-true, ltb-false, eqb-true}
+use borrow.Author.Tests.{eqb-true}
 use Rattle.protocol.specs.Floor.{Product, Floor, limits, limitsOf}
 use Rattle.protocol.specs.Events.{Event}
-use Rattle.protocol.specs.Refusals.{check}
 use Rattle.protocol.specs.Step.{step, answer}
-use Rattle.protocol.specs.Frames.{Fields, Reading, fieldsOf, unlisted, lastKind, fieldsRefusal, end, refusedFrame, taken, frameOf, readAt}
+use Rattle.protocol.specs.Frames.{Fields, Reading, fieldsOf, textLength, fieldsRefusal, end, refusedFrame, taken, frameOf, readAt}
 use Rattle.protocol.specs.Printed.{lineOf, linesFrom}
 use Rattle.protocol.proofs.Tests.{by-lt, by-eq, clash}
-use Rattle.frames.proofs.Laws.{nothing-left, cut-frame, refused-frame, taken-frame}
+use Rattle.frames.specs.Decoded.{longestFrame}
+use Rattle.frames.proofs.Laws.{nothing-left, cut-frame, refused-frame, taken-frame, text-at-most, text-right, text-cut}
 use Rattle.frames.proofs.Stands.{frame-stands}
 use Rattle.frames.proofs.Values.{taken-inside}
 use Rattle.view.specs.View.{Lent, floorIn}
@@ -34,7 +34,7 @@ taken-front l e size q =
           (λ h. by-lt (length l) 16
           (λ s. absurd (let z : _≡_ {A = ℕ} 0 1 = cc (cut-frame l 0 (omega arith) (omega arith)) in omega arith))
           (λ s. by-eq (fieldsRefusal limits (fieldsOf l) (length l - 0 - 16)) 0
-          (λ r. let w : size ≡ 16 + fieldsOf l .length = cc (taken-frame l 0 (fieldsOf l) (omega arith) refl (sym r)) in omega arith)
+          (λ r. let w : size ≡ 16 + textLength (fieldsOf l) = cc (taken-frame l 0 (fieldsOf l) (omega arith) refl (sym r)) in omega arith)
           (λ r. absurd (let z : _≡_ {A = ℕ} 0 1 = cc (refused-frame l 0 (fieldsOf l) (omega arith) refl _ refl r) in omega arith)))),
       (let y = inside .0 in omega arith),
     )
@@ -199,24 +199,8 @@ turns-enough P (suc n) k F index l few = by (frameOf limits l) refl (λ e size. 
         ap (λ (m : ℕ). runFrom P m F index l) one-more ∙ rw (e, runFrom) (ap (behind (lineOf index (answer (limitsOf P) F ev)) size) (h ev size (omega arith)))
 
 -- WHAT IS LESS THAN A WHOLE FRAME
--- "fewer text octets than the length", which is at most 32
-cut-text : (a b c d : Bool) → check 2 a (check 3 b (check 4 c (check 1 d 0))) ≡ 1 → (c ≡ false) × (d ≡ true)
-cut-text true b c d e = absurd (omega arith)
-cut-text false true c d e = absurd (omega arith)
-cut-text false false true d e = absurd (omega arith)
-cut-text false false false true e = (refl, refl)
-cut-text false false false false e = absurd (omega arith)
-
-cut-short : (f : Fields) (behind : ℕ) → fieldsRefusal limits f behind ≡ 1 → behind < 32
-unfolding fieldsRefusal
-cut-short f behind e =
-    let z = cut-text (ltb lastKind (f .kind)) (not (eqb (unlisted f) 0)) (ltb 32 (f .length)) (ltb behind (f .length)) e in
-    let a = ltb-false 32 (f .length) (z .0) in
-    let b = ltb-true behind (f .length) (z .1) in
-    omega arith
-
--- so what is less than a whole frame has at most 47 octets
-pub few-left : (last : Bool) (l : List ℕ) (at : ℕ) → NoneWhole last (readAt limits l at) → length l - at < 48
+-- it has fewer octets than the longest frame
+pub few-left : (last : Bool) (l : List ℕ) (at : ℕ) → NoneWhole last (readAt limits l at) → length l - at < longestFrame
 few-left last l at h =
     by-lt at (length l)
     (λ s. by-lt (length l - at) 16 (λ z. omega arith)
@@ -224,7 +208,8 @@ few-left last l at h =
     (λ z. absurd (subst (λ (x : Reading). NoneWhole last x) (sym (taken-frame l at f w refl (sym z))) h))
     (λ z.
     let one = subst (λ (x : Reading). NoneWhole last x) (sym (refused-frame l at f w refl _ refl z)) h .0 in
-    let short = cut-short f (length l - at - 16) one in
+    let cut = text-cut f (length l - at - 16) one in
+    let most = text-at-most f (text-right f (length l - at - 16) (omega arith)) in
     omega arith)))
     (λ s. omega arith)
   where

@@ -1,5 +1,5 @@
 -- THE RUN OVER A PIECE OF INPUT: the first frames of these octets, from a floor and an index; "Refusals 1 to 4 end the run". The steps go by
--- the product's limits. What a frame is does not: of the limits it asks the longest text alone, which is 32 in every product.
+-- the product's limits. What a frame is does not: of the limits it asks the longest texts alone, 32 and 512 octets in every product.
 use mathlib.Core.Bool.{Bool, true, false}
 use mathlib.Core.List.{List, [], _∷_, _++_}
 use Prim.Native.Nat.{ℕ, zero, suc, _+_}

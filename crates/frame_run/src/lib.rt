@@ -15,7 +15,7 @@ ghost use Rattle.protocol.specs.Printed.{decimal, restOf, lineOf};
 ghost use Rattle.view.specs.View.{lent};
 ghost use Rattle.event_answers.specs.Answers.{toldOf};
 ghost use Rattle.event_answers.specs.Met.{MetWith};
-ghost use Rattle.frames.specs.Decoded.{eventIn, sizeOf};
+ghost use Rattle.frames.specs.Decoded.{eventIn, sizeOf, TextFits};
 ghost use Rattle.frame_lines.specs.Lines.{Tabled, Wrote, Began, longestNumber, longestRest, restRoom, longestRefusal, lineRoom};
 ghost use Rattle.frame_run.specs.CanRun.{CanRun, ByEach};
 ghost use Rattle.frame_run.specs.Dispatched.{dispatchedIn, Within};
@@ -24,8 +24,8 @@ ghost use Rattle.frame_run.specs.Went.{Took, Turned, Went};
 // "Sixteen octets".
 const FRAME: usize = 16;
 
-// An event that was dispatched, its line begun: where the line goes on behind its index, what the event answered, and, of a radio step, in which
-// room's part of the texts its text lies and how many octets it has; and how many octets the event took of the input.
+// An event that was dispatched, its line begun: where the line goes on behind its index, what the event answered, and, of a radio step, which room's
+// text was handed over and how many octets it has; and how many octets the event took of the input.
 pub struct Dispatched {
     pub next: usize,
     pub told: Told,
@@ -57,6 +57,7 @@ pub fn dispatch(
     messages: &mut [u64],
     lines: &mut [u64],
     texts: &mut [u8],
+    store: &mut [u8],
     bounds: Bounds,
     input: &[u8],
     at: usize,
@@ -66,21 +67,40 @@ pub fn dispatch(
     numbers: &[u64],
     index: u64,
 ) -> Dispatched
-    requires { ⌜ CanRun bounds (λ P. lent P (now stations) (now carts) (now messages) (now lines) (now texts)) ⌝ }
-    requires { ⌜ (at + sizeOf e ≤ length (now input)) × (sizeOf e ≤ 48) ⌝ }
+    requires { ⌜ CanRun bounds (λ P. lent P (now stations) (now carts) (now messages) (now lines) (now texts) (now store)) ⌝ }
+    requires { ⌜ (at + sizeOf e ≤ length (now input)) × TextFits e ⌝ }
     requires { ⌜ (line + longestNumber ≤ length (now output)) × Tabled (now numbers) ⌝ }
-    ensures { λ r. ⌜ Within (now (texts .exit)) r × MetWith bounds (λ P. lent P (now (stations .entry)) (now (carts .entry)) (now (messages .entry)) (now (lines .entry)) (now (texts .entry))) (λ P. lent P (now (stations .exit)) (now (carts .exit)) (now (messages .exit)) (now (lines .exit)) (now (texts .exit))) (eventIn (drop at (now (input .entry))) e) (dispatchedIn (now (texts .exit)) r) ⌝ }
+    ensures { λ r. ⌜ Within (now (messages .exit)) (now (texts .exit)) (now (store .exit)) r × MetWith bounds (λ P. lent P (now (stations .entry)) (now (carts .entry)) (now (messages .entry)) (now (lines .entry)) (now (texts .entry)) (now (store .entry))) (λ P. lent P (now (stations .exit)) (now (carts .exit)) (now (messages .exit)) (now (lines .exit)) (now (texts .exit)) (now (store .exit))) (eventIn (drop at (now (input .entry))) e) (dispatchedIn (now (messages .exit)) (now (texts .exit)) (now (store .exit)) r) ⌝ }
     ensures { λ r. ⌜ Began 3 longestNumber (decimal index) (now (output .entry)) (now (output .exit)) line (r .next) × (r .taken ≡ sizeOf e) ⌝ }
 {
     match e {
         Event::Start(n, k) => {
             let next = frame_lines::put_index(output, line, numbers, index);
-            let answer = event_start::start(stations, carts, messages, lines, texts, n, k, bounds);
+            let answer = event_start::start(
+                stations,
+                carts,
+                messages,
+                lines,
+                texts,
+                store,
+                n,
+                k,
+                bounds,
+            );
             without_text(next, FRAME, answer)
         }
         Event::Enter(station, cart) => {
             let next = frame_lines::put_index(output, line, numbers, index);
-            let answer = event_carts::enter(stations, carts, messages, lines, texts, station, cart);
+            let answer = event_carts::enter(
+                stations,
+                carts,
+                messages,
+                lines,
+                texts,
+                store,
+                station,
+                cart,
+            );
             without_text(next, FRAME, answer)
         }
         Event::Send(station, set, size) => {
@@ -93,6 +113,7 @@ pub fn dispatch(
                 messages,
                 lines,
                 texts,
+                store,
                 station,
                 set,
                 text,
@@ -102,7 +123,7 @@ pub fn dispatch(
         }
         Event::Wire(from, to) => {
             let next = frame_lines::put_index(output, line, numbers, index);
-            let answer = event_wire::wire(stations, carts, messages, lines, texts, from, to);
+            let answer = event_wire::wire(stations, carts, messages, lines, texts, store, from, to);
             without_text(next, FRAME, answer)
         }
         Event::Radio(station, cart) => {
@@ -113,9 +134,10 @@ pub fn dispatch(
                 messages,
                 lines,
                 texts,
+                store,
                 station,
                 cart,
-                products::TEXT,
+                products::LONG,
             );
             let answer = handed.answer;
             let told = event_answers::told_of(answer);
@@ -129,7 +151,16 @@ pub fn dispatch(
         }
         Event::Move(cart, to) => {
             let next = frame_lines::put_index(output, line, numbers, index);
-            let answer = event_carts::move_cart(stations, carts, messages, lines, texts, cart, to);
+            let answer = event_carts::move_cart(
+                stations,
+                carts,
+                messages,
+                lines,
+                texts,
+                store,
+                cart,
+                to,
+            );
             without_text(next, FRAME, answer)
         }
         Event::Flag(cart, steady) => {
@@ -140,6 +171,7 @@ pub fn dispatch(
                 messages,
                 lines,
                 texts,
+                store,
                 cart,
                 steady,
             );
@@ -153,6 +185,7 @@ pub fn dispatch(
                 messages,
                 lines,
                 texts,
+                store,
                 group,
                 set,
             );
@@ -168,8 +201,27 @@ pub fn dispatch(
                 messages,
                 lines,
                 texts,
+                store,
                 station,
                 group,
+                text,
+                bounds,
+            );
+            without_text(next, FRAME + size, answer)
+        }
+        Event::SendLong(station, set, size) => {
+            let next = frame_lines::put_index(output, line, numbers, index);
+            let from = at + FRAME;
+            let text = &input[from..from + size];
+            let answer = event_send::send_long(
+                stations,
+                carts,
+                messages,
+                lines,
+                texts,
+                store,
+                station,
+                set,
                 text,
                 bounds,
             );
@@ -178,15 +230,27 @@ pub fn dispatch(
     }
 }
 
-// The rest of the line of a dispatched event, behind its index. All the room of its text is lent, so that no loop runs as often as the text is long.
-fn print(out: &mut [u8], texts: &[u8], numbers: &[u64], dispatched: Dispatched) -> usize
-    requires { ⌜ (dispatched .next + restRoom ≤ length (now out)) × Within (now texts) dispatched × Tabled (now numbers) ⌝ }
-    ensures { λ n. ⌜ Wrote longestRest (restOf (dispatchedIn (now (texts .entry)) dispatched)) (now (out .entry)) (now (out .exit)) (dispatched .next) n ⌝ }
+// The rest of the line of a dispatched event, behind its index. Of a text in a room's part all the part is lent, so that no loop runs as often as the
+// text is long; the store is looked at for a longer one alone.
+fn print<'a>(
+    out: &mut [u8],
+    messages: &[u64],
+    texts: &'a [u8],
+    store: &'a [u8],
+    numbers: &[u64],
+    dispatched: Dispatched,
+) -> usize
+    requires { ⌜ (dispatched .next + restRoom ≤ length (now out)) × Within (now messages) (now texts) (now store) dispatched × Tabled (now numbers) ⌝ }
+    ensures { λ n. ⌜ Wrote longestRest (restOf (dispatchedIn (now (messages .entry)) (now (texts .entry)) (now (store .entry)) dispatched)) (now (out .entry)) (now (out .exit)) (dispatched .next) n ⌝ }
 {
     let at = dispatched.next;
     let told = dispatched.told;
     if told.is_refused {
         return frame_lines::end_refused(out, at, told.refusal);
+    }
+    if products::TEXT < dispatched.size {
+        let text = store::text_of(messages, texts, store, dispatched.room);
+        return frame_lines::end_accepted_long(out, at, told.report, text);
     }
     let from = dispatched.room * products::TEXT;
     let end = from + products::TEXT;
@@ -255,16 +319,17 @@ fn take_event(
     messages: &mut [u64],
     lines: &mut [u64],
     texts: &mut [u8],
+    store: &mut [u8],
     bounds: Bounds,
     numbers: &[u64],
     index: u64,
     p: Progress,
     e: Event,
 ) -> Progress
-    requires { ⌜ CanRun bounds (λ P. lent P (now stations) (now carts) (now messages) (now lines) (now texts)) ⌝ }
-    requires { ⌜ (p .read + sizeOf e ≤ length (now input)) × (sizeOf e ≤ 48) × (p .written + lineRoom ≤ length (now output)) ⌝ }
+    requires { ⌜ CanRun bounds (λ P. lent P (now stations) (now carts) (now messages) (now lines) (now texts) (now store)) ⌝ }
+    requires { ⌜ (p .read + sizeOf e ≤ length (now input)) × TextFits e × (p .written + lineRoom ≤ length (now output)) ⌝ }
     requires { ⌜ (p .frames ≤ p .read) × (length (now input) + 1 < 18446744073709551616) × Tabled (now numbers) ⌝ }
-    ensures { λ r. ⌜ ByEach bounds (λ P. lent P (now (stations .entry)) (now (carts .entry)) (now (messages .entry)) (now (lines .entry)) (now (texts .entry))) (λ P. lent P (now (stations .exit)) (now (carts .exit)) (now (messages .exit)) (now (lines .exit)) (now (texts .exit))) (λ L L′. Took index L L′ (now (output .entry)) (now (output .exit)) p r (eventIn (drop (p .read) (now (input .entry))) e) (sizeOf e)) ⌝ }
+    ensures { λ r. ⌜ ByEach bounds (λ P. lent P (now (stations .entry)) (now (carts .entry)) (now (messages .entry)) (now (lines .entry)) (now (texts .entry)) (now (store .entry))) (λ P. lent P (now (stations .exit)) (now (carts .exit)) (now (messages .exit)) (now (lines .exit)) (now (texts .exit)) (now (store .exit))) (λ L L′. Took index L L′ (now (output .entry)) (now (output .exit)) p r (eventIn (drop (p .read) (now (input .entry))) e) (sizeOf e)) ⌝ }
 {
     let dispatched = dispatch(
         stations,
@@ -272,6 +337,7 @@ fn take_event(
         messages,
         lines,
         texts,
+        store,
         bounds,
         input,
         p.read,
@@ -281,7 +347,7 @@ fn take_event(
         numbers,
         index,
     );
-    let written = print(output, texts, numbers, dispatched);
+    let written = print(output, messages, texts, store, numbers, dispatched);
     Progress {
         read: p.read + dispatched.taken,
         written,
@@ -315,16 +381,17 @@ fn take_frame(
     messages: &mut [u64],
     lines: &mut [u64],
     texts: &mut [u8],
+    store: &mut [u8],
     bounds: Bounds,
     numbers: &[u64],
     index: u64,
     p: Progress,
     last: bool,
 ) -> Progress
-    requires { ⌜ CanRun bounds (λ P. lent P (now stations) (now carts) (now messages) (now lines) (now texts)) ⌝ }
+    requires { ⌜ CanRun bounds (λ P. lent P (now stations) (now carts) (now messages) (now lines) (now texts) (now store)) ⌝ }
     requires { ⌜ (p .state ≡ 0) × (p .read ≤ length (now input)) × (p .written + lineRoom ≤ length (now output)) ⌝ }
     requires { ⌜ (p .frames ≤ p .read) × (length (now input) + 1 < 18446744073709551616) × Tabled (now numbers) ⌝ }
-    ensures { λ r. ⌜ ByEach bounds (λ P. lent P (now (stations .entry)) (now (carts .entry)) (now (messages .entry)) (now (lines .entry)) (now (texts .entry))) (λ P. lent P (now (stations .exit)) (now (carts .exit)) (now (messages .exit)) (now (lines .exit)) (now (texts .exit))) (λ L L′. Turned (now (input .entry)) index last L L′ (now (output .entry)) (now (output .exit)) p r) ⌝ }
+    ensures { λ r. ⌜ ByEach bounds (λ P. lent P (now (stations .entry)) (now (carts .entry)) (now (messages .entry)) (now (lines .entry)) (now (texts .entry)) (now (store .entry))) (λ P. lent P (now (stations .exit)) (now (carts .exit)) (now (messages .exit)) (now (lines .exit)) (now (texts .exit)) (now (store .exit))) (λ L L′. Turned (now (input .entry)) index last L L′ (now (output .entry)) (now (output .exit)) p r) ⌝ }
 {
     let reading = frames::frame_at(input, p.read);
     let Reading::Taken(e) = reading else {
@@ -342,6 +409,7 @@ fn take_frame(
         messages,
         lines,
         texts,
+        store,
         bounds,
         numbers,
         index,
@@ -372,14 +440,15 @@ pub fn take_frames(
     messages: &mut [u64],
     lines: &mut [u64],
     texts: &mut [u8],
+    store: &mut [u8],
     bounds: Bounds,
     numbers: &[u64],
     index: u64,
     last: bool,
 ) -> Progress
-    requires { ⌜ CanRun bounds (λ P. lent P (now stations) (now carts) (now messages) (now lines) (now texts)) × Tabled (now numbers) ⌝ }
+    requires { ⌜ CanRun bounds (λ P. lent P (now stations) (now carts) (now messages) (now lines) (now texts) (now store)) × Tabled (now numbers) ⌝ }
     requires { ⌜ index + length (now input) + 1 < 18446744073709551616 ⌝ }
-    ensures { λ p. ⌜ ByEach bounds (λ P. lent P (now (stations .entry)) (now (carts .entry)) (now (messages .entry)) (now (lines .entry)) (now (texts .entry))) (λ P. lent P (now (stations .exit)) (now (carts .exit)) (now (messages .exit)) (now (lines .exit)) (now (texts .exit))) (λ L L′. Went (now (input .entry)) index last L L′ (now (output .entry)) (now (output .exit)) p) ⌝ }
+    ensures { λ p. ⌜ ByEach bounds (λ P. lent P (now (stations .entry)) (now (carts .entry)) (now (messages .entry)) (now (lines .entry)) (now (texts .entry)) (now (store .entry))) (λ P. lent P (now (stations .exit)) (now (carts .exit)) (now (messages .exit)) (now (lines .exit)) (now (texts .exit)) (now (store .exit))) (λ L L′. Went (now (input .entry)) index last L L′ (now (output .entry)) (now (output .exit)) p) ⌝ }
 {
     let mut p = Progress {
         read: 0,
@@ -396,6 +465,7 @@ pub fn take_frames(
             messages,
             lines,
             texts,
+            store,
             bounds,
             numbers,
             index + p.frames,

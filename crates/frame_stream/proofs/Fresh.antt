@@ -17,23 +17,25 @@ use Rattle.frame_stream.specs.declared.Ending.{Ending}
 use Rattle.frame_stream.specs.Feed.{Finished, Streamed}
 use Rattle.frame_stream.proofs.Stream.{stream-is}
 
-module _ (P : Product) (S C M W T : List ℕ) (mark : headIn S .mark ≡ 0) (long : Lengths (lent P S C M W T)) where
-  lengths : lengthsIn (lent P S C M W T) ≡ true
-  lengths = lengths-right (lent P S C M W T) long
+module _ (P : Product) (S C M W T O : List ℕ) (mark : headIn S .mark ≡ 0) (long : Lengths (lent P S C M W T O)) where
+  lengths : lengthsIn (lent P S C M W T O) ≡ true
+  lengths = lengths-right (lent P S C M W T O) long
 
-  pub fresh : Unstarted (floorIn (lent P S C M W T))
+  pub fresh : Unstarted (floorIn (lent P S C M W T O))
   fresh = record { fresh = ne-eqb (headIn S .mark) 1 (λ z. omega arith); lengths = lengths }
 
-  pub fresh-ready : Ready (lent P S C M W T)
-  fresh-ready = record { lengths = lengths; passes = λ h. clash (floorIn (lent P S C M W T) .started) h (fresh .fresh) }
+  pub fresh-ready : Ready (lent P S C M W T O)
+  fresh-ready = record { lengths = lengths; passes = λ h. clash (floorIn (lent P S C M W T O) .started) h (fresh .fresh) }
 
   -- so what the run over it hands on is the printed run
-  pub streamed : (r : Ending) → Finished P (floorIn (lent P S C M W T)) r → Streamed P r
-  streamed r e = record { floor = floorIn (lent P S C M W T); fresh = fresh; finished = e; is = stream-is P (floorIn (lent P S C M W T)) fresh (e .turns) (e .made) }
+  pub streamed : (r : Ending) → Finished P (floorIn (lent P S C M W T O)) r → Streamed P r
+  streamed r e = record { floor = floorIn (lent P S C M W T O); fresh = fresh; finished = e; is = stream-is P (floorIn (lent P S C M W T O)) fresh (e .turns) (e .made) }
 
 -- THE FLOOR'S MEMORY and THE KIT'S: the lengths that each lends
-pub floor-lengths : (S C M W T : List ℕ) → length S ≡ 1972 → length C ≡ 1216 → length M ≡ 192 → length W ≡ 11250 → length T ≡ 1024 → Lengths (lent wholeFloor S C M W T)
-floor-lengths S C M W T s c m w t = record { stations = s; carts = c; messages = m; lines = w; texts = t }
+pub floor-lengths : (S C M W T O : List ℕ) → length S ≡ 1972 → length C ≡ 1216 → length M ≡ 224 → length W ≡ 11250 → length T ≡ 1024 → length O ≡ 4096
+    → Lengths (lent wholeFloor S C M W T O)
+floor-lengths S C M W T O s c m w t o = record { stations = s; carts = c; messages = m; lines = w; texts = t; store = o }
 
-pub kit-lengths : (S C M W T : List ℕ) → length S ≡ 580 → length C ≡ 152 → length M ≡ 48 → length W ≡ 2250 → length T ≡ 256 → Lengths (lent kit S C M W T)
-kit-lengths S C M W T s c m w t = record { stations = s; carts = c; messages = m; lines = w; texts = t }
+pub kit-lengths : (S C M W T O : List ℕ) → length S ≡ 580 → length C ≡ 152 → length M ≡ 56 → length W ≡ 2250 → length T ≡ 256 → length O ≡ 4096
+    → Lengths (lent kit S C M W T O)
+kit-lengths S C M W T O s c m w t o = record { stations = s; carts = c; messages = m; lines = w; texts = t; store = o }

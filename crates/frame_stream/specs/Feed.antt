@@ -9,6 +9,7 @@ use lib.IntN.{ℤ, pos, negsuc}
 use lib.ListN.{length, take, drop}
 use Rattle.io.specs.Counts.{clamped}
 use Rattle.protocol.specs.Floor.{Product, Floor}
+use Rattle.frames.specs.Decoded.{longestFrame}
 use Rattle.view.specs.View.{Lent, floorIn}
 use Rattle.frame_run.specs.declared.Progress.{Progress}
 use Rattle.event_answers.specs.Met.{Ready}
@@ -23,7 +24,7 @@ use Rattle.frame_stream.specs.Stream.{Stream, begin, Turn, stateAfter, a
 pub record Inside (n : ℕ) (f : Feed) : Type 0 where
   pub run : f .at ≤ f .have
   pub read : f .have ≤ n
-  pub few : f .state ≡ 1 → f .have - f .at < 48
+  pub few : f .state ≡ 1 → f .have - f .at < longestFrame
 
 -- THE STREAM that a piece of input, the lent floor and the feed say: what is left are the octets from `at` up to `have`
 abbrev pub streamOf : List ℕ → Lent → Feed → Stream

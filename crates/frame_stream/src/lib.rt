@@ -57,10 +57,10 @@ pub fn no_carts() -> [u64; 1216]
     [0; 1216]
 }
 
-pub fn no_messages() -> [u64; 192]
-    ensures { λ r. ⌜ length r ≡ 192 ⌝ }
+pub fn no_messages() -> [u64; 224]
+    ensures { λ r. ⌜ length r ≡ 224 ⌝ }
 {
-    [0; 192]
+    [0; 224]
 }
 
 pub fn no_lines() -> [u64; 11250]
@@ -73,6 +73,13 @@ pub fn no_texts() -> [u8; 1024]
     ensures { λ r. ⌜ length r ≡ 1024 ⌝ }
 {
     [0; 1024]
+}
+
+// "one store of 4,096 octets", for the floor and for the kit.
+pub fn no_store() -> [u8; 4096]
+    ensures { λ r. ⌜ length r ≡ 4096 ⌝ }
+{
+    [0; 4096]
 }
 
 // The table of numbers, spelled once for the whole run.
@@ -212,13 +219,14 @@ fn run_piece(
     messages: &mut [u64],
     lines: &mut [u64],
     texts: &mut [u8],
+    store: &mut [u8],
     bounds: Bounds,
     numbers: &[u64],
     f: Feed,
 ) -> Feed
-    requires { ⌜ CanRun bounds (λ P. lent P (now stations) (now carts) (now messages) (now lines) (now texts)) × Tabled (now numbers) ⌝ }
+    requires { ⌜ CanRun bounds (λ P. lent P (now stations) (now carts) (now messages) (now lines) (now texts) (now store)) × Tabled (now numbers) ⌝ }
     requires { ⌜ Inside (length (now input)) f × (f .state ≡ 0) × (f .index < 9223372036854775808) × (length (now input) ≡ 65536) × (length (now output) ≡ 65536) ⌝ }
-    ensures { λ r. ⌜ ByEach bounds (λ P. lent P (now (stations .entry)) (now (carts .entry)) (now (messages .entry)) (now (lines .entry)) (now (texts .entry))) (λ P. lent P (now (stations .exit)) (now (carts .exit)) (now (messages .exit)) (now (lines .exit)) (now (texts .exit))) (λ L L′. Ready L′ × Made (streamOf (now (input .entry)) L f) (streamOf (now (input .entry)) L′ r) (take (r .handed) (now (output .exit)))) ⌝ }
+    ensures { λ r. ⌜ ByEach bounds (λ P. lent P (now (stations .entry)) (now (carts .entry)) (now (messages .entry)) (now (lines .entry)) (now (texts .entry)) (now (store .entry))) (λ P. lent P (now (stations .exit)) (now (carts .exit)) (now (messages .exit)) (now (lines .exit)) (now (texts .exit)) (now (store .exit))) (λ L L′. Ready L′ × Made (streamOf (now (input .entry)) L f) (streamOf (now (input .entry)) L′ r) (take (r .handed) (now (output .exit)))) ⌝ }
     ensures { λ r. ⌜ Inside (length (now (input .entry))) r ⌝ }
     ensures { λ r. ⌜ length (now (output .exit)) ≡ length (now (output .entry)) ⌝ }
 {
@@ -232,6 +240,7 @@ fn run_piece(
         messages,
         lines,
         texts,
+        store,
         bounds,
         numbers,
         f.index,
@@ -253,13 +262,14 @@ fn turn(
     messages: &mut [u64],
     lines: &mut [u64],
     texts: &mut [u8],
+    store: &mut [u8],
     bounds: Bounds,
     numbers: &[u64],
     f: Feed,
 ) -> Feed
-    requires { ⌜ CanRun bounds (λ P. lent P (now stations) (now carts) (now messages) (now lines) (now texts)) × Tabled (now numbers) ⌝ }
+    requires { ⌜ CanRun bounds (λ P. lent P (now stations) (now carts) (now messages) (now lines) (now texts) (now store)) × Tabled (now numbers) ⌝ }
     requires { ⌜ Inside (length (now input)) f × (f .state < 2) × (f .index < 9223372036854775808) × (length (now input) ≡ 65536) × (length (now output) ≡ 65536) ⌝ }
-    ensures { λ r. ⌜ ByEach bounds (λ P. lent P (now (stations .entry)) (now (carts .entry)) (now (messages .entry)) (now (lines .entry)) (now (texts .entry))) (λ P. lent P (now (stations .exit)) (now (carts .exit)) (now (messages .exit)) (now (lines .exit)) (now (texts .exit))) (λ L L′. Ready L′ × Made (streamOf (now (input .entry)) L f) (streamOf (now (input .exit)) L′ r) (take (r .handed) (now (output .exit)))) ⌝ }
+    ensures { λ r. ⌜ ByEach bounds (λ P. lent P (now (stations .entry)) (now (carts .entry)) (now (messages .entry)) (now (lines .entry)) (now (texts .entry)) (now (store .entry))) (λ P. lent P (now (stations .exit)) (now (carts .exit)) (now (messages .exit)) (now (lines .exit)) (now (texts .exit)) (now (store .exit))) (λ L L′. Ready L′ × Made (streamOf (now (input .entry)) L f) (streamOf (now (input .exit)) L′ r) (take (r .handed) (now (output .exit)))) ⌝ }
     ensures { λ r. ⌜ Inside (length (now (input .exit))) r ⌝ }
     ensures { λ r. ⌜ (length (now (input .exit)) ≡ length (now (input .entry))) × (length (now (output .exit)) ≡ length (now (output .entry))) ⌝ }
 {
@@ -275,6 +285,7 @@ fn turn(
         messages,
         lines,
         texts,
+        store,
         bounds,
         numbers,
         f,
@@ -314,11 +325,12 @@ pub fn run_all(
     messages: &mut [u64],
     lines: &mut [u64],
     texts: &mut [u8],
+    store: &mut [u8],
     bounds: Bounds,
     numbers: &[u64],
 ) -> Ending
-    requires { ⌜ CanRun bounds (λ P. lent P (now stations) (now carts) (now messages) (now lines) (now texts)) × Tabled (now numbers) × (length (now input) ≡ 65536) × (length (now output) ≡ 65536) ⌝ }
-    ensures { λ r. ⌜ ByEach bounds (λ P. lent P (now (stations .entry)) (now (carts .entry)) (now (messages .entry)) (now (lines .entry)) (now (texts .entry))) (λ P. lent P (now (stations .exit)) (now (carts .exit)) (now (messages .exit)) (now (lines .exit)) (now (texts .exit))) (λ L L′. RanAll L L′ r) ⌝ }
+    requires { ⌜ CanRun bounds (λ P. lent P (now stations) (now carts) (now messages) (now lines) (now texts) (now store)) × Tabled (now numbers) × (length (now input) ≡ 65536) × (length (now output) ≡ 65536) ⌝ }
+    ensures { λ r. ⌜ ByEach bounds (λ P. lent P (now (stations .entry)) (now (carts .entry)) (now (messages .entry)) (now (lines .entry)) (now (texts .entry)) (now (store .entry))) (λ P. lent P (now (stations .exit)) (now (carts .exit)) (now (messages .exit)) (now (lines .exit)) (now (texts .exit)) (now (store .exit))) (λ L L′. RanAll L L′ r) ⌝ }
 {
     let mut f = Feed {
         at: 0,
@@ -341,6 +353,7 @@ pub fn run_all(
             messages,
             lines,
             texts,
+            store,
             bounds,
             numbers,
             f,
@@ -363,10 +376,11 @@ pub fn run_over(
     messages: &mut [u64],
     lines: &mut [u64],
     texts: &mut [u8],
+    store: &mut [u8],
     bounds: Bounds,
 ) -> Ending
-    requires { ⌜ CanRun bounds (λ P. lent P (now stations) (now carts) (now messages) (now lines) (now texts)) ⌝ }
-    ensures { λ r. ⌜ ByEach bounds (λ P. lent P (now (stations .entry)) (now (carts .entry)) (now (messages .entry)) (now (lines .entry)) (now (texts .entry))) (λ P. lent P (now (stations .exit)) (now (carts .exit)) (now (messages .exit)) (now (lines .exit)) (now (texts .exit))) (λ L L′. RanAll L L′ r) ⌝ }
+    requires { ⌜ CanRun bounds (λ P. lent P (now stations) (now carts) (now messages) (now lines) (now texts) (now store)) ⌝ }
+    ensures { λ r. ⌜ ByEach bounds (λ P. lent P (now (stations .entry)) (now (carts .entry)) (now (messages .entry)) (now (lines .entry)) (now (texts .entry)) (now (store .entry))) (λ P. lent P (now (stations .exit)) (now (carts .exit)) (now (messages .exit)) (now (lines .exit)) (now (texts .exit)) (now (store .exit))) (λ L L′. RanAll L L′ r) ⌝ }
 {
     let mut input = io::large_buffer();
     let mut output = io::large_buffer();
@@ -381,6 +395,7 @@ pub fn run_over(
         messages,
         lines,
         texts,
+        store,
         bounds,
         &numbers,
     )
@@ -396,6 +411,7 @@ pub fn run(from: i32, to: i32) -> Ending
     let mut messages = no_messages();
     let mut lines = no_lines();
     let mut texts = no_texts();
+    let mut store = no_store();
     run_over(
         from,
         to,
@@ -404,6 +420,7 @@ pub fn run(from: i32, to: i32) -> Ending
         &mut messages,
         &mut lines,
         &mut texts,
+        &mut store,
         products::floor_bounds(),
     )
 }
@@ -414,9 +431,10 @@ pub fn run_kit(from: i32, to: i32) -> Ending
 {
     let mut stations = [0u64; 580];
     let mut carts = [0u64; 152];
-    let mut messages = [0u64; 48];
+    let mut messages = [0u64; 56];
     let mut lines = [0u64; 2250];
     let mut texts = [0u8; 256];
+    let mut store = no_store();
     run_over(
         from,
         to,
@@ -425,6 +443,7 @@ pub fn run_kit(from: i32, to: i32) -> Ending
         &mut messages,
         &mut lines,
         &mut texts,
+        &mut store,
         products::kit_bounds(),
     )
 }

@@ -5,16 +5,18 @@ use mathlib.Core.List.{List, [], _∷_}
 use Prim.Native.Nat.{ℕ, zero, suc, _+_, _-_, _*_, _/_, _%_, _^_, _≤_, _<_}
 use native.Mathlib.Numerals.{add-one}
 use native.Mathlib.Omega.{arith}
-use lib.Dec.{eqb}
+use lib.Dec.{eqb, ltb}
 use lib.ListN.{length, getD, take, drop, length-drop, drop-of-length-le}
 use lib.Seq.{length-take-le, getD-take, getD-drop, drop-cons, take-take}
 use lib.Pow.{pow-mono, pow-add, mod-pow-add, shr-shr}
-use borrow.Author.Tests.{ne-eqb, lt-ltb, le-ltb}
-use Rattle.protocol.proofs.Tests.{by-test, by-lt}
-use Rattle.protocol.specs.Floor.{limits}
+use borrow.Author.Tests.{ne-eqb, lt-ltb, le-ltb, ltb-false}
+use Rattle.protocol.proofs.Tests.{by-test, by-lt, by-eq}
+use Rattle.protocol.proofs.Accepted.{is-long}
+use Rattle.protocol.specs.Floor.{limits, mostText}
 use Rattle.protocol.specs.Folds.{isEmpty}
-use Rattle.protocol.specs.Events.{start, enter, send, wire, radio, move, flag, group, sendGroup}
-use Rattle.protocol.specs.Frames.{Fields, Reading, bigEndian, fieldsOf, unlisted, eventOf, lastKind, fieldsRefusal, frameRefusal, frameOf, readAt, end, refusedFrame, taken}
+use Rattle.protocol.specs.Events.{start, enter, send, wire, radio, move, flag, group, sendGroup, sendLong}
+use Rattle.protocol.specs.Store.{notLong}
+use Rattle.protocol.specs.Frames.{Fields, Reading, bigEndian, fieldsOf, unlisted, textLength, wrongLength, eventOf, lastKind, fieldsRefusal, frameRefusal, frameOf, readAt, end, refusedFrame, taken}
 use Rattle.frames.specs.declared.Halves.{Halves}
 use Rattle.frames.specs.Decoded.{lowOctets, fieldsIn}
 
@@ -156,6 +158,23 @@ send-fields head =
         → (zeros + both ≡ 0 → cart + other + zeros ≡ 0) × (cart + other + zeros ≡ 0 → zeros + both ≡ 0)
     sums cart other zeros both e = (λ z. omega arith, λ z. omega arith)
 
+-- cart, other and length are the sixteen bits below the station
+pub long-fields : (head : ℕ)
+    → (head % 2 ^ 40 / 65536 + head / 2 ^ 40 % 65536 + 0 ≡ 0 → head / 2 ^ 50 % 64 + head / 2 ^ 46 % 16 + head / 2 ^ 40 % 64 + head % 2 ^ 40 / 65536 ≡ 0)
+    × (head / 2 ^ 50 % 64 + head / 2 ^ 46 % 16 + head / 2 ^ 40 % 64 + head % 2 ^ 40 / 65536 ≡ 0 → head % 2 ^ 40 / 65536 + head / 2 ^ 40 % 65536 + 0 ≡ 0)
+long-fields head =
+    sums (head / 2 ^ 50 % 64) (head / 2 ^ 46 % 16) (head / 2 ^ 40 % 64) (head % 2 ^ 40 / 65536) (head / 2 ^ 46 % 1024) (head / 2 ^ 40 % 65536)
+    (mod-pow-add (head / 2 ^ 46) 6 4 ∙ ap (λ (n : ℕ). n % 64 * 16 + head / 2 ^ 46 % 16) (shr-shr head 46 4))
+    (mod-pow-add (head / 2 ^ 40) 10 6 ∙ ap (λ (n : ℕ). n % 1024 * 64 + head / 2 ^ 40 % 64) (shr-shr head 40 6))
+  where
+    sums : (cart other length zeros both all : ℕ) → both ≡ cart * 16 + other → all ≡ both * 64 + length
+        → (zeros + all + 0 ≡ 0 → cart + other + length + zeros ≡ 0) × (cart + other + length + zeros ≡ 0 → zeros + all + 0 ≡ 0)
+    sums cart other length zeros both all e g = (λ z. omega arith, λ z. omega arith)
+
+-- the last sixteen bits are of the zero field
+pub low-sixteen : (head : ℕ) → head % 65536 ≡ head % 2 ^ 40 % 65536
+low-sixteen head = omega arith
+
 -- the fields not listed for a kind
 module _ (f : Fields) where
   pub unlisted-start : f .kind ≡ 0 → unlisted f ≡ f .other + f .length + f .zero + f .set
@@ -194,6 +213,37 @@ module _ (f : Fields) where
   unfolding unlisted
   unlisted-send-group k = rw k refl
 
+  pub unlisted-send-long : f .kind ≡ 9 → unlisted f ≡ f .cart + f .other + f .length + f .zero / 65536
+  unfolding unlisted
+  unlisted-send-long k = rw k refl
+
+-- TEXTS
+
+module _ (f : Fields) where
+  pub long-length : f .kind ≡ 9 → f .zero % 65536 ≡ textLength f
+  long-length k = rw k refl
+
+  pub long-wrong : f .kind ≡ 9 → notLong limits (textLength f) ≡ wrongLength limits f
+  long-wrong k = rw k refl
+
+  module _ (k : f .kind ≡ 9 → ⊥) where
+    pub short-length : f .length ≡ textLength f
+    short-length = rw (ne-eqb (f .kind) 9 k) refl
+
+    pub short-wrong : ltb 32 (textLength f) ≡ wrongLength limits f
+    short-wrong = rw (ne-eqb (f .kind) 9 k) refl
+
+  module _ (w : wrongLength limits f ≡ false) where
+    -- how long a text is that is not refused
+    pub long-text : f .kind ≡ 9 → (32 < textLength f) × (textLength f ≤ 512)
+    long-text k = is-long limits (textLength f) (long-wrong k ∙ w)
+
+    pub short-text : (f .kind ≡ 9 → ⊥) → textLength f ≤ 32
+    short-text k = ltb-false 32 (textLength f) (short-wrong k ∙ w)
+
+    pub text-at-most : textLength f ≤ mostText limits
+    text-at-most = by-eq (f .kind) 9 (λ k. long-text k .1) (λ k. let z = short-text k in omega arith)
+
 -- REFUSALS
 
 module _ (f : Fields) (behind : ℕ) where
@@ -205,44 +255,51 @@ module _ (f : Fields) (behind : ℕ) where
   unfolding fieldsRefusal
   stray-field k u = rw (le-ltb lastKind (f .kind) k, u) refl
 
-  pub long-text : f .kind ≤ lastKind → eqb (unlisted f) 0 ≡ true → 32 < f .length → 4 ≡ fieldsRefusal limits f behind
-  unfolding fieldsRefusal
-  long-text k u t = rw (le-ltb lastKind (f .kind) k, u, lt-ltb 32 (f .length) t) refl
+  module _ (k : f .kind ≤ lastKind) (u : eqb (unlisted f) 0 ≡ true) where
+    pub wrong-text : wrongLength limits f ≡ true → 4 ≡ fieldsRefusal limits f behind
+    unfolding fieldsRefusal
+    wrong-text w = rw (le-ltb lastKind (f .kind) k, u, w) refl
 
-  pub cut-text : f .kind ≤ lastKind → eqb (unlisted f) 0 ≡ true → f .length ≤ 32 → behind < f .length → 1 ≡ fieldsRefusal limits f behind
-  unfolding fieldsRefusal
-  cut-text k u t b = rw (le-ltb lastKind (f .kind) k, u, le-ltb 32 (f .length) t, lt-ltb behind (f .length) b) refl
+    module _ (w : wrongLength limits f ≡ false) where
+      pub cut-text : behind < textLength f → 1 ≡ fieldsRefusal limits f behind
+      unfolding fieldsRefusal
+      cut-text b = rw (le-ltb lastKind (f .kind) k, u, w, lt-ltb behind (textLength f) b) refl
 
-  pub no-refusal : f .kind ≤ lastKind → eqb (unlisted f) 0 ≡ true → f .length ≤ 32 → f .length ≤ behind → 0 ≡ fieldsRefusal limits f behind
-  unfolding fieldsRefusal
-  no-refusal k u t b = rw (le-ltb lastKind (f .kind) k, u, le-ltb 32 (f .length) t, le-ltb behind (f .length) b) refl
+      pub no-refusal : textLength f ≤ behind → 0 ≡ fieldsRefusal limits f behind
+      unfolding fieldsRefusal
+      no-refusal b = rw (le-ltb lastKind (f .kind) k, u, w, le-ltb behind (textLength f) b) refl
 
--- what is known of a frame that is not refused
-module _ (f : Fields) (behind : ℕ) (e : fieldsRefusal limits f behind ≡ 0) where
-  kind-known : f .kind ≤ lastKind
-  kind-known = by-lt lastKind (f .kind) (λ k. absurd (let z : 2 ≡ 0 = no-kind f behind k ∙ e in omega arith)) (λ k. k)
+-- a frame that is refused for nothing before its text's end: it is not refused, or only cut
+module _ (f : Fields) (behind : ℕ) (e : fieldsRefusal limits f behind ≤ 1) where
+  pub kind-known : f .kind ≤ lastKind
+  kind-known = by-lt lastKind (f .kind) (λ k. absurd (let z = no-kind f behind k in omega arith)) (λ k. k)
 
   listed : eqb (unlisted f) 0 ≡ true
-  listed =
-      by-test (eqb (unlisted f) 0)
-      (λ u. u)
-      (λ u. absurd (let z : 3 ≡ 0 = stray-field f behind kind-known u ∙ e in omega arith))
+  listed = by-test (eqb (unlisted f) 0) (λ u. u) (λ u. absurd (let z = stray-field f behind kind-known u in omega arith))
 
-  pub text-short : f .length ≤ 32
-  text-short =
-      by-lt 32 (f .length) (λ t. absurd (let z : 4 ≡ 0 = long-text f behind kind-known listed t ∙ e in omega arith)) (λ t. t)
+  pub text-right : wrongLength limits f ≡ false
+  text-right = by-test (wrongLength limits f) (λ w. absurd (let z = wrong-text f behind kind-known listed w in omega arith)) (λ w. w)
 
-  pub text-there : f .length ≤ behind
-  text-there =
-      by-lt behind (f .length)
-      (λ b. absurd (let z : 1 ≡ 0 = cut-text f behind kind-known listed text-short b ∙ e in omega arith))
+module _ (f : Fields) (behind : ℕ) where
+  pub text-there : fieldsRefusal limits f behind ≡ 0 → textLength f ≤ behind
+  text-there e =
+      let one : fieldsRefusal limits f behind ≤ 1 = omega arith in
+      by-lt behind (textLength f)
+      (λ b. absurd (let z = cut-text f behind (kind-known f behind one) (listed f behind one) (text-right f behind one) b in omega arith))
       (λ b. b)
+
+  pub text-cut : fieldsRefusal limits f behind ≡ 1 → behind < textLength f
+  text-cut e =
+      let one : fieldsRefusal limits f behind ≤ 1 = omega arith in
+      by-lt behind (textLength f)
+      (λ b. b)
+      (λ b. absurd (let z = no-refusal f behind (kind-known f behind one) (listed f behind one) (text-right f behind one) b in omega arith))
 
 -- EVENTS
 
 -- the reading of a frame with these fields that is not refused, and these octets behind it
 abbrev pub frameWith : Fields → List ℕ → Reading
-frameWith f text = taken (eventOf limits f text) (16 + f .length)
+frameWith f text = taken (eventOf limits f text) (16 + textLength f)
 
 module _ (f : Fields) (text : List ℕ) where
   pub start-event : f .kind ≡ 0 → start (f .station + 1) (f .cart + 1) ≡ eventOf limits f text
@@ -261,7 +318,7 @@ module _ (f : Fields) (text : List ℕ) where
   unfolding eventOf
   wire-event k = rw k refl
 
-  pub radio-event : f .kind ≡ 4 → radio (f .station) (f .cart) 32 ≡ eventOf limits f text
+  pub radio-event : f .kind ≡ 4 → radio (f .station) (f .cart) 512 ≡ eventOf limits f text
   unfolding eventOf
   radio-event k = rw k refl
 
@@ -280,6 +337,10 @@ module _ (f : Fields) (text : List ℕ) where
   pub send-group-event : f .kind ≡ 8 → sendGroup (f .station) (f .other) text ≡ eventOf limits f text
   unfolding eventOf
   send-group-event k = rw k refl
+
+  pub send-long-event : f .kind ≡ 9 → sendLong (f .station) (f .set) text ≡ eventOf limits f text
+  unfolding eventOf
+  send-long-event k = rw k refl
 
 -- READINGS
 
@@ -301,7 +362,7 @@ unfolding frameOf
 refused-front l r e q h = rw (e, q, ne-eqb r 0 h) refl
 
 taken-front : (l : List ℕ) → isEmpty l ≡ false → frameRefusal limits l ≡ 0
-    → frameWith (fieldsOf l) (take (fieldsOf l .length) (drop 16 l)) ≡ frameOf limits l
+    → frameWith (fieldsOf l) (take (textLength (fieldsOf l)) (drop 16 l)) ≡ frameOf limits l
 unfolding frameOf
 taken-front l e q = rw (e, q) refl
 
@@ -322,8 +383,8 @@ module _ (l : List ℕ) (at : ℕ) where
     unfolding readAt
     refused-frame r q n = refused-front (drop at l) r (some-left l at (omega arith)) (same-refusal l at r f h e q) n
 
-    pub taken-frame : 0 ≡ fieldsRefusal limits f (length l - at - 16) → frameWith f (take (f .length) (drop 16 (drop at l))) ≡ readAt limits l at
+    pub taken-frame : 0 ≡ fieldsRefusal limits f (length l - at - 16) → frameWith f (take (textLength f) (drop 16 (drop at l))) ≡ readAt limits l at
     unfolding readAt
     taken-frame q =
-        ap (λ (g : Fields). frameWith g (take (g .length) (drop 16 (drop at l)))) e
+        ap (λ (g : Fields). frameWith g (take (textLength g) (drop 16 (drop at l)))) e
         ∙ taken-front (drop at l) (some-left l at (omega arith)) (same-refusal l at 0 f h e q)

@@ -10,7 +10,7 @@ use lib.Seq.{take-append-le, drop-append-le}
 use borrow.Author.Tests.{lt-ltb, le-ltb}
 use Rattle.protocol.specs.Floor.{limits}
 use Rattle.protocol.specs.Refusals.{check}
-use Rattle.protocol.specs.Frames.{Fields, bigEndian, fieldsOf, unlisted, eventOf, lastKind, fieldsRefusal, end, refusedFrame, taken, readAt}
+use Rattle.protocol.specs.Frames.{Fields, bigEndian, fieldsOf, unlisted, textLength, wrongLength, eventOf, lastKind, fieldsRefusal, end, refusedFrame, taken, readAt}
 use Rattle.protocol.proofs.Tests.{by-lt, by-eq}
 use Rattle.frames.proofs.Laws.{nothing-left, cut-frame, refused-frame, taken-frame, text-there}
 
@@ -42,16 +42,16 @@ same-check false false true x y r e n = e
 same-check false false false x y r e n = absurd (n e)
 
 -- as long as the text is there, how many octets are behind does not matter
-none-with : (f : Fields) (x y : ℕ) → f .length ≤ x → f .length ≤ y → fieldsRefusal limits f x ≡ 0 → fieldsRefusal limits f y ≡ 0
+none-with : (f : Fields) (x y : ℕ) → textLength f ≤ x → textLength f ≤ y → fieldsRefusal limits f x ≡ 0 → fieldsRefusal limits f y ≡ 0
 unfolding fieldsRefusal
-none-with f x y h k e = rw (le-ltb y (f .length) k) (rw (le-ltb x (f .length) h) at e)
+none-with f x y h k e = rw (le-ltb y (textLength f) k) (rw (le-ltb x (textLength f) h) at e)
 
 -- with more octets behind them, a refusal of the fields other than "fewer text octets than the length" stays, and so does none
 refusal-stands : (f : Fields) (behind more r : ℕ) → fieldsRefusal limits f behind ≡ r → (r ≡ 0 → ⊥) → (r ≡ 1 → ⊥) → fieldsRefusal limits f (behind + more) ≡ r
 unfolding fieldsRefusal
 refusal-stands f behind more r e n m =
-    same-check (ltb lastKind (f .kind)) (not (eqb (unlisted f) 0)) (ltb 32 (f .length)) (check 1 (ltb behind (f .length)) 0) (check 1 (ltb (behind + more) (f .length)) 0) r e
-    (by-lt behind (f .length) (λ l q. m (sym q ∙ rw (lt-ltb behind (f .length) l) refl)) (λ l q. n (sym q ∙ rw (le-ltb behind (f .length) l) refl)))
+    same-check (ltb lastKind (f .kind)) (not (eqb (unlisted f) 0)) (wrongLength limits f) (check 1 (ltb behind (textLength f)) 0) (check 1 (ltb (behind + more) (textLength f)) 0) r e
+    (by-lt behind (textLength f) (λ l q. m (sym q ∙ rw (lt-ltb behind (textLength f) l) refl)) (λ l q. n (sym q ∙ rw (le-ltb behind (textLength f) l) refl)))
 
 none-stands : (f : Fields) (behind more : ℕ) → fieldsRefusal limits f behind ≡ 0 → fieldsRefusal limits f (behind + more) ≡ 0
 none-stands f behind more e = none-with f behind (behind + more) (text-there f behind e) (let z = text-there f behind e in omega arith) e
@@ -72,10 +72,10 @@ frame-stands p q some whole =
     (λ z.
     let later : fieldsRefusal limits f (length (p ++ q) - 0 - 16) ≡ 0 = ap (fieldsRefusal limits f) behind ∙ none-stands f (length p - 0 - 16) (length q) z in
     let there = text-there f (length p - 0 - 16) z in
-    let text : take (f .length) (drop 16 (p ++ q)) ≡ take (f .length) (drop 16 p) =
-    ap (take (f .length)) (drop-append-le 16 p q s) ∙ take-append-le (f .length) (drop 16 p) q (let y = length-drop 16 p in omega arith) in
+    let text : take (textLength f) (drop 16 (p ++ q)) ≡ take (textLength f) (drop 16 p) =
+    ap (take (textLength f)) (drop-append-le 16 p q s) ∙ take-append-le (textLength f) (drop 16 p) q (let y = length-drop 16 p in omega arith) in
     sym (taken-frame (p ++ q) 0 f (omega arith) fields (sym later))
-    ∙ ap (λ (t : List ℕ). taken (eventOf limits f t) (16 + f .length)) text
+    ∙ ap (λ (t : List ℕ). taken (eventOf limits f t) (16 + textLength f)) text
     ∙ taken-frame p 0 f (omega arith) refl (sym z))
     (λ n. by-eq (fieldsRefusal limits f (length p - 0 - 16)) 1
     (λ one. absurd (whole (sym (refused-frame p 0 f (omega arith) refl 1 (sym one) (λ z. omega arith)))))

@@ -4,9 +4,11 @@ use ids::Station;
 ghost use mathlib.Core.Path.{_≡_};
 ghost use mathlib.Core.List.{List};
 ghost use Prim.Native.Nat.{ℕ, _+_, _-_, _<_, _≤_};
+ghost use lib.Dec.{ltb};
 ghost use lib.ListN.{length, take, drop};
 ghost use lib.Seq.{paste};
 ghost use Rattle.protocol.specs.Floor.{limits};
+ghost use Rattle.protocol.specs.Store.{notLong};
 ghost use Rattle.protocol.specs.Frames.{bigEndian, fieldsOf, readAt};
 ghost use Rattle.frames.specs.Decoded.{lowOctets, fieldsIn, ifListed, ifWhole, frameIn, sizeOf, readingIn, refusalOf};
 
@@ -28,13 +30,14 @@ pub enum Event {
     Group(u64, u64),
     // The group, and how long the text is.
     SendGroup(Station, u64, usize),
+    // A send of a long text: the set, and how long the text is.
+    SendLong(Station, u64, usize),
 }
 
-// What stands at a place: nothing, a frame that is refused, or an event. The number of a refusal is of a smaller type than the fields of an event: the two
-// are then kept apart by the compiler, which asks for a kind once, where it is taken apart, and goes on from there with its event.
+// What stands at a place: nothing, a frame that is refused, or an event.
 pub enum Reading {
     End,
-    Refused(u8),
+    Refused(u64),
     Taken(Event),
 }
 
@@ -57,6 +60,9 @@ const CART_BIT: u64 = 1 << 50;
 const OTHER_BIT: u64 = 1 << 46;
 
 const LENGTH_BIT: u64 = 1 << 40;
+
+// The lowest bit of the head above a long text's length: "the last sixteen of the forty zero bits hold that length".
+const ABOVE_LONG: u64 = 1 << 16;
 
 fn wide(x: u8) -> u64
     ensures { λ r. ⌜ (r ≡ x) × (r < 256) ⌝ }
@@ -136,9 +142,25 @@ fn if_listed(low: u64, field: u64, set: u64, e: Event) -> Reading
 
 // An event with a text of this length, and so many octets behind its frame: "Checks run down the table".
 fn if_whole(length: u64, behind: usize, e: Event) -> Reading
-    ensures { λ r. ⌜ r ≡ ifWhole length behind e ⌝ }
+    ensures { λ r. ⌜ r ≡ ifWhole (ltb (limits .text) length) length behind e ⌝ }
 {
     if (products::TEXT as u64) < length {
+        return Reading::Refused(4);
+    }
+    if (behind as u64) < length {
+        return Reading::Refused(1);
+    }
+    Reading::Taken(e)
+}
+
+// The same of a long text: "33 to 512 octets", and "4 for other lengths".
+fn if_whole_long(length: u64, behind: usize, e: Event) -> Reading
+    ensures { λ r. ⌜ r ≡ ifWhole (notLong limits length) length behind e ⌝ }
+{
+    if length <= products::TEXT as u64 {
+        return Reading::Refused(4);
+    }
+    if (products::LONG as u64) < length {
         return Reading::Refused(4);
     }
     if (behind as u64) < length {
@@ -202,22 +224,49 @@ fn send_group_of(f: Halves, behind: usize) -> Reading
     if_whole(length, behind, e)
 }
 
-// A frame of a kind that came later, with so many octets behind it: "refusal 2 no longer covers a kind once a request defines it".
+// "Kind 9 is a send whose text has 33 to 512 octets; the last sixteen of the forty zero bits hold that length, and the six-bit length stays zero", with
+// so many octets behind the frame. Cart, other and the six-bit length are the sixteen bits below the station.
+fn send_long_of(f: Halves, behind: usize) -> Reading
+    requires { ⌜ fieldsIn f .kind ≡ 9 ⌝ }
+    ensures { λ r. ⌜ ((l : List ℕ) → readingIn l r ≡ frameIn l (fieldsIn f) behind) ⌝ }
+{
+    let stray = f.head % LENGTH_BIT / ABOVE_LONG + f.head / LENGTH_BIT % 65536;
+    if stray != 0 {
+        return Reading::Refused(3);
+    }
+    let length = f.head % ABOVE_LONG;
+    let e = Event::SendLong(Station(f.head / STATION_BIT % 16), f.set, length as usize);
+    if_whole_long(length, behind, e)
+}
+
+// A frame of a kind above 7, with so many octets behind it: "refusal 2 no longer covers a kind once a request defines it".
+fn latest_of(f: Halves, behind: usize) -> Reading
+    requires { ⌜ 7 < fieldsIn f .kind ⌝ }
+    ensures { λ r. ⌜ ((l : List ℕ) → readingIn l r ≡ frameIn l (fieldsIn f) behind) ⌝ }
+{
+    let kind = f.head / KIND_BIT;
+    if kind == 8 {
+        return send_group_of(f, behind);
+    }
+    if kind == 9 {
+        return send_long_of(f, behind);
+    }
+    Reading::Refused(2)
+}
+
+// A frame of a kind that came later than the first release, with so many octets behind it.
 fn later_of(f: Halves, behind: usize) -> Reading
     requires { ⌜ 5 < fieldsIn f .kind ⌝ }
     ensures { λ r. ⌜ ((l : List ℕ) → readingIn l r ≡ frameIn l (fieldsIn f) behind) ⌝ }
 {
     let kind = f.head / KIND_BIT;
+    if 7 < kind {
+        return latest_of(f, behind);
+    }
     if kind == 6 {
         return flag_of(f);
     }
-    if kind == 7 {
-        return group_of(f);
-    }
-    if kind == 8 {
-        return send_group_of(f, behind);
-    }
-    Reading::Refused(2)
+    group_of(f)
 }
 
 // A frame with so many octets behind it, taken apart by its kind or refused. Kinds are asked for one after the other, and not by a table of jumps:
@@ -270,7 +319,7 @@ pub fn frame_at(octets: &[u8], at: usize) -> Reading
     reading_of(halves_at(octets, at), octets.len() - at - FRAME)
 }
 
-// How many octets an event took: its frame, and of a send, to a set or to a group, the text.
+// How many octets an event took: its frame, and of a send of any kind the text.
 pub fn size_of(e: Event) -> usize
     requires { ⌜ sizeOf e < 18446744073709551616 ⌝ }
     ensures { λ r. ⌜ r ≡ sizeOf e ⌝ }
@@ -278,6 +327,7 @@ pub fn size_of(e: Event) -> usize
     match e {
         Event::Send(_, _, length) => FRAME + length,
         Event::SendGroup(_, _, length) => FRAME + length,
+        Event::SendLong(_, _, length) => FRAME + length,
         _ => FRAME,
     }
 }
@@ -288,13 +338,13 @@ pub fn refusal(reading: Reading) -> u64
 {
     match reading {
         Reading::End => 0,
-        Reading::Refused(number) => number as u64,
+        Reading::Refused(number) => number,
         Reading::Taken(_) => 0,
     }
 }
 
 // The octets of a piece of input from `at` up to `have`, to its front, where a read goes on behind them. Returns how many these are: a frame that is
-// not whole yet has at most 47.
+// not whole yet has at most 527.
 pub fn keep(input: &mut [u8], at: usize, have: usize) -> usize
     requires { ⌜ (at ≤ have) × (have ≤ length (now input)) ⌝ }
     ensures { λ r. ⌜ (r ≡ have - at) × (now (input .exit) ≡ paste (now (input .entry)) 0 (drop at (now (input .entry))) (have - at)) ⌝ }

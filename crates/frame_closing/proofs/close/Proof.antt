@@ -22,6 +22,9 @@ no-lines-requires c κs = search needs
 no-texts-requires : tie.Need-no-texts-requires
 no-texts-requires c κs = search needs
 
+no-store-requires : tie.Need-no-store-requires
+no-store-requires c κs = search needs
+
 slice-aggregate-run-over : tie.Need-slice-aggregate-run-over
 slice-aggregate-run-over c = search needs
 
@@ -37,19 +40,23 @@ slice-aggregate-run-over-4 c = search needs
 slice-aggregate-run-over-5 : tie.Need-slice-aggregate-run-over-5
 slice-aggregate-run-over-5 c = search needs
 
+slice-aggregate-run-over-6 : tie.Need-slice-aggregate-run-over-6
+slice-aggregate-run-over-6 c = search needs
+
 floor-bounds-requires : tie.Need-floor-bounds-requires
 floor-bounds-requires c κs = search needs
 
 run-over-requires : tie.Need-run-over-requires
 run-over-requires c κs =
-    let s = c .before .before .before .before .before .before .before .before .before .before .no-stations in
-    let k = c .before .before .before .before .before .before .before .before .before .no-carts in
-    let m = c .before .before .before .before .before .before .before .before .no-messages in
-    let w = c .before .before .before .before .before .before .before .no-lines in
-    let t = c .before .before .before .before .before .before .no-texts in
-    let long = floor-lengths (s .result) (k .result) (m .result) (w .result) (t .result) (s .ensures .0) (k .ensures) (m .ensures) (w .ensures) (t .ensures) in
+    let s = c .before .before .before .before .before .before .before .before .before .before .before .before .no-stations in
+    let k = c .before .before .before .before .before .before .before .before .before .before .before .no-carts in
+    let m = c .before .before .before .before .before .before .before .before .before .before .no-messages in
+    let w = c .before .before .before .before .before .before .before .before .before .no-lines in
+    let t = c .before .before .before .before .before .before .before .before .no-texts in
+    let o = c .before .before .before .before .before .before .before .no-store in
+    let long = floor-lengths (s .result) (k .result) (m .result) (w .result) (t .result) (o .result) (s .ensures .0) (k .ensures) (m .ensures) (w .ensures) (t .ensures) (o .ensures) in
     let numbers = c .floor-bounds .ensures .1 in
-    (omega (arith, numbers .held-is), (wholeFloor, numbers, fresh-ready wholeFloor _ _ _ _ _ (s .ensures .1) long))
+    (omega (arith, numbers .held-is), (wholeFloor, numbers, fresh-ready wholeFloor _ _ _ _ _ _ (s .ensures .1) long))
 
 slice-aggregate-hand-line : tie.Need-slice-aggregate-hand-line
 slice-aggregate-hand-line c = search needs
@@ -69,32 +76,37 @@ slice-aggregate-hand-line-5 c = search needs
 slice-aggregate-hand-line-6 : tie.Need-slice-aggregate-hand-line-6
 slice-aggregate-hand-line-6 c = search needs
 
+slice-aggregate-hand-line-7 : tie.Need-slice-aggregate-hand-line-7
+slice-aggregate-hand-line-7 c = search needs
+
 hand-line-requires : tie.Need-hand-line-requires
 hand-line-requires c κs =
-    let s = c .before .before .before .before .before .before .before .before .before .before .before .before .before .before .before .before .before .before .before .before .before .before .no-stations in
-    let k = c .before .before .before .before .before .before .before .before .before .before .before .before .before .before .before .before .before .before .before .before .before .no-carts in
-    let m = c .before .before .before .before .before .before .before .before .before .before .before .before .before .before .before .before .before .before .before .before .no-messages in
-    let w = c .before .before .before .before .before .before .before .before .before .before .before .before .before .before .before .before .before .before .before .no-lines in
-    let t = c .before .before .before .before .before .before .before .before .before .before .before .before .before .before .before .before .before .before .no-texts in
-    let long = floor-lengths (s .result) (k .result) (m .result) (w .result) (t .result) (s .ensures .0) (k .ensures) (m .ensures) (w .ensures) (t .ensures) in
-    let numbers = c .before .before .before .before .before .before .before .before .before .before .before .before .floor-bounds .ensures .1 in
-    (c .before .before .before .before .before .before .before .before .before .before .before .run-over .ensures wholeFloor numbers (fresh-ready wholeFloor _ _ _ _ _ (s .ensures .1) long) .ready, omega arith)
+    let s = c .before .before .before .before .before .before .before .before .before .before .before .before .before .before .before .before .before .before .before .before .before .before .before .before .before .before .no-stations in
+    let k = c .before .before .before .before .before .before .before .before .before .before .before .before .before .before .before .before .before .before .before .before .before .before .before .before .before .no-carts in
+    let m = c .before .before .before .before .before .before .before .before .before .before .before .before .before .before .before .before .before .before .before .before .before .before .before .before .no-messages in
+    let w = c .before .before .before .before .before .before .before .before .before .before .before .before .before .before .before .before .before .before .before .before .before .before .before .no-lines in
+    let t = c .before .before .before .before .before .before .before .before .before .before .before .before .before .before .before .before .before .before .before .before .before .before .no-texts in
+    let o = c .before .before .before .before .before .before .before .before .before .before .before .before .before .before .before .before .before .before .before .before .before .no-store in
+    let long = floor-lengths (s .result) (k .result) (m .result) (w .result) (t .result) (o .result) (s .ensures .0) (k .ensures) (m .ensures) (w .ensures) (t .ensures) (o .ensures) in
+    let numbers = c .before .before .before .before .before .before .before .before .before .before .before .before .before .before .floor-bounds .ensures .1 in
+    (c .before .before .before .before .before .before .before .before .before .before .before .before .before .run-over .ensures wholeFloor numbers (fresh-ready wholeFloor _ _ _ _ _ _ (s .ensures .1) long) .ready, omega arith)
 
 after-line-requires : tie.Need-after-line-requires
 after-line-requires c κs = search needs
 
 returns : tie.Need-returns
 returns c =
-    let s = c .before .before .before .before .before .before .before .before .before .before .before .before .before .before .before .before .before .before .before .before .before .before .before .before .before .before .before .before .before .no-stations in
-    let k = c .before .before .before .before .before .before .before .before .before .before .before .before .before .before .before .before .before .before .before .before .before .before .before .before .before .before .before .before .no-carts in
-    let m = c .before .before .before .before .before .before .before .before .before .before .before .before .before .before .before .before .before .before .before .before .before .before .before .before .before .before .before .no-messages in
-    let w = c .before .before .before .before .before .before .before .before .before .before .before .before .before .before .before .before .before .before .before .before .before .before .before .before .before .before .no-lines in
-    let t = c .before .before .before .before .before .before .before .before .before .before .before .before .before .before .before .before .before .before .before .before .before .before .before .before .before .no-texts in
-    let long = floor-lengths (s .result) (k .result) (m .result) (w .result) (t .result) (s .ensures .0) (k .ensures) (m .ensures) (w .ensures) (t .ensures) in
-    let numbers = c .before .before .before .before .before .before .before .before .before .before .before .before .before .before .before .before .before .before .before .floor-bounds .ensures .1 in
-    let r = c .before .before .before .before .before .before .before .before .before .before .before .before .before .before .before .before .before .before .run-over in
+    let s = c .before .before .before .before .before .before .before .before .before .before .before .before .before .before .before .before .before .before .before .before .before .before .before .before .before .before .before .before .before .before .before .before .before .no-stations in
+    let k = c .before .before .before .before .before .before .before .before .before .before .before .before .before .before .before .before .before .before .before .before .before .before .before .before .before .before .before .before .before .before .before .before .no-carts in
+    let m = c .before .before .before .before .before .before .before .before .before .before .before .before .before .before .before .before .before .before .before .before .before .before .before .before .before .before .before .before .before .before .before .no-messages in
+    let w = c .before .before .before .before .before .before .before .before .before .before .before .before .before .before .before .before .before .before .before .before .before .before .before .before .before .before .before .before .before .before .no-lines in
+    let t = c .before .before .before .before .before .before .before .before .before .before .before .before .before .before .before .before .before .before .before .before .before .before .before .before .before .before .before .before .before .no-texts in
+    let o = c .before .before .before .before .before .before .before .before .before .before .before .before .before .before .before .before .before .before .before .before .before .before .before .before .before .before .before .before .no-store in
+    let long = floor-lengths (s .result) (k .result) (m .result) (w .result) (t .result) (o .result) (s .ensures .0) (k .ensures) (m .ensures) (w .ensures) (t .ensures) (o .ensures) in
+    let numbers = c .before .before .before .before .before .before .before .before .before .before .before .before .before .before .before .before .before .before .before .before .before .floor-bounds .ensures .1 in
+    let r = c .before .before .before .before .before .before .before .before .before .before .before .before .before .before .before .before .before .before .before .before .run-over in
     let h = c .before .before .before .before .before .before .hand-line in
-    closed _ _ _ _ _ _ (r .result) _ (h .result) _ (fresh wholeFloor _ _ _ _ _ (s .ensures .1) long) (r .ensures wholeFloor numbers (fresh-ready wholeFloor _ _ _ _ _ (s .ensures .1) long)) (h .ensures) (c .after-line .ensures)
+    closed _ _ _ _ _ _ _ (r .result) _ (h .result) _ (fresh wholeFloor _ _ _ _ _ _ (s .ensures .1) long) (r .ensures wholeFloor numbers (fresh-ready wholeFloor _ _ _ _ _ _ (s .ensures .1) long)) (h .ensures) (c .after-line .ensures)
 
 pub close-spec : {M : Type 1} → statement M
 close-spec =
@@ -105,11 +117,13 @@ close-spec =
     no-messages-requires
     no-lines-requires
     no-texts-requires
+    no-store-requires
     slice-aggregate-run-over
     slice-aggregate-run-over-2
     slice-aggregate-run-over-3
     slice-aggregate-run-over-4
     slice-aggregate-run-over-5
+    slice-aggregate-run-over-6
     floor-bounds-requires
     run-over-requires
     slice-aggregate-hand-line
@@ -118,6 +132,7 @@ close-spec =
     slice-aggregate-hand-line-4
     slice-aggregate-hand-line-5
     slice-aggregate-hand-line-6
+    slice-aggregate-hand-line-7
     hand-line-requires
     after-line-requires
     returns)

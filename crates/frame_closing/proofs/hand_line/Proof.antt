@@ -15,9 +15,9 @@ at-end-requires c κs = search needs
 
 returns : tie.Need-returns
 returns c =
-    let s = c .before .before .before .before .before .before .before .before in
+    let s = c .before .before .before .before .before .before .before .before .before in
     let a = s .args in
-    let L = lent wholeFloor (now (a .stations)) (now (a .carts)) (now (a .messages)) (now (a .lines)) (now (a .texts)) in
+    let L = lent wholeFloor (now (a .stations)) (now (a .carts)) (now (a .messages)) (now (a .lines)) (now (a .texts)) (now (a .store)) in
     no-line (a .run) (floorIn L) _ (c .before .at-end .ensures) (now (a .line)) (c .if1 .taken)
 
 put-line-requires : tie.Need-put-line-requires
@@ -29,7 +29,7 @@ slice-reshare-prefix-hand-on c = search needs
 slice-aggregate-hand-on : tie.Need-slice-aggregate-hand-on
 slice-aggregate-hand-on c =
     let t = c .before .before .before .before .before .before .before .before .before .before .before .put-line in
-    sym (length-take-le _ (t .last .0) (omega (arith, t .ensures .few, t .ensures .kept, c .before .before .before .before .before .before .before .before .before .before .before .before .before .before .before .before .before .before .before .before .before .before .before .before .before .pre .1)))
+    sym (length-take-le _ (t .last .0) (omega (arith, t .ensures .few, t .ensures .kept, c .before .before .before .before .before .before .before .before .before .before .before .before .before .before .before .before .before .before .before .before .before .before .before .before .before .before .pre .1)))
 
 hand-on-requires : tie.Need-hand-on-requires
 hand-on-requires c κs = search needs
@@ -51,9 +51,9 @@ same-length-5 c = search needs
 
 returns-2 : tie.Need-returns-2
 returns-2 c =
-    let s = c .before .before .before .before .before .before .before .before .before .before .before .before .before .before .before .before .before .before .before .before .before .before .before .before .before .before in
+    let s = c .before .before .before .before .before .before .before .before .before .before .before .before .before .before .before .before .before .before .before .before .before .before .before .before .before .before .before in
     let a = s .args in
-    let L = lent wholeFloor (now (a .stations)) (now (a .carts)) (now (a .messages)) (now (a .lines)) (now (a .texts)) in
+    let L = lent wholeFloor (now (a .stations)) (now (a .carts)) (now (a .messages)) (now (a .lines)) (now (a .texts)) (now (a .store)) in
     let size = c .hand-on .ensures ∙ sym (slice-aggregate-hand-on (c .before)) in
     one-line (a .run) (floorIn L) _ (c .before .before .before .before .before .before .before .before .before .before .before .before .before .before .before .before .before .before .before .at-end .ensures) (now (a .line)) _ _ _ (c .before .before .before .before .before .before .before .before .before .before .before .before .before .before .before .before .before .before .if1 .left) (s .pre .1) (c .before .before .before .before .before .before .before .before .before .before .before .before .put-line .ensures) size
 

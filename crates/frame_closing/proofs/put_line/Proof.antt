@@ -13,9 +13,9 @@ use Rattle.frame_closing.proofs.put_line.Tie as tie
 
 is-started-requires : tie.Need-is-started-requires
 is-started-requires c κs =
-    let s = c .before .before .before .before .before .before .before in
+    let s = c .before .before .before .before .before .before .before .before in
     let a = s .args in
-    let L = lent wholeFloor (now (a .stations)) (now (a .carts)) (now (a .messages)) (now (a .lines)) (now (a .texts)) in
+    let L = lent wholeFloor (now (a .stations)) (now (a .carts)) (now (a .messages)) (now (a .lines)) (now (a .texts)) (now (a .store)) in
     has-head L (s .pre .0)
 
 put-refused-requires : tie.Need-put-refused-requires
@@ -29,9 +29,9 @@ same-length-2 c = search needs
 
 returns : tie.Need-returns
 returns c =
-    let s = c .before .before .before .before .before .before .before .before .before .before .before .before .before in
+    let s = c .before .before .before .before .before .before .before .before .before .before .before .before .before .before in
     let a = s .args in
-    let L = lent wholeFloor (now (a .stations)) (now (a .carts)) (now (a .messages)) (now (a .lines)) (now (a .texts)) in
+    let L = lent wholeFloor (now (a .stations)) (now (a .carts)) (now (a .messages)) (now (a .lines)) (now (a .texts)) (now (a .store)) in
     wrote-refused L _ (c .before .before .before .before .before .is-started .ensures) (c .before .before .before .before .if1 .taken) (c .before .before .put-refused .ensures)
 
 slice-aggregate-run-until-quiet : tie.Need-slice-aggregate-run-until-quiet
@@ -39,16 +39,16 @@ slice-aggregate-run-until-quiet c = search needs
 
 run-until-quiet-requires : tie.Need-run-until-quiet-requires
 run-until-quiet-requires c κs =
-    let s = c .before .before .before .before .before .before .before .before .before .before .before .before .before .before in
+    let s = c .before .before .before .before .before .before .before .before .before .before .before .before .before .before .before in
     let a = s .args in
-    let L = lent wholeFloor (now (a .stations)) (now (a .carts)) (now (a .messages)) (now (a .lines)) (now (a .texts)) in
+    let L = lent wholeFloor (now (a .stations)) (now (a .carts)) (now (a .messages)) (now (a .lines)) (now (a .texts)) (now (a .store)) in
     ((wholeFloor, started-passes L _ (c .before .before .before .before .before .before .is-started .ensures) (s .pre .0) (c .before .before .before .before .before .if1 .left)), omega arith)
 
 held-messages-requires : tie.Need-held-messages-requires
 held-messages-requires c κs =
-    let s = c .before .before .before .before .before .before .before .before .before .before .before .before .before .before .before .before .before .before .before .before .before .before .before .before .before .before in
+    let s = c .before .before .before .before .before .before .before .before .before .before .before .before .before .before .before .before .before .before .before .before .before .before .before .before .before .before .before in
     let a = s .args in
-    let L = lent wholeFloor (now (a .stations)) (now (a .carts)) (now (a .messages)) (now (a .lines)) (now (a .texts)) in
+    let L = lent wholeFloor (now (a .stations)) (now (a .carts)) (now (a .messages)) (now (a .lines)) (now (a .texts)) (now (a .store)) in
     c .before .before .before .before .before .before .before .before .before .before .before .run-until-quiet .kept .1 .1 .0 ∙ lengths-of L (s .pre .0 .lengths) .messages
 
 put-steps-requires : tie.Need-put-steps-requires
@@ -71,9 +71,9 @@ same-length-7 c = search needs
 
 returns-2 : tie.Need-returns-2
 returns-2 c =
-    let s = c .before .before .before .before .before .before .before .before .before .before .before .before .before .before .before .before .before .before .before .before .before .before .before .before .before .before .before .before .before .before in
+    let s = c .before .before .before .before .before .before .before .before .before .before .before .before .before .before .before .before .before .before .before .before .before .before .before .before .before .before .before .before .before .before .before in
     let a = s .args in
-    let L = lent wholeFloor (now (a .stations)) (now (a .carts)) (now (a .messages)) (now (a .lines)) (now (a .texts)) in
+    let L = lent wholeFloor (now (a .stations)) (now (a .carts)) (now (a .messages)) (now (a .lines)) (now (a .texts)) (now (a .store)) in
     let passes = started-passes L _ (c .before .before .before .before .before .before .before .before .before .before .before .before .before .before .before .before .before .before .before .before .before .before .is-started .ensures) (s .pre .0) (c .before .before .before .before .before .before .before .before .before .before .before .before .before .before .before .before .before .before .before .before .before .if1 .left) in
     let q = c .before .before .before .before .before .before .before .before .before .before .before .before .before .before .before .run-until-quiet .ensures wholeFloor passes in
     wrote-quiet L _ _ _ passes (q .count) (q .floor) (c .before .before .before .held-messages .ensures) (c .before .before .put-steps .ensures)

@@ -2,7 +2,7 @@
 use native.Mathlib.Omega.{arith}
 use lib.ListN.{take}
 use Rattle.reports.specs.Effects.{reportIn}
-use Rattle.frame_lines.proofs.Fields.{with-text, without-text}
+use Rattle.frame_lines.proofs.Fields.{numbers-spelled, with-text, without-text}
 use borrow.Author.Needs.{needs}
 use Rattle.frame_lines.proofs.put_fields.Statement.{statement}
 use Rattle.frame_lines.proofs.put_fields.Tie as tie
@@ -26,8 +26,8 @@ returns c =
     let w = k .before .before .before .before in
     let h = w .before .before .before .before in
     let s = h .before .before .before .before .before in
-    with-text (reportIn (s .args .r) (take (s .args .size) (s .args .room .now))) (omega arith) (h .put-head .ensures) (w .put-two-fields .ensures)
-    (k .if1 .taken) (t .put-text .ensures)
+    let r = reportIn (s .args .r) (take (s .args .size) (s .args .room .now)) in
+    with-text r (omega arith) (numbers-spelled r (h .put-head .ensures) (w .put-two-fields .ensures)) (k .if1 .taken) (t .put-text .ensures)
 
 same-length-2 : tie.Need-same-length-2
 same-length-2 c = search needs
@@ -37,8 +37,8 @@ returns-2 c =
     let w = c .before .before .before .before in
     let h = w .before .before .before .before in
     let s = h .before .before .before .before .before in
-    without-text (reportIn (s .args .r) (take (s .args .size) (s .args .room .now))) (omega arith) (h .put-head .ensures) (w .put-two-fields .ensures)
-    (c .if1 .left)
+    let r = reportIn (s .args .r) (take (s .args .size) (s .args .room .now)) in
+    without-text r (omega arith) (numbers-spelled r (h .put-head .ensures) (w .put-two-fields .ensures)) (c .if1 .left)
 
 pub put-fields-spec : {M : Type 1} → statement M
 put-fields-spec =

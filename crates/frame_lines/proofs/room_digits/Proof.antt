@@ -1,5 +1,5 @@
 -- `frame_lines::room_digits` meets its contract.
-use Prim.Native.Nat.{_-_, _*_, _≤_}
+use Prim.Native.Nat.{_+_, _-_, _*_, _≤_}
 use native.Mathlib.Omega.{arith}
 use lib.ListN.{take, length-set}
 use Rattle.protocol.specs.Printed.{hexadecimal}
@@ -15,7 +15,7 @@ abbrev μ-loop : tie.MeasureT-loop
 μ-loop digits₀ room i₀ digits i = textOctets - i
 
 loop-holds : tie.Need-loop-holds Inv-loop μ-loop
-loop-holds c = let a = c .before .before .args in (omega arith, hex-none (a .room .now) (a .digits .now))
+loop-holds c = let a = c .before .before .args in (omega arith, hex-none textDigits (a .room .now) (a .digits .now) 0)
 
 shared-slice-read-wide : tie.Need-shared-slice-read-wide Inv-loop μ-loop
 shared-slice-read-wide c = omega arith
@@ -55,8 +55,8 @@ loop-again c =
     let a = c .before .before .before .before .before .before .before .before .args in
     let v = c .before .before .before .before .before .loop in
     let more =
-    hex-stored (a .room .now) (a .digits .now) (v .digits) (v .i) (c .before .before .wide .result) (c .before .digit .result) (c .digit2 .result)
-    (omega arith) (omega arith) (omega arith) (c .before .before .wide .ensures .0) (c .before .digit .ensures) (c .digit2 .ensures) (v .inv .1) in
+    hex-stored textDigits (a .room .now) (a .digits .now) (v .digits) 0 (v .i) (2 * v .i) (2 * (v .i + 1)) (c .before .before .wide .result) (c .before .digit .result) (c .digit2 .result)
+    (omega arith) (omega arith) (omega arith) (omega arith) (c .before .before .wide .ensures .0) (c .before .digit .ensures) (c .digit2 .ensures) (v .inv .1) in
     (omega arith, more)
 
 same-length : tie.Need-same-length Inv-loop μ-loop

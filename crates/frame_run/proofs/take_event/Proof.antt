@@ -13,23 +13,23 @@ use Rattle.frame_run.proofs.take_event.Tie as tie
 
 dispatch-requires : tie.Need-dispatch-requires
 dispatch-requires c κs =
-    let start = c .before .before .before .before .before .before .before .before .before .before .before .before .before .before in
+    let start = c .before .before .before .before .before .before .before .before .before .before .before .before .before .before .before .before in
     (start .pre .0, ((start .pre .1 .0 .0, start .pre .1 .0 .1), (omega (arith, start .pre .1 .0 .2), start .pre .1 .1 .2)))
 
 print-requires : tie.Need-print-requires
 print-requires c κs =
-    let start = c .before .before .before .before .before .before .before .before .before .before .before .before .before .before .before .before .before .before .before .before .before .before .before .before .before .before .before .before .before in
-    let h = c .before .before .before .before .before .before .before .before .before .before .before .before .before .before .dispatch .ensures in
+    let start = c .before .before .before .before .before .before .before .before .before .before .before .before .before .before .before .before .before .before .before .before .before .before .before .before .before .before .before .before .before .before .before .before .before .before .before in
+    let h = c .before .before .before .before .before .before .before .before .before .before .before .before .before .before .before .before .before .before .dispatch .ensures in
     (omega (arith, start .pre .1 .0 .2, h .1 .0 .few, h .1 .0 .kept), h .0 .0, start .pre .1 .1 .2)
 
-add-t31 : tie.Need-add-t31
-add-t31 c =
-    let start = c .before .before .before .before .before .before .before .before .before .before .before .before .before .before .before .before .before .before .before .before .before .before .before .before .before .before .before .before .before .before .before .before .before .before in
-    omega (arith, start .pre .1 .0, start .pre .1 .1 .1, c .before .before .before .before .before .before .before .before .before .before .before .before .before .before .before .before .before .before .before .dispatch .ensures .1 .1)
+add-t38 : tie.Need-add-t38
+add-t38 c =
+    let start = c .before .before .before .before .before .before .before .before .before .before .before .before .before .before .before .before .before .before .before .before .before .before .before .before .before .before .before .before .before .before .before .before .before .before .before .before .before .before .before .before in
+    omega (arith, start .pre .1 .0, start .pre .1 .1 .1, c .before .before .before .before .before .before .before .before .before .before .before .before .before .before .before .before .before .before .before .before .before .before .before .dispatch .ensures .1 .1)
 
-add-t32 : tie.Need-add-t32
-add-t32 c =
-    let start = c .before .before .before .before .before .before .before .before .before .before .before .before .before .before .before .before .before .before .before .before .before .before .before .before .before .before .before .before .before .before .before .before .before .before .before in
+add-t39 : tie.Need-add-t39
+add-t39 c =
+    let start = c .before .before .before .before .before .before .before .before .before .before .before .before .before .before .before .before .before .before .before .before .before .before .before .before .before .before .before .before .before .before .before .before .before .before .before .before .before .before .before .before .before in
     omega (arith, start .pre .1 .0, start .pre .1 .1 .0, start .pre .1 .1 .1)
 
 same-length : tie.Need-same-length
@@ -50,12 +50,15 @@ same-length-5 c = search needs
 same-length-6 : tie.Need-same-length-6
 same-length-6 c = search needs
 
+same-length-7 : tie.Need-same-length-7
+same-length-7 c = search needs
+
 returns : tie.Need-returns
 returns c =
-    let start = c .before .before .before .before .before .before .before .before .before .before .before .before .before .before .before .before .before .before .before .before .before .before .before .before .before .before .before .before .before .before .before .before .before .before .before in
+    let start = c .before .before .before .before .before .before .before .before .before .before .before .before .before .before .before .before .before .before .before .before .before .before .before .before .before .before .before .before .before .before .before .before .before .before .before .before .before .before .before .before .before in
     let a = start .args in
-    let h = c .before .before .before .before .before .before .before .before .before .before .before .before .before .before .before .before .before .before .before .before .dispatch .ensures in
-    λ P n R. took (a .index) (lent P (now (a .stations)) (now (a .carts)) (now (a .messages)) (now (a .lines)) (now (a .texts))) _ (now (a .output)) _ (a .p) _ _ _ _ R (h .0 .1 P n R) (line-written (a .index) _ (h .1 .0) (c .before .before .before .before .before .print .ensures))
+    let h = c .before .before .before .before .before .before .before .before .before .before .before .before .before .before .before .before .before .before .before .before .before .before .before .before .dispatch .ensures in
+    λ P n R. took (a .index) (lent P (now (a .stations)) (now (a .carts)) (now (a .messages)) (now (a .lines)) (now (a .texts)) (now (a .store))) _ (now (a .output)) _ (a .p) _ _ _ _ R (h .0 .1 P n R) (line-written (a .index) _ (h .1 .0) (c .before .before .before .before .before .print .ensures))
     (ap (λ (k : ℕ). a .p .read + k) (h .1 .1)) refl refl
 
 pub take-event-spec : {M : Type 1} → statement M
@@ -64,12 +67,13 @@ take-event-spec =
     (tie.spec
     dispatch-requires
     print-requires
-    add-t31
-    add-t32
+    add-t38
+    add-t39
     same-length
     same-length-2
     same-length-3
     same-length-4
     same-length-5
     same-length-6
+    same-length-7
     returns)

@@ -9,9 +9,6 @@ enum-told c = search needs
 enum-known-reading : tie.Need-enum-known-reading
 enum-known-reading c = search needs
 
-cast-result : tie.Need-cast-result
-cast-result c = search needs
-
 enum-told-2 : tie.Need-enum-told-2
 enum-told-2 c = search needs
 
@@ -25,4 +22,4 @@ returns-3 : tie.Need-returns-3
 returns-3 c = search needs
 
 pub refusal-spec : {M : Type 1} → statement M
-refusal-spec = tie.close (tie.spec enum-told enum-known-reading cast-result enum-told-2 returns returns-2 returns-3)
+refusal-spec = tie.close (tie.spec enum-told enum-known-reading enum-told-2 returns returns-2 returns-3)

@@ -19,6 +19,12 @@ enum-known-e-2 c = search needs
 add-result-2 : tie.Need-add-result-2
 add-result-2 c = omega (arith, ap (λ x. sizeOf x) (c .before .e2 .given .1))
 
+enum-known-e-3 : tie.Need-enum-known-e-3
+enum-known-e-3 c = search needs
+
+add-result-3 : tie.Need-add-result-3
+add-result-3 c = omega (arith, ap (λ x. sizeOf x) (c .before .e3 .given .1))
+
 returns : tie.Need-returns
 returns c = sym (ap (λ x. sizeOf x) (c .before .e .given .1))
 
@@ -26,9 +32,12 @@ returns-2 : tie.Need-returns-2
 returns-2 c = sym (ap (λ x. sizeOf x) (c .before .e2 .given .1))
 
 returns-3 : tie.Need-returns-3
-returns-3 c = other-size (c .before .args .e) (c .match .keys3)
+returns-3 c = sym (ap (λ x. sizeOf x) (c .before .e3 .given .1))
+
+returns-4 : tie.Need-returns-4
+returns-4 c = other-size (c .before .args .e) (c .match .keys4)
 
 pub size-of-spec : {M : Type 1} → statement M
 size-of-spec =
     tie.close
-    (tie.spec enum-known-e add-result enum-known-e-2 add-result-2 returns returns-2 returns-3)
+    (tie.spec enum-known-e add-result enum-known-e-2 add-result-2 enum-known-e-3 add-result-3 returns returns-2 returns-3 returns-4)

@@ -1,0 +1,29 @@
+-- `frames::latest_of` meets its contract.
+use native.Mathlib.Omega.{arith}
+use Rattle.frames.proofs.Values.{unknown-read}
+use borrow.Author.Needs.{needs}
+use Rattle.frames.proofs.latest_of.Statement.{statement}
+use Rattle.frames.proofs.latest_of.Tie as tie
+
+send-group-of-requires : tie.Need-send-group-of-requires
+send-group-of-requires c κs = search needs
+
+returns : tie.Need-returns
+returns c = search needs
+
+send-long-of-requires : tie.Need-send-long-of-requires
+send-long-of-requires c κs = search needs
+
+returns-2 : tie.Need-returns-2
+returns-2 c = search needs
+
+returns-3 : tie.Need-returns-3
+returns-3 c =
+    let start = c .before .before .before in
+    let latest = start .pre in
+    let eight = c .before .if1 .left in
+    let nine = c .if2 .left in
+    λ l. unknown-read (start .args .f) (start .args .behind) l (omega arith)
+
+pub latest-of-spec : {M : Type 1} → statement M
+latest-of-spec = tie.close (tie.spec send-group-of-requires returns send-long-of-requires returns-2 returns-3)
