@@ -8,7 +8,7 @@ use lib.Dec.{eqb}
 use lib.ListN.{length, take, drop}
 use Rattle.protocol.specs.Folds.{first, count, sum, update}
 use Rattle.protocol.specs.CartSets.{has, without}
-use Rattle.protocol.specs.Floor.{limits}
+use Rattle.protocol.specs.Floor.{limits, mostText}
 use Rattle.protocol.specs.Claims.{Claim, le, lt, both}
 use Rattle.protocol.specs.TwoLists.{Item, item}
 use Rattle.protocol.specs.PlainLists.{mostEntries}
@@ -31,9 +31,9 @@ pub record Row : Type 0 where
 abbrev pub width : ℕ
 width = 4
 
--- the octets that each row has for its text: as many as a send may carry
+-- the octets that each row has for its text: as many as a send of any kind may carry, short or long
 abbrev pub textRoom : ℕ
-textRoom = limits .text
+textRoom = mostText limits
 
 -- how many rows there are: as many as there may be entries, since a row that somebody has yet to take has one at least
 abbrev pub mostRows : ℕ

@@ -11,10 +11,10 @@ ghost use Rattle.protocol.specs.Folds.{update, byOption};
 ghost use Rattle.rows.specs.Rows.{RowIn};
 ghost use Rattle.list_rows.specs.Rows.{width, textRoom, partIn, rowsIn, messageOf, newRow, takenBy, waits, firstWaiting, usedRows, keepRow, squeezed, withRoom};
 
-// How many rows there are, and the octets that each has for its text.
+// How many rows there are, and the octets that each has for its text: a send may carry "33 to 512 octets" too.
 pub const ROWS: usize = 2048;
 
-pub const TEXT: usize = 32;
+pub const TEXT: usize = 512;
 
 // So many sends go by between two times that rows are moved together.
 const OFTEN_ENOUGH: usize = 64;

@@ -10,7 +10,7 @@ use lib.ListN.{length}
 use borrow.Author.Tests.{eqb-true, ltb-false, leb-false, not-false}
 use Rattle.protocol.specs.Folds.{count, isEmpty}
 use Rattle.protocol.specs.CartSets.{has, setOf}
-use Rattle.protocol.specs.Floor.{limits}
+use Rattle.protocol.specs.Floor.{limits, mostText}
 use Rattle.protocol.specs.Refusals.{check}
 use Rattle.protocol.specs.PlainLists.{PlainCall, plainSend, plainTake, plainRefusal, plainStep, plainAnswer, plainAccept, plainReport, entries, mostEntries}
 use Rattle.protocol.proofs.Tests.{by-test}
@@ -47,7 +47,7 @@ take-checks L s c R =
 -- what a send that is not refused grants
 pub record MaySend (N : Counts) (s set size : ℕ) : Type 0 where
   pub begun : N .mark ≡ 1
-  pub short : size ≤ limits .text
+  pub short : size ≤ mostText limits
   pub station : s < N .stations
   pub carts : set < 2 ^ N .carts
   pub number : N .sent s ≤ 4294967294
@@ -55,7 +55,7 @@ pub record MaySend (N : Counts) (s set size : ℕ) : Type 0 where
 
 pub may-send : (N : Counts) (s set size : ℕ) → sendChecks N s set size ≡ 0 → MaySend N s set size
 may-send N s set size z =
-    let a4 = passed-check 4 (ltb (limits .text) size) _ (omega arith) z in
+    let a4 = passed-check 4 (ltb (mostText limits) size) _ (omega arith) z in
     let a5 = passed-check 5 (not (eqb (N .mark) 1)) _ (omega arith) (a4 .1) in
     let a8 = passed-check 8 (leb (N .stations) s) _ (omega arith) (a5 .1) in
     let a9 = passed-check 9 (leb (2 ^ N .carts) set) _ (omega arith) (a8 .1) in
@@ -63,7 +63,7 @@ may-send N s set size z =
     let a30 = passed-check 30 (ltb (mostEntries limits) (N .entries + count (N .carts) (has set))) _ (omega arith) (a13 .1) in
     record {
       begun = eqb-true (N .mark) 1 (not-false (eqb (N .mark) 1) (a5 .0));
-      short = ltb-false (limits .text) size (a4 .0);
+      short = ltb-false (mostText limits) size (a4 .0);
       station = leb-false (N .stations) s (a8 .0);
       carts = leb-false (2 ^ N .carts) set (a9 .0);
       number = ltb-false (limits .last) (N .sent s) (a13 .0);

@@ -7,7 +7,7 @@ use native.Mathlib.Omega.{arith}
 use lib.Dec.{eqb, ltb}
 use lib.ListN.{length, getD}
 use borrow.Author.Tests.{eqb-true, eqb-false, not-false}
-use Rattle.protocol.specs.Floor.{Limits, limits}
+use Rattle.protocol.specs.Floor.{Limits, limits, mostText}
 use Rattle.protocol.specs.PlainLists.{Plain, PlainCall, plainStart, plainSend, plainTake, plainUnstarted, plainPasses, plainRefusal, plainStep, plainAccept, plainAfterCalls, appended, beheaded}
 use Rattle.protocol.proofs.Tests.{by-test, on-cond, clash}
 use Rattle.protocol.proofs.Accepted.{passed-check}
@@ -26,7 +26,7 @@ module _ (M : Limits) (P : Plain) where
   unfolding plainRefusal plainAfterCalls
   accepted-passes (plainStart n k) z = plain-form-after M P n k z []
   accepted-passes (plainSend s set text) z =
-      let a4 = passed-check 4 (ltb (M .text) (length text)) _ (omega arith) z in
+      let a4 = passed-check 4 (ltb (mostText M) (length text)) _ (omega arith) z in
       plain-form-kept M P (plainSend s set text) (not-false (plainPasses M P) (passed-check 5 (not (plainPasses M P)) _ (omega arith) (a4 .1) .0))
   accepted-passes (plainTake s c) z = plain-form-kept M P (plainTake s c) (not-false (plainPasses M P) (passed-check 5 (not (plainPasses M P)) _ (omega arith) z .0))
 

@@ -7,7 +7,7 @@ use lib.Dec.{eqb, ltb, leb}
 use lib.ListN.{length, drop}
 use Rattle.protocol.specs.Folds.{count}
 use Rattle.protocol.specs.CartSets.{has}
-use Rattle.protocol.specs.Floor.{limits}
+use Rattle.protocol.specs.Floor.{limits, mostText}
 use Rattle.protocol.specs.Refusals.{check}
 use Rattle.protocol.specs.PlainLists.{PlainCall, plainTake, PlainAnswer, plainRefused, plainBegun, plainSent, plainTook, plainPasses, plainAnswer, plainStep, mostEntries}
 use Rattle.lists.specs.declared.Reply.{Reply}
@@ -52,7 +52,7 @@ pub record ListsReady (L : LentLists) : Type 0 where
 -- of a send with a text of so many octets
 abbrev pub sendChecks : Counts → ℕ → ℕ → ℕ → ℕ
 sendChecks N s set size =
-    check 4 (ltb (limits .text) size)
+    check 4 (ltb (mostText limits) size)
     (check 5 (not (eqb (N .mark) 1))
     (check 8 (leb (N .stations) s)
     (check 9 (leb (2 ^ N .carts) set)

@@ -8,7 +8,7 @@ use lib.Dec.{eqb}
 use lib.ListN.{length, drop, length-take}
 use borrow.Author.Tests.{eqb-true, eq-eqb}
 use Rattle.protocol.specs.CartSets.{has}
-use Rattle.protocol.specs.Floor.{Limits, limits}
+use Rattle.protocol.specs.Floor.{Limits, limits, mostText}
 use Rattle.protocol.specs.Claims.{test, True}
 use Rattle.protocol.specs.TwoLists.{Item, item}
 use Rattle.protocol.specs.PlainLists.{itemsRule, entries, plainPasses}
@@ -28,12 +28,12 @@ items-wider : (M : Limits) (low : ℕ) (l : List Item) (high more : ℕ) → hig
 items-wider M low [] high more le h = refl
 items-wider M low (x ∷ l) high more le h = (h .0, (let z = h .1 .0 in omega arith, (h .1 .1 .0, items-wider M (suc (x .number)) l high more le (h .1 .1 .1))))
 
-items-behind : (M : Limits) (low : ℕ) (l : List Item) (n : ℕ) (text : List ℕ) → low ≤ n → length text ≤ M .text → True (itemsRule M low l n) → True (itemsRule M low (l ++ (item n text ∷ [])) (suc n))
+items-behind : (M : Limits) (low : ℕ) (l : List Item) (n : ℕ) (text : List ℕ) → low ≤ n → length text ≤ mostText M → True (itemsRule M low l n) → True (itemsRule M low (l ++ (item n text ∷ [])) (suc n))
 items-behind M low [] n text le short h = (le, (omega arith, (short, refl)))
 items-behind M low (x ∷ l) n text le short h =
     (h .0, (let z = h .1 .0 in omega arith, (h .1 .1 .0, items-behind M (suc (x .number)) l n text (let z = h .1 .0 in omega arith) short (h .1 .1 .1))))
 
-items-of-rows : (T : ℕ → Row) (n s c : ℕ) → ((r : ℕ) → r < n → above T (T r .initiator) r ≤ T r .number) → ((r : ℕ) → r < n → length (T r .text) ≤ limits .text) → True (itemsRule limits 0 (listed T n s c) (above T s n))
+items-of-rows : (T : ℕ → Row) (n s c : ℕ) → ((r : ℕ) → r < n → above T (T r .initiator) r ≤ T r .number) → ((r : ℕ) → r < n → length (T r .text) ≤ mostText limits) → True (itemsRule limits 0 (listed T n s c) (above T s n))
 unfolding listed above
 items-of-rows T zero s c rise short = refl
 items-of-rows T (suc n) s c rise short =

@@ -15,7 +15,7 @@ ghost use lib.Dec.{eqb, ltb};
 ghost use lib.ListN.{length, drop};
 ghost use Rattle.stations.specs.View.{HasHead, headIn};
 ghost use Rattle.view.specs.View.{lent};
-ghost use Rattle.frames.specs.Decoded.{eventIn, sizeOf};
+ghost use Rattle.frames.specs.Decoded.{eventIn, sizeOf, TextFits};
 ghost use Rattle.frame_lines.specs.Lines.{Tabled};
 ghost use Rattle.frame_run.specs.CanRun.{CanRun, ByEach};
 ghost use Rattle.protocol.specs.Folds.{update};
@@ -56,6 +56,7 @@ fn accepted_call(e: Event, members: u64, initiator: u64, at: usize) -> Call
         Event::Start(n, k) => Call::Start(n, k),
         Event::Send(station, set, size) => Call::Send(station, set, at + FRAME, size),
         Event::SendGroup(station, _, size) => Call::Send(station, members, at + FRAME, size),
+        Event::SendLong(station, set, size) => Call::Send(station, set, at + FRAME, size),
         Event::Radio(_, cart) => Call::Take(Station(initiator), cart),
         Event::Enter(_, _) => Call::Nothing,
         Event::Wire(_, _) => Call::Nothing,
@@ -90,14 +91,15 @@ fn take_event(
     messages: &mut [u64],
     lines: &mut [u64],
     texts: &mut [u8],
+    store: &mut [u8],
     bounds: Bounds,
     numbers: &[u64],
     at: usize,
     e: Event,
 ) -> CallMade
-    requires { ⌜ CanRun bounds (λ P. lent P (now stations) (now carts) (now messages) (now lines) (now texts)) × Tabled (now numbers) ⌝ }
-    requires { ⌜ (at + sizeOf e ≤ length (now input)) × (sizeOf e ≤ 48) ⌝ }
-    ensures { λ r. ⌜ ByEach bounds (λ P. lent P (now (stations .entry)) (now (carts .entry)) (now (messages .entry)) (now (lines .entry)) (now (texts .entry))) (λ P. lent P (now (stations .exit)) (now (carts .exit)) (now (messages .exit)) (now (lines .exit)) (now (texts .exit))) (λ L L′. Made (now (input .entry)) L L′ (eventIn (drop at (now (input .entry))) e) (r .call)) ⌝ }
+    requires { ⌜ CanRun bounds (λ P. lent P (now stations) (now carts) (now messages) (now lines) (now texts) (now store)) × Tabled (now numbers) ⌝ }
+    requires { ⌜ (at + sizeOf e ≤ length (now input)) × TextFits e ⌝ }
+    ensures { λ r. ⌜ ByEach bounds (λ P. lent P (now (stations .entry)) (now (carts .entry)) (now (messages .entry)) (now (lines .entry)) (now (texts .entry)) (now (store .entry))) (λ P. lent P (now (stations .exit)) (now (carts .exit)) (now (messages .exit)) (now (lines .exit)) (now (texts .exit)) (now (store .exit))) (λ L L′. Made (now (input .entry)) L L′ (eventIn (drop at (now (input .entry))) e) (r .call)) ⌝ }
     ensures { λ r. ⌜ TextIn (length (now (input .entry))) (r .call) × (r .taken ≡ sizeOf e) ⌝ }
 {
     let members = members_for(stations, e);
@@ -108,6 +110,7 @@ fn take_event(
         messages,
         lines,
         texts,
+        store,
         bounds,
         input,
         at,
@@ -159,14 +162,15 @@ fn take_frame(
     messages: &mut [u64],
     lines: &mut [u64],
     texts: &mut [u8],
+    store: &mut [u8],
     bounds: Bounds,
     numbers: &[u64],
     p: Progress,
     last: bool,
 ) -> Progress
-    requires { ⌜ CanRun bounds (λ P. lent P (now stations) (now carts) (now messages) (now lines) (now texts)) × Tabled (now numbers) ⌝ }
+    requires { ⌜ CanRun bounds (λ P. lent P (now stations) (now carts) (now messages) (now lines) (now texts) (now store)) × Tabled (now numbers) ⌝ }
     requires { ⌜ (p .state ≡ 0) × (p .read ≤ length (now input)) × (p .frames < 1024) × (length (now calls) ≡ 5120) ⌝ }
-    ensures { λ r. ⌜ ByEach bounds (λ P. lent P (now (stations .entry)) (now (carts .entry)) (now (messages .entry)) (now (lines .entry)) (now (texts .entry))) (λ P. lent P (now (stations .exit)) (now (carts .exit)) (now (messages .exit)) (now (lines .exit)) (now (texts .exit))) (λ L L′. Turned (now (input .entry)) last L L′ (now (calls .entry)) (now (calls .exit)) p r) ⌝ }
+    ensures { λ r. ⌜ ByEach bounds (λ P. lent P (now (stations .entry)) (now (carts .entry)) (now (messages .entry)) (now (lines .entry)) (now (texts .entry)) (now (store .entry))) (λ P. lent P (now (stations .exit)) (now (carts .exit)) (now (messages .exit)) (now (lines .exit)) (now (texts .exit)) (now (store .exit))) (λ L L′. Turned (now (input .entry)) last L L′ (now (calls .entry)) (now (calls .exit)) p r) ⌝ }
 {
     let reading = frames::frame_at(input, p.read);
     let Reading::Taken(e) = reading else {
@@ -183,6 +187,7 @@ fn take_frame(
         messages,
         lines,
         texts,
+        store,
         bounds,
         numbers,
         p.read,
@@ -211,12 +216,13 @@ pub fn take_frames(
     messages: &mut [u64],
     lines: &mut [u64],
     texts: &mut [u8],
+    store: &mut [u8],
     bounds: Bounds,
     numbers: &[u64],
     last: bool,
 ) -> Progress
-    requires { ⌜ CanRun bounds (λ P. lent P (now stations) (now carts) (now messages) (now lines) (now texts)) × Tabled (now numbers) × (length (now calls) ≡ 5120) ⌝ }
-    ensures { λ p. ⌜ ByEach bounds (λ P. lent P (now (stations .entry)) (now (carts .entry)) (now (messages .entry)) (now (lines .entry)) (now (texts .entry))) (λ P. lent P (now (stations .exit)) (now (carts .exit)) (now (messages .exit)) (now (lines .exit)) (now (texts .exit))) (λ L L′. Gone (now (input .entry)) last L L′ (now (calls .exit)) p) ⌝ }
+    requires { ⌜ CanRun bounds (λ P. lent P (now stations) (now carts) (now messages) (now lines) (now texts) (now store)) × Tabled (now numbers) × (length (now calls) ≡ 5120) ⌝ }
+    ensures { λ p. ⌜ ByEach bounds (λ P. lent P (now (stations .entry)) (now (carts .entry)) (now (messages .entry)) (now (lines .entry)) (now (texts .entry)) (now (store .entry))) (λ P. lent P (now (stations .exit)) (now (carts .exit)) (now (messages .exit)) (now (lines .exit)) (now (texts .exit)) (now (store .exit))) (λ L L′. Gone (now (input .entry)) last L L′ (now (calls .exit)) p) ⌝ }
     ensures { λ _. ⌜ length (now (calls .exit)) ≡ length (now (calls .entry)) ⌝ }
 {
     let mut p = Progress {
@@ -234,6 +240,7 @@ pub fn take_frames(
             messages,
             lines,
             texts,
+            store,
             bounds,
             numbers,
             p,

@@ -16,7 +16,7 @@ use Rattle.training_stream.specs.Memory.{lentIn}
 use Rattle.training_stream.specs.Feeds.{BenchRan, Benched}
 use Rattle.training_stream.proofs.Bench.{bench-is}
 
-module _ (counts sends octets : List ℕ) (zeros : (length counts ≡ 21) × ((k : ℕ) → getD counts k 0 ≡ 0)) (rows : length sends ≡ 8192) (texts : length octets ≡ 65536) where
+module _ (counts sends octets : List ℕ) (zeros : (length counts ≡ 21) × ((k : ℕ) → getD counts k 0 ≡ 0)) (rows : length sends ≡ 8192) (texts : length octets ≡ 1048576) where
   long : Lengths (lentLists counts sends octets)
   long = record { counts = zeros .0; sends = rows; octets = texts }
 

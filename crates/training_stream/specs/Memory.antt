@@ -5,4 +5,4 @@ use Rattle.training_stream.specs.declared.FloorMemory.{FloorMemory}
 
 -- the lent parts that it is
 abbrev pub lentIn : FloorMemory → Lent
-lentIn f = lent wholeFloor (f .stations) (f .carts) (f .messages) (f .lines) (f .texts)
+lentIn f = lent wholeFloor (f .stations) (f .carts) (f .messages) (f .lines) (f .texts) (f .store)

@@ -22,9 +22,10 @@ ghost use Rattle.training_stream.specs.Feeds.{BenchMade, BenchRan, Bench
 pub struct FloorMemory {
     stations: [u64; 1972],
     carts: [u64; 1216],
-    messages: [u64; 192],
+    messages: [u64; 224],
     lines: [u64; 11250],
     texts: [u8; 1024],
+    store: [u8; 4096],
 }
 
 // A floor over which a piece was run, and how far.
@@ -50,6 +51,7 @@ fn run_floor(
     let mut messages = floor.messages;
     let mut lines = floor.lines;
     let mut texts = floor.texts;
+    let mut store = floor.store;
     let progress = training_calls::take_frames(
         input,
         calls,
@@ -58,6 +60,7 @@ fn run_floor(
         &mut messages,
         &mut lines,
         &mut texts,
+        &mut store,
         products::floor_bounds(),
         numbers,
         last,
@@ -68,6 +71,7 @@ fn run_floor(
         messages,
         lines,
         texts,
+        store,
     };
     FloorRun {
         floor: left,
@@ -231,19 +235,20 @@ fn no_floor() -> FloorMemory
         messages: frame_stream::no_messages(),
         lines: frame_stream::no_lines(),
         texts: frame_stream::no_texts(),
+        store: frame_stream::no_store(),
     }
 }
 
-// The run over memory that the caller lends for the lists.
+// The run over memory that the caller lends for the lists, which are not started. That the octets have their length, their type says.
 fn run_over(
     from: i32,
     to: i32,
     memory: FloorMemory,
     counts: &mut [u64],
     sends: &mut [u64],
-    octets: &mut [u8],
+    octets: &mut [u8; list_rows::OCTETS],
 ) -> Ending
-    requires { ⌜ Ready (lentIn memory) × ListsReady (lentLists (now counts) (now sends) (now octets)) × (listsIn (lentLists (now counts) (now sends) (now octets)) ≡ plainUnstarted) ⌝ }
+    requires { ⌜ Ready (lentIn memory) × (length (now counts) ≡ 21) × ((k : ℕ) → getD (now counts) k 0 ≡ 0) × (length (now sends) ≡ 8192) ⌝ }
     ensures { λ r. ⌜ BenchRan (floorIn (lentIn memory)) r ⌝ }
 {
     let mut input = io::large_buffer();

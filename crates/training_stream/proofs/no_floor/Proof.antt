@@ -20,15 +20,19 @@ no-lines-requires c κs = search needs
 no-texts-requires : tie.Need-no-texts-requires
 no-texts-requires c κs = search needs
 
+no-store-requires : tie.Need-no-store-requires
+no-store-requires c κs = search needs
+
 returns : tie.Need-returns
 returns c =
-    let s = c .before .before .before .before .no-stations in
-    let k = c .before .before .before .no-carts in
-    let m = c .before .before .no-messages in
-    let w = c .before .no-lines in
-    let t = c .no-texts in
-    let long = floor-lengths (s .result) (k .result) (m .result) (w .result) (t .result) (s .ensures .0) (k .ensures) (m .ensures) (w .ensures) (t .ensures) in
-    (fresh-ready wholeFloor (s .result) (k .result) (m .result) (w .result) (t .result) (s .ensures .1) long, fresh wholeFloor (s .result) (k .result) (m .result) (w .result) (t .result) (s .ensures .1) long)
+    let s = c .before .before .before .before .before .no-stations in
+    let k = c .before .before .before .before .no-carts in
+    let m = c .before .before .before .no-messages in
+    let w = c .before .before .no-lines in
+    let t = c .before .no-texts in
+    let o = c .no-store in
+    let long = floor-lengths (s .result) (k .result) (m .result) (w .result) (t .result) (o .result) (s .ensures .0) (k .ensures) (m .ensures) (w .ensures) (t .ensures) (o .ensures) in
+    (fresh-ready wholeFloor (s .result) (k .result) (m .result) (w .result) (t .result) (o .result) (s .ensures .1) long, fresh wholeFloor (s .result) (k .result) (m .result) (w .result) (t .result) (o .result) (s .ensures .1) long)
 
 pub no-floor-spec : {M : Type 1} → statement M
 no-floor-spec =
@@ -39,4 +43,5 @@ no-floor-spec =
     no-messages-requires
     no-lines-requires
     no-texts-requires
+    no-store-requires
     returns)

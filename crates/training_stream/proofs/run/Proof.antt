@@ -1,6 +1,4 @@
--- `training_stream::run` meets its contract.
-use mathlib.Core.Path.{refl}
-use Rattle.training_stream.proofs.Fresh.{fresh-lists, unstarted-lists, benched}
+use Rattle.training_stream.proofs.Fresh.{benched}
 use borrow.Author.Needs.{needs}
 use Rattle.training_stream.proofs.run.Statement.{statement}
 use Rattle.training_stream.proofs.run.Tie as tie
@@ -17,19 +15,13 @@ slice-aggregate-run-over c = search needs
 slice-aggregate-run-over-2 : tie.Need-slice-aggregate-run-over-2
 slice-aggregate-run-over-2 c = search needs
 
-slice-aggregate-run-over-3 : tie.Need-slice-aggregate-run-over-3
-slice-aggregate-run-over-3 c = search needs
-
 run-over-requires : tie.Need-run-over-requires
-run-over-requires c κs =
-    let n = c .before .before .before .before .no-counts in
-    let m = c .before .before .before .no-floor in
-    (m .ensures .0, fresh-lists (n .result) _ _ (n .ensures) refl refl, unstarted-lists (n .result) _ _ (n .ensures) refl refl)
+run-over-requires c κs = search needs
 
 returns : tie.Need-returns
 returns c =
-    let m = c .before .before .before .before .before .before .before .no-floor in
-    benched (m .result) _ (m .ensures .1) (c .before .before .before .run-over .ensures)
+    let m = c .before .before .before .before .before .before .no-floor in
+    benched (m .result) _ (m .ensures .1) (c .before .before .run-over .ensures)
 
 pub run-spec : {M : Type 1} → statement M
 run-spec =
@@ -39,6 +31,5 @@ run-spec =
     no-floor-requires
     slice-aggregate-run-over
     slice-aggregate-run-over-2
-    slice-aggregate-run-over-3
     run-over-requires
     returns)

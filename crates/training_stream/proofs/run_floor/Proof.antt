@@ -20,12 +20,15 @@ slice-aggregate-take-frames-4 c = search needs
 slice-aggregate-take-frames-5 : tie.Need-slice-aggregate-take-frames-5
 slice-aggregate-take-frames-5 c = search needs
 
+slice-aggregate-take-frames-6 : tie.Need-slice-aggregate-take-frames-6
+slice-aggregate-take-frames-6 c = search needs
+
 floor-bounds-requires : tie.Need-floor-bounds-requires
 floor-bounds-requires c κs = search needs
 
 take-frames-requires : tie.Need-take-frames-requires
 take-frames-requires c κs =
-    let s = c .before .before .before .before .before .before .before .before .before .before .before .before .before .before .before in
+    let s = c .before .before .before .before .before .before .before .before .before .before .before .before .before .before .before .before .before in
     let numbers = c .floor-bounds .ensures .1 in
     ((omega (arith, numbers .held-is), (wholeFloor, numbers, s .pre .0)), s .pre .1, s .pre .2)
 
@@ -34,9 +37,9 @@ same-length c = search needs
 
 returns : tie.Need-returns
 returns c =
-    let s = c .before .before .before .before .before .before .before .before .before .before .before .before .before .before .before .before .before .before .before .before .before .before .before in
-    let t = c .before .before .before .before .before .before .before .take-frames .ensures in
-    (t .0 wholeFloor (c .before .before .before .before .before .before .before .before .floor-bounds .ensures .1) (s .pre .0), t .1)
+    let s = c .before .before .before .before .before .before .before .before .before .before .before .before .before .before .before .before .before .before .before .before .before .before .before .before .before .before in
+    let t = c .before .before .before .before .before .before .before .before .take-frames .ensures in
+    (t .0 wholeFloor (c .before .before .before .before .before .before .before .before .before .floor-bounds .ensures .1) (s .pre .0), t .1)
 
 pub run-floor-spec : {M : Type 1} → statement M
 run-floor-spec =
@@ -47,6 +50,7 @@ run-floor-spec =
     slice-aggregate-take-frames-3
     slice-aggregate-take-frames-4
     slice-aggregate-take-frames-5
+    slice-aggregate-take-frames-6
     floor-bounds-requires
     take-frames-requires
     same-length
