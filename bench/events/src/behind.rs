@@ -1,8 +1,9 @@
-//! The plain floor behind the same calls as the proved events: C functions that are lent five parts and the words for the answer. The first
+//! The plain floor behind the same calls as the proved events: C functions that are lent six parts and the words for the answer. The first
 //! part is the floor, the others are empty.
 
 use crate::event::{self, cart, group, said, station, Event};
 use crate::proved::{Said, WORDS};
+use plain::floor::LONG;
 use plain::Floor;
 use std::hint::black_box;
 
@@ -12,13 +13,14 @@ type Part = *mut u64;
 macro_rules! behind {
     ($name:ident, $of_type:ident, |$floor:ident, $($arg:ident: $of:ty),*| $answer:expr) => {
         type $of_type = extern "C" fn(
-            *mut Floor, usize, Part, usize, Part, usize, Part, usize, Part, usize,
+            *mut Floor, usize, Part, usize, Part, usize, Part, usize, Part, usize, Part, usize,
             $($of,)* *mut u64, usize,
         );
 
         #[allow(clippy::too_many_arguments)]
         extern "C" fn $name(
             floor: *mut Floor, _: usize, _: Part, _: usize, _: Part, _: usize, _: Part, _: usize, _: Part, _: usize,
+            _: Part, _: usize,
             $($arg: $of,)* out: *mut u64, words: usize,
         ) {
             // Safety: `Behind::answer` lends a floor and the words, and a text or a buffer of its length.
@@ -55,6 +57,10 @@ behind!(send_group, SendGroup, |floor, s: u64, g: u64, text: *const u8, size: us
     let text = unsafe { std::slice::from_raw_parts(text, size) };
     said(8, floor.send_to_group(station(s), group(g), text).map(|step| (step, 0)))
 });
+behind!(send_long, SendLong, |floor, s: u64, set: u64, text: *const u8, size: usize| {
+    let text = unsafe { std::slice::from_raw_parts(text, size) };
+    said(9, floor.send_long(station(s), set, text).map(|step| (step, 0)))
+});
 
 /// A plain floor and its functions; they are not known where they are called.
 #[derive(Clone)]
@@ -68,13 +74,14 @@ pub struct Behind {
     flag_cart: Flag,
     set_group: SetGroup,
     send_group: SendGroup,
+    send_long: SendLong,
 }
 
 macro_rules! call {
     ($f:expr, $floor:expr, $out:expr, $($arg:expr),*) => {{
         let none = std::ptr::null_mut();
         $f(
-            &mut **$floor, 1, none, 0, none, 0, none, 0, none, 0,
+            &mut **$floor, 1, none, 0, none, 0, none, 0, none, 0, none, 0,
             $($arg,)* $out.as_mut_ptr(), $out.len(),
         )
     }};
@@ -92,11 +99,12 @@ impl Behind {
             flag_cart: black_box(flag_cart),
             set_group: black_box(set_group),
             send_group: black_box(send_group),
+            send_long: black_box(send_long),
         }
     }
 
     #[inline(always)]
-    pub fn answer(&mut self, event: &Event, buffer: &mut [u8; 32]) -> Said {
+    pub fn answer(&mut self, event: &Event, buffer: &mut [u8; LONG]) -> Said {
         let mut out = [0; WORDS];
         let floor = &mut self.floor;
         match *event {
@@ -114,6 +122,9 @@ impl Behind {
             Event::Group(g, set) => call!((self.set_group), floor, out, g, set),
             Event::SendGroup(s, g, ref text) => {
                 call!((self.send_group), floor, out, s, g, text.as_ptr(), text.len())
+            }
+            Event::SendLong(s, set, ref text) => {
+                call!((self.send_long), floor, out, s, set, text.as_ptr(), text.len())
             }
         }
         out

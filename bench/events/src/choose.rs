@@ -2,7 +2,9 @@
 
 use crate::event::Event;
 use plain::floor::GROUPS;
+use plain::words::MESSAGE_ROW;
 use plain::{CartNo, Floor, GroupNo, Place, StationNo};
+use shared::floors::some_table;
 use shared::numbers::Numbers;
 
 /// Mostly below n, now and then beside it, or far off.
@@ -22,8 +24,23 @@ fn text(numbers: &mut Numbers) -> Vec<u8> {
     (0..size).map(|_| numbers.next() as u8).collect()
 }
 
+/// The same of a long send: one time in ten of any length.
+fn table(numbers: &mut Numbers) -> Vec<u8> {
+    match numbers.below(10) {
+        0 => (0..numbers.below(600)).map(|_| numbers.next() as u8).collect(),
+        1 => vec![7; [0, 32, 33, 512, 513][numbers.below(5) as usize]],
+        _ => some_table(numbers),
+    }
+}
+
+/// A buffer that takes every text, or none that is long, or some.
 pub fn buffer(numbers: &mut Numbers) -> Vec<u8> {
-    let size = if numbers.below(2) == 0 { 32 } else { numbers.below(41) };
+    let size = match numbers.below(8) {
+        0..=4 => 512,
+        5 => numbers.below(41),
+        6 => numbers.below(600),
+        _ => [31, 32, 511, 513][numbers.below(4) as usize],
+    };
     (0..size).map(|_| numbers.next() as u8).collect()
 }
 
@@ -80,8 +97,8 @@ fn receiver(numbers: &mut Numbers, floor: &Floor) -> Option<Event> {
 pub fn event(numbers: &mut Numbers, floor: Option<&Floor>, n: u64, k: u64) -> Event {
     let kind = match floor {
         None if numbers.below(5) == 0 => 0,
-        _ => [0, 1, 1, 2, 2, 2, 3, 3, 3, 3, 3, 4, 4, 4, 5, 5, 6, 7, 7, 8, 8, 9]
-            [numbers.below(22) as usize],
+        _ => [0, 1, 1, 2, 2, 2, 3, 3, 3, 3, 3, 4, 4, 4, 5, 5, 6, 7, 7, 8, 8, 9, 9, 9, 10]
+            [numbers.below(25) as usize],
     };
     if let (Some(floor), true) = (floor, numbers.below(4) > 0) {
         let sensible = match kind {
@@ -104,6 +121,19 @@ pub fn event(numbers: &mut Numbers, floor: Option<&Floor>, n: u64, k: u64) -> Ev
         6 => Event::Flag(near(numbers, k), numbers.below(2) == 0),
         7 => Event::Group(near(numbers, GROUPS as u64), set(numbers, floor, k)),
         8 => Event::SendGroup(near(numbers, n), group(numbers, floor), text(numbers)),
+        9 => Event::SendLong(near(numbers, n), set(numbers, floor, k), table(numbers)),
         _ => Event::Quiet,
+    }
+}
+
+/// A message to read: mostly one that is held, if any is, else any numbers.
+pub fn message(numbers: &mut Numbers, messages: &[u64], n: u64) -> (u64, u64) {
+    let held: Vec<&[u64]> = messages.chunks_exact(MESSAGE_ROW).filter(|row| row[4] != 0).collect();
+    match held.len() as u64 {
+        some if some > 0 && numbers.below(8) > 0 => {
+            let row = held[numbers.below(some) as usize];
+            (row[0], row[1])
+        }
+        _ => (near(numbers, n), near(numbers, 20)),
     }
 }

@@ -2,7 +2,8 @@
 
 use plain::floor::GROUPS;
 use plain::words::{
-    Words, COPIES, ENTRIES, GROUP_WORDS, LINES, RECORDS, REGISTERS, ROOM_WORDS, ROWS, STATION_ROW,
+    Words, COPIES, ENTRIES, GROUP_WORDS, LINES, MESSAGE_ROW, RECORDS, REGISTERS, ROOM_WORDS, ROWS,
+    STATION_ROW, UNSTEADY,
 };
 use shared::numbers::Numbers;
 use shared::places::{group_word, travelling_cart, used_row};
@@ -45,7 +46,7 @@ fn swap(numbers: &mut Numbers, lines: &mut [u64]) {
 
 /// A room that has a message, if any has.
 fn held_room(numbers: &mut Numbers, messages: &[u64]) -> usize {
-    let held: Vec<usize> = (0..32).filter(|m| messages[6 * m + 4] != 0).collect();
+    let held: Vec<usize> = (0..32).filter(|m| messages[MESSAGE_ROW * m + 4] != 0).collect();
     match held.len() {
         0 => 0,
         some => held[numbers.below(some as u64) as usize],
@@ -70,17 +71,38 @@ fn regroup(numbers: &mut Numbers, w: &mut Words) {
     };
 }
 
+/// The text of some held message is said to have another length, or to lie elsewhere in the store: around where it may, or where another does.
+fn relay(numbers: &mut Numbers, messages: &mut [u64]) {
+    let (room, beside) = (held_room(numbers, messages), held_room(numbers, messages));
+    let (own, other) = (MESSAGE_ROW * room, MESSAGE_ROW * beside);
+    let (length, offset) = (messages[own + 5], messages[own + 6]);
+    let (at, to) = match numbers.below(6) {
+        0 => (5, [0, 31, 32, 33, 511, 512, 513][numbers.below(7) as usize]),
+        1 => (5, length.wrapping_add(1)),
+        2 => (6, 4_096u64.wrapping_sub(length).wrapping_add(numbers.below(3)).wrapping_sub(1)),
+        3 => (6, messages[other + 6].wrapping_add(numbers.below(3)).wrapping_sub(1)),
+        4 => (
+            6,
+            messages[other + 6].wrapping_add(messages[other + 5]).wrapping_sub(numbers.below(2)),
+        ),
+        _ => (6, offset.wrapping_add(1)),
+    };
+    messages[own + at] = to;
+}
+
 fn word(numbers: &mut Numbers, w: &mut Words) {
-    match numbers.below(11) {
+    match numbers.below(13) {
         0 => {
-            let at = numbers.below(w.texts.len() as u64) as usize;
-            w.texts[at] ^= 1 << numbers.below(8);
+            let octets = if numbers.below(2) == 0 { &mut w.texts } else { &mut w.store };
+            let at = numbers.below(octets.len() as u64) as usize;
+            octets[at] ^= 1 << numbers.below(8);
         }
         1..=3 => replace(numbers, &mut w.stations),
         4 => replace(numbers, &mut w.carts),
         5..=6 => replace(numbers, &mut w.messages),
         7 => recount(numbers, w),
         8 => regroup(numbers, w),
+        9..=10 => relay(numbers, &mut w.messages),
         _ => {
             let at = line_word(numbers, &w.lines, &w.carts);
             w.lines[at] = other(numbers, &w.lines, at);
@@ -95,7 +117,7 @@ fn replace(numbers: &mut Numbers, words: &mut [u64]) {
 
 /// One part is shorter, longer or empty.
 fn length(numbers: &mut Numbers, w: &mut Words) {
-    let part = numbers.below(5);
+    let part = numbers.below(6);
     let to = |old: usize, numbers: &mut Numbers| match numbers.below(5) {
         0 => 0,
         1 => old - 1,
@@ -103,9 +125,10 @@ fn length(numbers: &mut Numbers, w: &mut Words) {
         3 => numbers.below(old as u64) as usize,
         _ => old + numbers.below(200) as usize,
     };
-    if part == 4 {
-        let size = to(w.texts.len(), numbers);
-        return w.texts.resize(size, 0);
+    if part >= 4 {
+        let octets = if part == 4 { &mut w.texts } else { &mut w.store };
+        let size = to(octets.len(), numbers);
+        return octets.resize(size, 0);
     }
     let words = [&mut w.stations, &mut w.carts, &mut w.messages, &mut w.lines];
     let words = words.into_iter().nth(part as usize).expect("there are four");
@@ -153,14 +176,15 @@ fn leftovers(numbers: &mut Numbers, w: &mut Words) {
     let all = u64::MAX >> (64 - w.stations[2]);
     w.stations[GROUP_WORDS + GROUPS..STATION_ROW].fill_with(|| numbers.next());
     for m in 0..32 {
-        if w.messages[6 * m + 4] != 0 {
+        if w.messages[MESSAGE_ROW * m + 4] != 0 {
             continue;
         }
-        w.messages[6 * m] = numbers.next();
-        w.messages[6 * m + 1] = numbers.next();
-        w.messages[6 * m + 2] = numbers.next() & all;
-        w.messages[6 * m + 3] = numbers.next() & all;
-        w.messages[6 * m + 5] = numbers.below(33);
+        w.messages[MESSAGE_ROW * m] = numbers.next();
+        w.messages[MESSAGE_ROW * m + 1] = numbers.next();
+        w.messages[MESSAGE_ROW * m + 2] = numbers.next() & all;
+        w.messages[MESSAGE_ROW * m + 3] = numbers.next() & all;
+        w.messages[MESSAGE_ROW * m + 5] = numbers.next();
+        w.messages[MESSAGE_ROW * m + 6] = numbers.next();
         for row in w.stations.chunks_exact_mut(STATION_ROW).skip(1) {
             row[ROOM_WORDS + 3 * m] = numbers.next() & all;
             row[ROOM_WORDS + 3 * m + 1] = numbers.next() & all;
@@ -174,7 +198,7 @@ fn leftovers(numbers: &mut Numbers, w: &mut Words) {
         }
     }
     for (cart, row) in w.carts.chunks_exact(19).zip(w.lines[REGISTERS..].chunks_exact_mut(16)) {
-        if cart[0] != 3 {
+        if cart[0] % UNSTEADY != 3 {
             row[numbers.below(16) as usize] = numbers.next();
         }
     }
@@ -188,7 +212,7 @@ fn meaningful(numbers: &mut Numbers, w: &Words) -> (usize, usize) {
     let row = STATION_ROW * (1 + t);
     match numbers.below(8) {
         0 => (1, 19 * c + 3 + t),
-        1 => (2, 6 * room + 2 + numbers.below(4) as usize),
+        1 => (2, MESSAGE_ROW * room + 2 + numbers.below(5) as usize),
         2 => (0, row),
         3 => (0, row + 1 + numbers.below(n) as usize),
         4 => (0, row + COPIES + numbers.below(2) as usize),
@@ -210,7 +234,7 @@ fn wander(numbers: &mut Numbers, w: &mut Words) {
             1 => old | few & words[if at == 0 { 0 } else { at - 1 }],
             _ => other(numbers, words, at),
         };
-        if !rule::passes(&w.stations, &w.carts, &w.messages, &w.lines, &w.texts) {
+        if !rule::passes(&w.stations, &w.carts, &w.messages, &w.lines, &w.texts, &w.store) {
             let words = [&mut w.stations, &mut w.carts, &mut w.messages];
             words.into_iter().nth(part).expect("there are three")[at] = old;
         }

@@ -1,8 +1,9 @@
 //! Events with any numbers, with them the call that runs the floor until it is quiet, and what the plain floor answers to them.
 
 use crate::proved::{Said, WORDS};
-use plain::words::Words;
-use plain::{CartNo, Floor, GroupNo, Refusal, StationNo, Step};
+use plain::floor::{LONG, TEXT};
+use plain::words::{Words, MESSAGE_ROW};
+use plain::{CartNo, Floor, GroupNo, MessageNo, Refusal, StationNo, Step};
 use shared::places::LENGTHS;
 use shared::rule;
 
@@ -17,12 +18,24 @@ pub enum Event {
     Flag(u64, bool),
     Group(u64, u64),
     SendGroup(u64, u64, Vec<u8>),
+    SendLong(u64, u64, Vec<u8>),
     Quiet,
 }
 
 /// The kinds in the order of their numbers. No frame has the last.
-pub const KINDS: [&str; 10] =
-    ["start", "enter", "send", "wire", "radio", "move", "flag", "group", "send to group", "quiet"];
+pub const KINDS: [&str; 11] = [
+    "start",
+    "enter",
+    "send",
+    "wire",
+    "radio",
+    "move",
+    "flag",
+    "group",
+    "send to group",
+    "long send",
+    "quiet",
+];
 
 impl Event {
     pub fn kind(&self) -> usize {
@@ -36,7 +49,17 @@ impl Event {
             Event::Flag(..) => 6,
             Event::Group(..) => 7,
             Event::SendGroup(..) => 8,
-            Event::Quiet => 9,
+            Event::SendLong(..) => 9,
+            Event::Quiet => 10,
+        }
+    }
+
+    /// Is its text of a length that its kind may have?
+    pub fn text_fits(&self) -> bool {
+        match self {
+            Event::Send(_, _, text) | Event::SendGroup(_, _, text) => text.len() <= TEXT,
+            Event::SendLong(_, _, text) => (TEXT + 1..=LONG).contains(&text.len()),
+            _ => true,
         }
     }
 
@@ -103,6 +126,7 @@ pub fn apply(floor: &mut Floor, event: &Event, buffer: &mut [u8]) -> Said {
         Event::Flag(c, steady) => (6, floor.set_steady(cart(c), steady)),
         Event::Group(g, set) => (7, floor.set_group(group(g), set)),
         Event::SendGroup(s, g, ref text) => (8, floor.send_to_group(station(s), group(g), text)),
+        Event::SendLong(s, set, ref text) => (9, floor.send_long(station(s), set, text)),
         Event::Quiet => return quiet_said(floor.quiet(buffer)),
     };
     said(kind, answer.map(|step| (step, 0)))
@@ -120,9 +144,7 @@ pub fn plain(
         Event::Start(..) if lengths(w) != LENGTHS => return (refused(5), None),
         Event::Start(..) if w.stations[0] == 1 => return (refused(6), None),
         Event::Start(..) => Floor::new(),
-        Event::Send(_, _, text) | Event::SendGroup(_, _, text) if text.len() > 32 => {
-            return (refused(4), None)
-        }
+        _ if !event.text_fits() => return (refused(4), None),
         _ => match known {
             Some(floor) => floor,
             None => return (refused(5), None),
@@ -132,12 +154,29 @@ pub fn plain(
     (answer, (answer[0] == 0).then_some(floor))
 }
 
-fn lengths(w: &Words) -> [usize; 5] {
-    [w.stations.len(), w.carts.len(), w.messages.len(), w.lines.len(), w.texts.len()]
+fn lengths(w: &Words) -> [usize; 6] {
+    let words = [&w.stations, &w.carts, &w.messages, &w.lines].map(|part| part.len());
+    let [stations, carts, messages, lines] = words;
+    [stations, carts, messages, lines, w.texts.len(), w.store.len()]
 }
 
 /// The floor that words say, where they pass the form rule.
 pub fn known(w: &Words) -> Result<Floor, rule::Fault> {
-    rule::check(&w.stations, &w.carts, &w.messages, &w.lines, &w.texts)?;
+    rule::check(&w.stations, &w.carts, &w.messages, &w.lines, &w.texts, &w.store)?;
     Ok(Floor::from_words(w))
+}
+
+/// The row of a held message in the lent words, and its room.
+pub fn row(w: &Words, initiator: u64, number: u64) -> Option<(usize, &[u64])> {
+    let named = |row: &[u64]| row[4] != 0 && row[0] == initiator && row[1] == number;
+    w.messages.chunks_exact(MESSAGE_ROW).enumerate().find(|(_, row)| named(row))
+}
+
+/// The reading call: its number, and the text that it lends.
+pub fn read(w: &Words, initiator: u64, number: u64) -> (u64, Vec<u8>) {
+    let Ok(floor) = known(w) else { return (5, vec![]) };
+    // No message has a number that 32 bits cannot say.
+    let message = MessageNo(number.min(u32::MAX as u64) as u32);
+    let refusal = floor.read_refusal(station(initiator), message);
+    (refusal as u64, floor.read(station(initiator), message).to_vec())
 }

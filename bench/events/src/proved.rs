@@ -16,6 +16,7 @@ macro_rules! linked {
             messages: *mut u64, message_words: usize,
             lines: *mut u64, line_words: usize,
             texts: *mut u8, text_octets: usize,
+            store: *mut u8, store_octets: usize,
             $($arg: $of,)*
             out: *mut u64, out_words: usize,
         );
@@ -39,7 +40,9 @@ linked! {
     mekhturia_flag, mekhturia_step_flag => (cart: u64, steady: u64);
     mekhturia_group, mekhturia_step_group => (group: u64, set: u64);
     mekhturia_send_group, mekhturia_step_send_group => (station: u64, group: u64, text: *const u8, size: usize);
+    mekhturia_send_long, mekhturia_step_send_long => (station: u64, set: u64, text: *const u8, size: usize);
     mekhturia_quiet => (buffer: *mut u8, size: usize);
+    mekhturia_text => (initiator: u64, number: u64);
 }
 
 /// Lends the floor's parts, then what the event has, then the words for the answer.
@@ -51,6 +54,7 @@ macro_rules! call {
             $w.messages.as_mut_ptr(), $w.messages.len(),
             $w.lines.as_mut_ptr(), $w.lines.len(),
             $w.texts.as_mut_ptr(), $w.texts.len(),
+            $w.store.as_mut_ptr(), $w.store.len(),
             $($arg,)*
             $out.as_mut_ptr(), $out.len(),
         )
@@ -61,7 +65,8 @@ macro_rules! call {
 macro_rules! call_one {
     (
         $w:expr, $event:expr, $buffer:expr, $out:expr,
-        $start:ident, $enter:ident, $send:ident, $wire:ident, $radio:ident, $move:ident, $flag:ident, $group:ident, $send_group:ident
+        $start:ident, $enter:ident, $send:ident, $wire:ident, $radio:ident, $move:ident, $flag:ident, $group:ident, $send_group:ident,
+        $send_long:ident
     ) => {{
         assert!($out.len() >= WORDS);
         match *$event {
@@ -80,6 +85,9 @@ macro_rules! call_one {
             Event::SendGroup(s, g, ref text) => {
                 call!($send_group, $w, $out, s, g, text.as_ptr(), text.len())
             }
+            Event::SendLong(s, set, ref text) => {
+                call!($send_long, $w, $out, s, set, text.as_ptr(), text.len())
+            }
             Event::Quiet => {
                 call!(mekhturia_quiet, $w, $out, $buffer.as_mut_ptr(), $buffer.len())
             }
@@ -95,7 +103,7 @@ pub fn call(w: &mut Words, event: &Event, buffer: &mut [u8], out: &mut [u64]) {
             w, event, buffer, out,
             mekhturia_start, mekhturia_enter, mekhturia_send,
             mekhturia_wire, mekhturia_radio, mekhturia_move, mekhturia_flag,
-            mekhturia_group, mekhturia_send_group
+            mekhturia_group, mekhturia_send_group, mekhturia_send_long
         }
     }
 }
@@ -103,13 +111,20 @@ pub fn call(w: &mut Words, event: &Event, buffer: &mut [u8], out: &mut [u64]) {
 /// An event without the form test; start has none, and quiet has its own.
 ///
 /// # Safety
-/// The floor passes the form rule, and a text has at most 32 octets.
+/// The floor passes the form rule, and a text has a length that its kind may have.
 #[inline(always)]
 pub unsafe fn step(w: &mut Words, event: &Event, buffer: &mut [u8], out: &mut [u64]) {
     call_one! {
         w, event, buffer, out,
         mekhturia_start, mekhturia_step_enter, mekhturia_step_send,
         mekhturia_step_wire, mekhturia_step_radio, mekhturia_step_move, mekhturia_step_flag,
-        mekhturia_step_group, mekhturia_step_send_group
+        mekhturia_step_group, mekhturia_step_send_group, mekhturia_step_send_long
     }
+}
+
+/// The reading call, on any words: it changes none. Its number, and the part that it lends: 1 for one of the store or 0 for one of the short table,
+/// where it begins, and how many octets it has, in the first four words of `out`.
+pub fn text(w: &mut Words, initiator: u64, number: u64, out: &mut [u64]) {
+    assert!(out.len() >= 4);
+    unsafe { call!(mekhturia_text, w, out, initiator, number) }
 }

@@ -1,7 +1,7 @@
 //! Floors that events reach: small and full-size ones, after short and long runs.
 
 use plain::{CartNo, Floor, GroupNo, StationNo};
-use shared::floors::{self, some_text};
+use shared::floors::{self, some_table, some_text};
 use shared::numbers::Numbers;
 
 /// A size: often small, now and then the largest.
@@ -14,11 +14,11 @@ fn size(numbers: &mut Numbers) -> (u64, u64) {
 }
 
 /// Which kinds come how often: a run may have few sends or many, and its lines may fill or stay short.
-fn weights(numbers: &mut Numbers) -> [u64; 8] {
-    std::array::from_fn(|kind| 1 + numbers.below([4, 4, 4, 12, 2, 2, 3, 24][kind]))
+fn weights(numbers: &mut Numbers) -> [u64; 9] {
+    std::array::from_fn(|kind| 1 + numbers.below([4, 4, 4, 12, 2, 2, 3, 4, 24][kind]))
 }
 
-fn step(numbers: &mut Numbers, floor: &mut Floor, weights: &[u64; 8], n: u64, k: u64) {
+fn step(numbers: &mut Numbers, floor: &mut Floor, weights: &[u64; 9], n: u64, k: u64) {
     let (s, t) = (StationNo(numbers.below(n) as u8), StationNo(numbers.below(n) as u8));
     let cart = CartNo(numbers.below(k) as u8);
     let mut at = numbers.below(weights.iter().sum());
@@ -38,7 +38,7 @@ fn step(numbers: &mut Numbers, floor: &mut Floor, weights: &[u64; 8], n: u64, k:
         Some(3) => {
             let queued = floor.head(s).unwrap_or(0);
             let cart = if queued == 0 { cart } else { CartNo(queued.trailing_zeros() as u8) };
-            floor.radio(s, cart, &mut [0; 32]).map(|(step, _)| step)
+            floor.radio(s, cart, &mut [0; 512]).map(|(step, _)| step)
         }
         Some(4) => floor.set_steady(cart, numbers.below(2) == 0),
         Some(5) => {
@@ -48,6 +48,10 @@ fn step(numbers: &mut Numbers, floor: &mut Floor, weights: &[u64; 8], n: u64, k:
         Some(6) => {
             let group = GroupNo(numbers.below(16) as u8);
             floor.send_to_group(s, group, &some_text(numbers))
+        }
+        Some(7) => {
+            let set = floor.entered() & numbers.next() & numbers.next();
+            floor.send_long(s, set, &some_table(numbers))
         }
         _ => floor.wire(s, t),
     };

@@ -1,4 +1,4 @@
-//! The stored calls that run a floor until it is quiet, by the proved call.
+//! The stored calls that run a floor until it is quiet, or read a text, by the proved calls.
 
 use crate::event::Event;
 use crate::proved::{self, WORDS};
@@ -12,8 +12,29 @@ use std::path::{Path, PathBuf};
 /// Where plain's tests have their stored calls, seen from this package.
 const CALLS: &str = "../plain/tests/data";
 
-/// The line of a call with a buffer of so many octets, as plain's tests say it of theirs.
-fn said(w: &mut Words, length: usize) -> String {
+/// Octets as a line has them.
+fn digits(octets: &[u8]) -> String {
+    let digits: String = octets.iter().map(|octet| format!("{octet:02x}")).collect();
+    if digits.is_empty() {
+        "-".into()
+    } else {
+        digits
+    }
+}
+
+/// The line of a call that reads a text, as plain's tests say it of theirs.
+fn read(w: &mut Words, initiator: u64, number: u64) -> String {
+    let (before, mut out) = (w.clone(), [0; 4]);
+    proved::text(w, initiator, number, &mut out);
+    assert!(*w == before, "a reading call changed lent memory");
+    let [refusal, stored, at, octets] = out;
+    let from = if stored == 1 { &w.store } else { &w.texts };
+    let text = digits(&from[at as usize..][..octets as usize]);
+    format!("read {initiator} {number} = {refusal} {text}")
+}
+
+/// The line of a call with a buffer of so many octets.
+fn quiet(w: &mut Words, length: usize) -> String {
     let (before, mut buffer, mut out) = (w.clone(), vec![0; length], [0; WORDS]);
     proved::call(w, &Event::Quiet, &mut buffer, &mut out);
     let end = buffer.iter().rposition(|octet| *octet != 0).map_or(0, |last| last + 1);
@@ -21,16 +42,21 @@ fn said(w: &mut Words, length: usize) -> String {
         assert!(*w == before && end == 0, "a refusal changed lent memory");
         return format!("quiet {length} = no {}", out[0]);
     }
-    let digits: String = buffer[..end].iter().map(|octet| format!("{octet:02x}")).collect();
-    let text = if end == 0 { "-" } else { &digits };
+    let text = digits(&buffer[..end]);
     format!("quiet {length} = ok {} {} {text}", out[1], Floor::from_words(w).held())
 }
 
 /// The calls of one file, each on what the one before it left.
 fn check(path: &Path, mut w: Words) {
     for line in fs::read_to_string(path).unwrap().lines() {
-        let length = line.split(' ').nth(1).and_then(|word| word.parse().ok());
-        assert_eq!(said(&mut w, length.expect("the buffer's length")), line, "{}", path.display());
+        let numbers: Vec<u64> =
+            line.split(' ').skip(1).map_while(|word| word.parse().ok()).collect();
+        let said = match numbers[..] {
+            [length] => quiet(&mut w, length as usize),
+            [initiator, number] => read(&mut w, initiator, number),
+            _ => panic!("{line} is no call"),
+        };
+        assert_eq!(said, line, "{}", path.display());
     }
 }
 

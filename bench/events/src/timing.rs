@@ -5,6 +5,7 @@
 use crate::behind::Behind;
 use crate::event::{self, Event};
 use crate::proved::{self, Said, WORDS};
+use plain::floor::LONG;
 use plain::words::Words;
 use plain::{Floor, StationNo};
 use shared::numbers::Numbers;
@@ -27,7 +28,7 @@ struct Batch {
 
 /// One side: it does an event and answers it.
 trait Side: Clone {
-    fn answer(&mut self, event: &Event, buffer: &mut [u8; 32]) -> Said;
+    fn answer(&mut self, event: &Event, buffer: &mut [u8; LONG]) -> Said;
     fn floor(&self) -> Floor;
 }
 
@@ -44,7 +45,7 @@ struct StepOnly(Words);
 
 impl Side for Plain {
     #[inline(always)]
-    fn answer(&mut self, event: &Event, buffer: &mut [u8; 32]) -> Said {
+    fn answer(&mut self, event: &Event, buffer: &mut [u8; LONG]) -> Said {
         event::apply(&mut self.0, event, buffer)
     }
 
@@ -55,7 +56,7 @@ impl Side for Plain {
 
 impl Side for Behind {
     #[inline(always)]
-    fn answer(&mut self, event: &Event, buffer: &mut [u8; 32]) -> Said {
+    fn answer(&mut self, event: &Event, buffer: &mut [u8; LONG]) -> Said {
         Behind::answer(self, event, buffer)
     }
 
@@ -66,7 +67,7 @@ impl Side for Behind {
 
 impl Side for Whole {
     #[inline(always)]
-    fn answer(&mut self, event: &Event, buffer: &mut [u8; 32]) -> Said {
+    fn answer(&mut self, event: &Event, buffer: &mut [u8; LONG]) -> Said {
         let mut out = [0; WORDS];
         proved::call(&mut self.0, event, buffer, &mut out);
         out
@@ -79,9 +80,9 @@ impl Side for Whole {
 
 impl Side for StepOnly {
     #[inline(always)]
-    fn answer(&mut self, event: &Event, buffer: &mut [u8; 32]) -> Said {
+    fn answer(&mut self, event: &Event, buffer: &mut [u8; LONG]) -> Said {
         let mut out = [0; WORDS];
-        // Safety: the floor was reached by events from a start, and no text here is longer than 32 octets.
+        // Safety: the floor was reached by events from a start, and every text here has a length that its kind may have.
         unsafe { proved::step(&mut self.0, event, buffer, &mut out) };
         out
     }
@@ -94,7 +95,7 @@ impl Side for StepOnly {
 /// Nanoseconds for each event of a batch.
 #[inline(never)]
 fn nanoseconds<S: Side>(side: &mut S, events: &[Event]) -> f64 {
-    let mut buffer = [0; 32];
+    let mut buffer = [0; LONG];
     let begin = Instant::now();
     for event in events {
         black_box(side.answer(black_box(event), &mut buffer));
@@ -105,7 +106,7 @@ fn nanoseconds<S: Side>(side: &mut S, events: &[Event]) -> f64 {
 /// Does the events on a floor for which they are made, and holds it to their acceptance.
 fn accept(floor: &mut Floor, events: &[Event]) {
     for event in events {
-        let said = event::apply(floor, event, &mut [0; 32]);
+        let said = event::apply(floor, event, &mut [0; LONG]);
         assert!(said[0] == 0, "{event:?} is refused with {}", said[0]);
     }
 }
@@ -319,10 +320,10 @@ fn start() {
 /// Fills a floor and runs it until it is quiet: the nanoseconds for each of the steps.
 fn until_quiet<S: Side>(side: &mut S, fill: &[Event]) -> f64 {
     for event in fill {
-        let said = side.answer(event, &mut [0; 32]);
+        let said = side.answer(event, &mut [0; LONG]);
         assert!(said[0] == 0, "{event:?} is refused with {}", said[0]);
     }
-    let mut buffer = [0; 32];
+    let mut buffer = [0; LONG];
     let begin = Instant::now();
     let said = black_box(side.answer(black_box(&Event::Quiet), &mut buffer));
     let all = begin.elapsed().as_nanos() as f64;

@@ -28,6 +28,8 @@ struct Counts {
     passed: BTreeMap<&'static str, [u64; 3]>,
     faults: BTreeMap<Fault, u64>,
     events: u64,
+    /// How often a reading call had which number.
+    reads: BTreeMap<u64, u64>,
     /// The longest way to a quiet floor.
     most_steps: u64,
 }
@@ -58,11 +60,11 @@ fn step_alone(
     lent: &[u8],
     (left, buffer, out): (&Words, &[u8], &[u64]),
 ) -> Result<(), String> {
-    if matches!(event, Event::Send(_, _, text) | Event::SendGroup(_, _, text) if text.len() > 32) {
+    if !event.text_fits() {
         return Ok(());
     }
     let (mut w, mut b, mut o) = (before.clone(), lent.to_vec(), [BEHIND; WORDS + 1]);
-    // Safety: the floor passes the form rule, which the whole event tested, and the text has at most 32 octets.
+    // Safety: the floor passes the form rule, which the whole event tested, and the text has a length that its kind may have.
     unsafe { proved::step(&mut w, event, &mut b, &mut o) };
     let same = w == *left && b == buffer && o == out;
     same.then_some(()).ok_or_else(|| format!("the step alone differs: {o:?}, {out:?}"))
@@ -102,6 +104,32 @@ fn one(w: &mut Words, event: &Event, lent: &[u8], counts: &mut Counts) -> Result
     }
 }
 
+/// The reading call on both sides, for some message: its number, and which octets it lends from which part.
+fn read(w: &mut Words, initiator: u64, number: u64, counts: &mut Counts) -> Result<(), String> {
+    let before = w.clone();
+    let mut out = [BEHIND; 5];
+    proved::text(w, initiator, number, &mut out);
+    if *w != before || out[4] != BEHIND {
+        return Err("a reading call changed lent memory".into());
+    }
+    let (said, text) = event::read(&before, initiator, number);
+    *counts.reads.entry(said).or_default() += 1;
+    let [refusal, stored, at, octets, _] = out;
+    let (from, row) =
+        (if stored == 1 { &w.store } else { &w.texts }, event::row(w, initiator, number));
+    let lent = from.get(at as usize..(at + octets) as usize);
+    // "that text's own part": the room's, or where the row says; "the empty part at the front of the short table".
+    let own = match row {
+        Some((m, row)) if said == 0 && row[5] <= 32 => [0, 32 * m as u64],
+        Some((_, row)) if said == 0 => [1, row[6]],
+        _ => [0, 0],
+    };
+    let same = refusal == said && lent == Some(&text) && [stored, at] == own;
+    same.then_some(()).ok_or_else(|| {
+        format!("the proved call reads {initiator}, {number} as {out:?}, the plain floor as {said}, {text:?}")
+    })
+}
+
 /// Events on one damaged floor, until one is refused.
 fn trial(seed: u64, base: &Words, w: &mut Words, counts: &mut Counts) -> Result<(), String> {
     let mut numbers = Numbers(seed);
@@ -119,6 +147,9 @@ fn trial(seed: u64, base: &Words, w: &mut Words, counts: &mut Counts) -> Result<
         let floor = event::known(w).ok();
         let event = choose::event(&mut numbers, floor.as_ref(), n, k);
         let buffer = choose::buffer(&mut numbers);
+        let (initiator, number) = choose::message(&mut numbers, &w.messages, n);
+        read(w, initiator, number, counts)
+            .map_err(|difference| format!("after damage \"{what}\": {difference}"))?;
         let accepted = one(w, &event, &buffer, counts)
             .map_err(|difference| format!("{event:?} after damage \"{what}\": {difference}"))?;
         if !accepted && !passes {
@@ -138,13 +169,14 @@ fn report(counts: &Counts, trials: u64) {
     for (kind, name) in KINDS.iter().enumerate() {
         let of = |r: u64| counts.answers.get(&(kind, r)).copied().unwrap_or(0);
         let refusals: Vec<String> =
-            (1..=26).filter(|&r| of(r) > 0).map(|r| format!("{r}: {}", of(r))).collect();
+            (1..=27).filter(|&r| of(r) > 0).map(|r| format!("{r}: {}", of(r))).collect();
         println!("  {name:<13} {:>9}   {}", of(0), refusals.join(", "));
     }
+    println!("reading calls by their number: {:?}", counts.reads);
     println!("most steps until a floor was quiet: {}", counts.most_steps);
     let met = |r: u64| counts.answers.keys().any(|&(_, s)| s == r);
-    let missing: Vec<u64> = (4..22).chain([24, 25, 26]).filter(|&r| !met(r)).collect();
-    println!("refusals 4 to 21 and 24 to 26 that never occurred: {missing:?}");
+    let missing: Vec<u64> = (4..22).chain(24..28).filter(|&r| !met(r)).collect();
+    println!("refusals 4 to 21 and 24 to 27 that never occurred: {missing:?}");
     println!("clauses of the form rule found broken: {:?}", counts.faults);
 }
 

@@ -1,7 +1,7 @@
 //! Damage to the words of a floor: a word or two replaced, which rooms count, a group's members, a record doubled, a length changed.
 
 use plain::words::{
-    Words, COPIES, ENTRIES, LINES, RECORDS, REGISTERS, ROOM_WORDS, ROWS, STATION_ROW,
+    Words, COPIES, ENTRIES, LINES, MESSAGE_ROW, RECORDS, REGISTERS, ROOM_WORDS, ROWS, STATION_ROW,
 };
 use shared::numbers::Numbers;
 use shared::places::{group_word, travelling_cart, used_row};
@@ -84,11 +84,17 @@ fn one(numbers: &mut Numbers, w: &mut Words) {
         4 => drop(w.texts.pop()),
         5..=8 => double(numbers, &mut w.lines),
         9 => {
-            let room = numbers.below(w.messages.len() as u64 / 6) as usize;
-            w.messages[6 * room + 4] ^= 1 << numbers.below(16);
+            let room = numbers.below((w.messages.len() / MESSAGE_ROW) as u64) as usize;
+            w.messages[MESSAGE_ROW * room + 4] ^= 1 << numbers.below(16);
         }
         10..=13 => recount(numbers, &mut w.stations),
         14..=15 => regroup(numbers, &mut w.stations),
+        16 => drop(w.store.pop()),
+        17..=18 => {
+            let room = numbers.below((w.messages.len() / MESSAGE_ROW) as u64) as usize;
+            let at = MESSAGE_ROW * room + 5 + numbers.below(2) as usize;
+            w.messages[at] = w.messages[at].wrapping_add(numbers.below(600)).wrapping_sub(300);
+        }
         part => {
             let in_lines = line_word(numbers, &w.lines, &w.carts);
             let words = [&mut w.stations, &mut w.carts, &mut w.messages, &mut w.lines];

@@ -16,15 +16,15 @@ use std::time::Instant;
 const ROUNDS: usize = 500;
 const CALLS: usize = 50;
 
-type Test = fn(&[u64], &[u64], &[u64], &[u64], &[u8]) -> bool;
+type Test = fn(&[u64], &[u64], &[u64], &[u64], &[u8], &[u8]) -> bool;
 
 fn ask(test: Test, w: &Words) -> bool {
-    test(&w.stations, &w.carts, &w.messages, &w.lines, &w.texts)
+    test(&w.stations, &w.carts, &w.messages, &w.lines, &w.texts, &w.store)
 }
 
 /// Both answers on a floor; the clause that it breaks, if any.
 fn compare(w: &Words, what: &str) -> Result<Option<rule::Fault>, String> {
-    let plain = rule::check(&w.stations, &w.carts, &w.messages, &w.lines, &w.texts);
+    let plain = rule::check(&w.stations, &w.carts, &w.messages, &w.lines, &w.texts, &w.store);
     let proved = ask(proved::passes, w);
     if proved != plain.is_ok() {
         return Err(format!("{what}: the proved test says {proved}, plain Rust {plain:?}"));

@@ -14,6 +14,8 @@ mod linked {
             line_words: usize,
             texts: *const u8,
             text_octets: usize,
+            store: *const u8,
+            store_octets: usize,
         ) -> bool;
     }
 }
@@ -26,6 +28,7 @@ pub fn passes(
     messages: &[u64],
     lines: &[u64],
     texts: &[u8],
+    store: &[u8],
 ) -> bool {
     unsafe {
         linked::mekhturia_passes(
@@ -39,6 +42,8 @@ pub fn passes(
             lines.len(),
             texts.as_ptr(),
             texts.len(),
+            store.as_ptr(),
+            store.len(),
         )
     }
 }

@@ -41,9 +41,9 @@ fn floors(held: usize) -> (proved::Tables, plain::Tables) {
     for m in 0..held {
         let (initiator, number, waiting) =
             (m % 16, 90 + numbers.below(25), numbers.next() & 0xffff | 1);
-        words.messages[6 * m] = initiator as u64;
-        words.messages[6 * m + 1] = number;
-        words.messages[6 * m + 4] = waiting;
+        words.messages[7 * m] = initiator as u64;
+        words.messages[7 * m + 1] = number;
+        words.messages[7 * m + 4] = waiting;
         plain.held[m] = plain::Held { initiator, number, waiting };
     }
     for c in 0..64 {

@@ -6,6 +6,8 @@
 
 use std::collections::VecDeque;
 
+use crate::store::Store;
+
 /// Most stations on a floor.
 pub const STATIONS: usize = 16;
 /// Most carts on a floor.
@@ -41,8 +43,12 @@ impl Limits {
 
 /// "Sixteen groups, none defined at a start."
 pub const GROUPS: usize = 16;
-/// Longest text, in octets.
+/// Longest text of a send, in octets.
 pub const TEXT: usize = 32;
+/// Longest text of a long send: "33 to 512 octets".
+pub const LONG: usize = 512;
+/// Octets of the store of long texts.
+pub const STORE: usize = 4_096;
 
 /// Room for a line's first records. A longer line grows once and keeps its length.
 const LINE_ROOM: usize = 4;
@@ -273,7 +279,8 @@ pub(crate) struct Held {
     pub initiator: StationNo,
     /// Stations that have not handled the delete.
     pub undeleted: u8,
-    pub length: u8,
+    /// A text of more than 32 octets lies in the store, not here.
+    pub length: u16,
     pub text: [u8; TEXT],
 }
 
@@ -315,6 +322,7 @@ pub struct Floor {
     pub(crate) held: [Held; HELD],
     pub(crate) station: [Station; STATIONS],
     pub(crate) lines: [VecDeque<Record>; STATIONS * STATIONS],
+    pub(crate) store: Store,
 }
 
 /// The index of the line between two stations.
@@ -375,6 +383,7 @@ impl Floor {
             held: [held; HELD],
             station: std::array::from_fn(|_| station.clone()),
             lines: std::array::from_fn(|_| VecDeque::with_capacity(LINE_ROOM)),
+            store: Store::new(),
         }
     }
 
@@ -434,6 +443,11 @@ impl Floor {
     /// How many messages are held.
     pub fn held(&self) -> usize {
         self.rooms.count_ones() as usize
+    }
+
+    /// How many octets of the store of long texts are free.
+    pub fn free_octets(&self) -> usize {
+        self.store.free()
     }
 
     /// How many messages a station has sent, which is the number of its next one.

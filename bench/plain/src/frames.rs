@@ -1,6 +1,6 @@
 //! Frames taken apart into events.
 
-use crate::floor::{CartNo, GroupNo, StationNo, TEXT};
+use crate::floor::{CartNo, GroupNo, StationNo, LONG, TEXT};
 use crate::steps::Refusal;
 
 /// Octets of a frame, without the text that follows a send.
@@ -15,9 +15,10 @@ pub const MOVE: u8 = 5;
 pub const STEADY: u8 = 6;
 pub const GROUP: u8 = 7;
 pub const GROUP_SEND: u8 = 8;
+pub const LONG_SEND: u8 = 9;
 
 /// How many kinds there are.
-pub const KINDS: usize = 9;
+pub const KINDS: usize = 10;
 
 // Where the fields stand in the first eight octets, read as one number.
 const KIND: u32 = 60;
@@ -30,6 +31,8 @@ const STATION_FIELD: u64 = 0xF << STATION;
 const CART_FIELD: u64 = 0x3F << CART;
 const OTHER_FIELD: u64 = 0xF << OTHER;
 const LENGTH_FIELD: u64 = 0x3F << LENGTH;
+/// "The last sixteen of the forty zero bits hold that length."
+const LONG_LENGTH_FIELD: u64 = 0xFFFF;
 /// "In the other field, 1 for steady or 0 for not; 2 to 15 there is refusal 3": as if the lowest
 /// bit of that field alone were listed.
 const FLAG: u64 = 1 << OTHER;
@@ -45,10 +48,11 @@ const STRAY: [u64; KINDS] = [
     stray(CART_FIELD | FLAG),
     stray(OTHER_FIELD),
     stray(STATION_FIELD | OTHER_FIELD | LENGTH_FIELD),
+    stray(STATION_FIELD | LONG_LENGTH_FIELD),
 ];
 
 /// A bit for each kind that a set is listed for.
-const SETS: u32 = 1 << SEND | 1 << GROUP;
+const SETS: u32 = 1 << SEND | 1 << GROUP | 1 << LONG_SEND;
 
 const fn stray(listed: u64) -> u64 {
     !(listed | 0xF << KIND)
@@ -66,6 +70,7 @@ pub enum Event<'a> {
     Steady { cart: CartNo, steady: bool },
     Group { group: GroupNo, set: u64 },
     GroupSend { station: StationNo, group: GroupNo, text: &'a [u8] },
+    LongSend { station: StationNo, set: u64, text: &'a [u8] },
 }
 
 /// What a reader answers.
@@ -140,7 +145,10 @@ fn event_of<'a>(head: u64, set: u64, rest: &mut &'a [u8]) -> Result<Event<'a>, R
         MOVE => Event::Move { cart, to: StationNo(other) },
         STEADY => Event::Steady { cart, steady: other != 0 },
         GROUP => Event::Group { group: GroupNo(other), set },
-        _ => Event::GroupSend { station, group: GroupNo(other), text: text_of(head, rest)? },
+        GROUP_SEND => {
+            Event::GroupSend { station, group: GroupNo(other), text: text_of(head, rest)? }
+        }
+        _ => Event::LongSend { station, set, text: long_text_of(head, rest)? },
     })
 }
 
@@ -151,6 +159,21 @@ fn text_of<'a>(head: u64, rest: &mut &'a [u8]) -> Result<&'a [u8], Refusal> {
     if length > TEXT {
         return Err(Refusal::LongText);
     }
+    split_text(length, rest)
+}
+
+/// The text of a long send; "4 for other lengths".
+#[inline(always)]
+fn long_text_of<'a>(head: u64, rest: &mut &'a [u8]) -> Result<&'a [u8], Refusal> {
+    let length = (head & LONG_LENGTH_FIELD) as usize;
+    if !(TEXT + 1..=LONG).contains(&length) {
+        return Err(Refusal::LongText);
+    }
+    split_text(length, rest)
+}
+
+#[inline(always)]
+fn split_text<'a>(length: usize, rest: &mut &'a [u8]) -> Result<&'a [u8], Refusal> {
     let (text, behind) = rest.split_at_checked(length).ok_or(Refusal::CutFrame)?;
     *rest = behind;
     Ok(text)
@@ -184,6 +207,9 @@ fn fields_of<'a>(event: &Event<'a>) -> (u64, u64, &'a [u8]) {
         Event::Group { group, set } => (kind(GROUP) | other(group.0), set, &[]),
         Event::GroupSend { station, group, text } => {
             (kind(GROUP_SEND) | at(station) | other(group.0) | length(text), 0, text)
+        }
+        Event::LongSend { station, set, text } => {
+            (kind(LONG_SEND) | at(station) | text.len() as u64, set, text)
         }
     }
 }
@@ -236,6 +262,8 @@ mod tests {
             Event::Group { group: GroupNo(0), set: 0 },
             Event::GroupSend { station: StationNo(15), group: GroupNo(14), text: &text },
             Event::GroupSend { station: StationNo(0), group: GroupNo(0), text: &[] },
+            Event::LongSend { station: StationNo(15), set: u64::MAX, text: &[0xAB; LONG] },
+            Event::LongSend { station: StationNo(0), set: 0, text: &[0xCD; TEXT + 1] },
         ];
         let mut octets = Vec::new();
         events.iter().for_each(|event| put(event, &mut octets));
@@ -278,6 +306,7 @@ mod tests {
             (STEADY, [0, 1, 1, 0, 0, 0]),
             (GROUP, [0, 0, 1, 0, 0, 1]),
             (GROUP_SEND, [1, 0, 1, 1, 0, 0]),
+            (LONG_SEND, [1, 0, 0, 0, 1, 1]),
         ];
         let widths = [4, 6, 4, 6, 40, 64];
         for (kind, fields) in listed {
@@ -291,12 +320,33 @@ mod tests {
                     let stray = taken == Taken::Refused(Refusal::StrayField);
                     // Of a flag's field, the lowest bit alone.
                     let beyond_flag = kind == STEADY && (111..114).contains(&bit);
-                    assert_eq!(stray, *field == 0 || beyond_flag, "kind {kind}, bit {bit}");
+                    // Of the zero bits, a long send's last sixteen.
+                    let above_length = kind == LONG_SEND && (80..104).contains(&bit);
+                    let wanted = *field == 0 || beyond_flag || above_length;
+                    assert_eq!(stray, wanted, "kind {kind}, bit {bit}");
                 }
             }
             assert_eq!(bit, 0);
         }
     }
+
+    #[test]
+    fn lengths_of_a_long_send() {
+        for length in (0..=LONG as u16 + 2).chain([0x8000, 0xFFFF]) {
+            let mut octets = frame(&[0x90, 0, 0, 0, 0, 0]).to_vec();
+            octets[6..8].copy_from_slice(&length.to_be_bytes());
+            let fits = (33..=512).contains(&length);
+            // The length goes before the cut text, a stray length before both.
+            assert_eq!(refusal(&octets), if fits { 1 } else { 4 });
+            octets[2] = 1;
+            assert_eq!(refusal(&octets), 3);
+            octets[2] = 0;
+            octets.resize(FRAME + length as usize, 7);
+            let taken = Reader::new(&octets).take();
+            assert_eq!(matches!(taken, Taken::Event(Event::LongSend { .. })), fits);
+        }
+    }
+
     #[test]
     fn a_flag_is_0_or_1() {
         for flag in 0..16 {

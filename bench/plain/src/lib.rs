@@ -4,10 +4,11 @@
 //!
 //! * [`floor`]: the records of stations, carts and held messages, and the wired lines.
 //! * [`steps`]: the events: start, enter, send, wire, radio, move, steady,
-//!   groups and sends to them.
+//!   groups and sends to them, long sends.
 //! * [`quiet`]: the floor run until it is quiet.
 //! * [`frames`]: frames taken apart into events.
 //! * [`report`]: the printed run.
+//! * `store`: where long texts lie.
 //! * [`run`]: frames in, printed run out.
 //! * [`lists`]: plain lists of what carts have not received yet.
 //! * [`training`]: a floor and the lists fed from one input.
@@ -22,6 +23,7 @@ pub mod quiet;
 pub mod report;
 pub mod run;
 pub mod steps;
+mod store;
 pub mod training;
 pub mod words;
 

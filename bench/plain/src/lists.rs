@@ -3,7 +3,7 @@
 
 use std::collections::VecDeque;
 
-use crate::floor::{carts_of, CartNo, Limits, StationNo, CARTS, HELD, STATIONS, TEXT};
+use crate::floor::{carts_of, CartNo, Limits, StationNo, CARTS, HELD, LONG, STATIONS};
 use crate::steps::Refusal;
 
 /// "It holds at most 2,048 = 32 × 64 entries."
@@ -59,7 +59,7 @@ impl Lists {
     /// "A send appends its text, under the lists' own count of that station's sends, to the lists
     /// of the named carts."
     pub fn send(&mut self, station: StationNo, set: u64, text: &[u8]) -> Result<(), Refusal> {
-        if text.len() > TEXT {
+        if text.len() > LONG {
             return Err(Refusal::LongText);
         }
         self.check_started()?;
@@ -161,7 +161,7 @@ mod tests {
     #[test]
     fn the_checks_in_their_order() {
         let mut l = Lists::new();
-        assert_eq!(refusal(l.send(s(9), 4, &[0; TEXT + 1])), 4);
+        assert_eq!(refusal(l.send(s(9), 4, &[0; LONG + 1])), 4);
         assert_eq!(refusal(l.send(s(9), 4, &[])), 5);
         assert_eq!(refusal(l.take(s(9), c(9))), 5);
         l.start(2, 2).unwrap();

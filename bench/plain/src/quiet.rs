@@ -1,7 +1,7 @@
 //! The dispatcher of closing time, when "nobody sends or moves": it runs the floor until it is
 //! quiet.
 
-use crate::floor::{carts_of, line, stations_of, CartNo, Floor, Place, StationNo, STATIONS, TEXT};
+use crate::floor::{carts_of, line, stations_of, CartNo, Floor, Place, StationNo, LONG, STATIONS};
 use crate::steps::Refusal;
 
 /// Words that have a bit for each line.
@@ -14,8 +14,9 @@ impl Floor {
     /// radio steps write it: each puts its text at the front and leaves the rest.
     pub fn quiet(&mut self, buffer: &mut [u8]) -> Result<u32, Refusal> {
         self.check_started()?;
-        // "21 if that buffer is shorter than 32, after 5, before the first step."
-        if buffer.len() < TEXT {
+        // "21 if that buffer is shorter than 32, after 5, before the first step", and with long texts
+        // "for the dispatcher, 21 below 512".
+        if buffer.len() < LONG {
             return Err(Refusal::ShortBuffer);
         }
         let mut open = Open::of(self);

@@ -2,7 +2,7 @@
 
 use std::io::Write;
 
-use crate::floor::TEXT;
+use crate::floor::{LONG, TEXT};
 use crate::steps::{Refusal, Step};
 
 /// No line is longer: 20 digits of index, 10 of a message's number, 11 of p, 64 of text and 20
@@ -11,6 +11,8 @@ use crate::steps::{Refusal, Step};
 const LONGEST: usize = 128;
 /// Room for one line. Fields are copied in whole words, which may reach beyond the line's end.
 const LINE: usize = LONGEST + 2 * TEXT;
+/// Room for a line with a long text.
+const LONG_LINE: usize = LINE + 2 * LONG;
 
 /// For 0 to 999: the digits without leading zeros, left first, and a blank.
 const SMALL: [[u8; 4]; 1000] = {
@@ -74,7 +76,7 @@ impl Report {
     /// A report that gathers about `room` octets at a time.
     pub fn new(room: usize) -> Self {
         Report {
-            lines: vec![0; room + LINE].into_boxed_slice(),
+            lines: vec![0; room + LONG_LINE].into_boxed_slice(),
             end: 0,
             thousands: 0,
             printed: [0; 24],
@@ -86,7 +88,7 @@ impl Report {
     /// Whether the gathered lines should be written out before the next one.
     #[inline(always)]
     pub fn is_full(&self) -> bool {
-        self.lines.len() - self.end < LINE
+        self.lines.len() - self.end < LONG_LINE
     }
 
     /// The lines gathered since the last `clear`.
@@ -120,6 +122,18 @@ impl Report {
             line.text(text, length);
             line.end_of_line();
         });
+    }
+
+    /// The same with a long text.
+    pub fn received_long(&mut self, kind: u8, step: &Step, text: &[u8]) {
+        self.line(|line| line.step(kind, step));
+        for octet in text {
+            let pair = [digit(octet >> 4), digit(octet & 15)];
+            self.lines[self.end..][..2].copy_from_slice(&pair);
+            self.end += 2;
+        }
+        self.lines[self.end] = b'\n';
+        self.end += 1;
     }
 
     /// The line of a refused frame or event.
@@ -286,6 +300,18 @@ mod tests {
         let mut report = Report::new(0);
         report.received(4, &Step { a: 1, b: 0, p: 0, w: 1, q: 2 }, &[9; TEXT], 0);
         assert_eq!(report.lines(), b"0 4 1 0 0 1 2 -\n");
+    }
+
+    #[test]
+    fn long_texts() {
+        let mut report = Report::new(0);
+        report.refused(Refusal::LineEmpty);
+        report.clear();
+        let text: Vec<u8> = (0..LONG).map(|at| (7 * at) as u8).collect();
+        report.received_long(4, &Step { a: 15, b: u32::MAX, p: 0, w: 1, q: 2 }, &text);
+        let digits: String = text.iter().map(|o| format!("{o:02x}")).collect();
+        assert_eq!(report.lines(), format!("1 4 15 4294967295 0 1 2 {digits}\n").as_bytes());
+        assert!(report.is_full());
     }
 
     #[test]

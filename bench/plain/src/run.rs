@@ -3,7 +3,7 @@
 use std::io::{self, Read, Write};
 use std::process::ExitCode;
 
-use crate::floor::{Floor, TEXT};
+use crate::floor::{CartNo, Floor, StationNo, LONG, TEXT};
 use crate::frames::{self, Event, Reader, Taken};
 use crate::report::Report;
 use crate::steps::{Refusal, Step};
@@ -30,7 +30,7 @@ pub fn closing(input: impl Read, mut output: impl Write) -> io::Result<()> {
     if run_on(&mut floor, input, &mut output)?.is_some() {
         return Ok(());
     }
-    match floor.quiet(&mut [0; TEXT]) {
+    match floor.quiet(&mut [0; LONG]) {
         Ok(steps) => writeln!(output, "quiet {steps} {}", floor.held())?,
         Err(refusal) => writeln!(output, "quiet no {}", refusal.number())?,
     }
@@ -153,15 +153,31 @@ fn handle(floor: &mut Floor, event: &Event, report: &mut Report) {
             let answer = floor.send_to_group(station, group, text);
             return print_rare(report, frames::GROUP_SEND, answer);
         }
+        Event::LongSend { station, set, text } => {
+            return print_rare(report, frames::LONG_SEND, floor.send_long(station, set, text));
+        }
         Event::Radio { station, cart } => {
             let mut text = [0; TEXT];
             return match floor.radio(station, cart, &mut text) {
                 Ok((step, length)) => report.received(frames::RADIO, &step, &text, length),
+                Err(Refusal::ShortBuffer) => hand_long(floor, station, cart, report),
                 Err(refusal) => report.refused(refusal),
             };
         }
     };
     print(report, kind, answer);
+}
+
+/// A radio step whose text is too long for the buffer of the short ones, which was refused and has
+/// changed nothing.
+#[cold]
+#[inline(never)]
+fn hand_long(floor: &mut Floor, station: StationNo, cart: CartNo, report: &mut Report) {
+    let mut text = [0; LONG];
+    match floor.radio(station, cart, &mut text) {
+        Ok((step, length)) => report.received_long(frames::RADIO, &step, &text[..length]),
+        Err(refusal) => report.refused(refusal),
+    }
 }
 
 /// Gives one event to the floor, a radio step with the lent buffer; the answer has the length of
@@ -177,6 +193,7 @@ pub fn give(floor: &mut Floor, event: &Event, buffer: &mut [u8]) -> Result<(Step
         Event::Steady { cart, steady } => floor.set_steady(cart, steady),
         Event::Group { group, set } => floor.set_group(group, set),
         Event::GroupSend { station, group, text } => floor.send_to_group(station, group, text),
+        Event::LongSend { station, set, text } => floor.send_long(station, set, text),
     };
     answer.map(|step| (step, 0))
 }

@@ -2,8 +2,8 @@
 //! the answer, and changes nothing before the last check has passed.
 
 use crate::floor::{
-    carts_of, line, order, rooms_of, stations_of, CartNo, Floor, GroupNo, Held, Place, Record,
-    Room, StationNo, STATIONS, TEXT,
+    carts_of, line, order, rooms_of, stations_of, CartNo, Floor, GroupNo, Held, MessageNo, Place,
+    Record, Room, StationNo, LONG, STATIONS, TEXT,
 };
 
 /// What an accepted event answers.
@@ -47,6 +47,8 @@ pub enum Refusal {
     EmptyText = 24,
     NotSteady = 25,
     NoSuchGroup = 26,
+    StoreFull = 27,
+    NotHeld = 28,
     ListsFull = 30,
     ListEmpty = 31,
 }
@@ -109,7 +111,31 @@ impl Floor {
     /// A station initiates a message to a set of carts.
     #[inline]
     pub fn send(&mut self, station: StationNo, set: u64, text: &[u8]) -> Result<Step, Refusal> {
-        let number = self.check_send(station, set, text)?;
+        if text.len() > TEXT {
+            return Err(Refusal::LongText);
+        }
+        self.check_named(station, set)?;
+        let number = self.check_post(station, text)?;
+        Ok(self.post(station, number, set, text))
+    }
+
+    /// "A send whose text has 33 to 512 octets."
+    #[inline(never)]
+    pub fn send_long(
+        &mut self,
+        station: StationNo,
+        set: u64,
+        text: &[u8],
+    ) -> Result<Step, Refusal> {
+        if !(TEXT + 1..=LONG).contains(&text.len()) {
+            return Err(Refusal::LongText);
+        }
+        self.check_named(station, set)?;
+        let number = self.check_post(station, text)?;
+        // "27 free octets in the store, counted together, fewer than the length, after 14."
+        if self.store.free() < text.len() {
+            return Err(Refusal::StoreFull);
+        }
         Ok(self.post(station, number, set, text))
     }
 
@@ -172,10 +198,13 @@ impl Floor {
             number,
             initiator: station,
             undeleted: self.stations,
-            length: text.len() as u8,
+            length: text.len() as u16,
             text: [0; TEXT],
         };
-        held.text[..text.len()].copy_from_slice(text);
+        match held.text.get_mut(..text.len()) {
+            Some(front) => front.copy_from_slice(text),
+            None => self.store.put(room, text),
+        }
         let w = self.put_on_all_lines(station, Record::Multicast(room));
         Step { a: station.0 as u16, b: number, p: 0, w, q: 0 }
     }
@@ -225,13 +254,13 @@ impl Floor {
     ) -> Result<(Step, usize), Refusal> {
         let room = self.check_radio(station, cart)?;
         let held = &self.held[room.at()];
-        let text = &held.text[..held.length as usize % (TEXT + 1)];
-        let Some(front) = buffer.get_mut(..text.len()) else {
+        let length = held.length as usize;
+        let Some(front) = buffer.get_mut(..length) else {
             return Err(Refusal::ShortBuffer);
         };
-        front.copy_from_slice(text);
+        front.copy_from_slice(self.text_in(room));
 
-        let (initiator, number, length) = (held.initiator, held.number, text.len());
+        let (initiator, number) = (held.initiator, held.number);
         let here = &mut self.station[station.at()];
         let buffered = &mut here.buffered[room.at()];
         buffered.queued &= !cart.alone();
@@ -282,12 +311,39 @@ impl Floor {
         Ok(Step { a: cart.0 as u16, b: steady as u32, p: 0, w: 0, q: 0 })
     }
 
-    /// The checks of a send, in their order; the number that the message will have.
+    /// The text of a held message.
     #[inline(always)]
-    fn check_send(&self, station: StationNo, set: u64, text: &[u8]) -> Result<u32, Refusal> {
-        if text.len() > TEXT {
-            return Err(Refusal::LongText);
+    pub(crate) fn text_in(&self, room: Room) -> &[u8] {
+        let held = &self.held[room.at()];
+        match held.text.get(..held.length as usize) {
+            Some(text) => text,
+            None => self.store.text(room),
         }
+    }
+
+    /// "An extra reading call, by initiator and number, lends back that text's own part of the
+    /// short table or of the long store"; the empty part if it is refused.
+    pub fn read(&self, initiator: StationNo, number: MessageNo) -> &[u8] {
+        self.held_at(initiator, number).map_or(&[], |room| self.text_in(room))
+    }
+
+    /// The "call beside it gives the number, 0 if not refused".
+    pub fn read_refusal(&self, initiator: StationNo, number: MessageNo) -> u8 {
+        self.held_at(initiator, number).map_or_else(Refusal::number, |_| 0)
+    }
+
+    /// "For the reading call, 5, 8, then 28 message not held."
+    fn held_at(&self, initiator: StationNo, number: MessageNo) -> Result<Room, Refusal> {
+        self.check_started()?;
+        self.check_station(initiator)?;
+        rooms_of(self.rooms_by[initiator.at()])
+            .find(|room| self.held[room.at()].number == number.0)
+            .ok_or(Refusal::NotHeld)
+    }
+
+    /// The checks of a send to a set, in their order, down to 12.
+    #[inline(always)]
+    fn check_named(&self, station: StationNo, set: u64) -> Result<(), Refusal> {
         self.check_started()?;
         self.check_station(station)?;
         if set & !self.all_carts() != 0 {
@@ -299,7 +355,7 @@ impl Floor {
         if set & !self.entered != 0 {
             return Err(Refusal::NamedNeverEntered);
         }
-        self.check_post(station, text)
+        Ok(())
     }
 
     /// The last checks of every send, of text, number and room.
@@ -432,6 +488,9 @@ impl Floor {
         if held.undeleted == 0 {
             self.rooms &= !room.alone();
             self.rooms_by[held.initiator.at()] &= !room.alone();
+            if held.length as usize > TEXT {
+                self.store.clear(room);
+            }
         }
     }
 

@@ -2,7 +2,7 @@
 
 use std::io::{self, Read, Write};
 
-use crate::floor::{CartNo, Floor, StationNo, TEXT};
+use crate::floor::{CartNo, Floor, StationNo, LONG};
 use crate::frames::{Event, Reader, Taken};
 use crate::lists::{Entry, Lists};
 use crate::run::{give, Piece};
@@ -44,7 +44,7 @@ pub struct Both {
     lists: Lists,
     /// The index of the next frame.
     index: u64,
-    buffer: [u8; TEXT],
+    buffer: [u8; LONG],
 }
 
 impl Default for Both {
@@ -56,7 +56,7 @@ impl Default for Both {
 impl Both {
     pub fn new() -> Self {
         let (floor, lists) = (Box::new(Floor::new()), Lists::new());
-        Both { floor, lists, index: 0, buffer: [0; TEXT] }
+        Both { floor, lists, index: 0, buffer: [0; LONG] }
     }
 
     pub fn floor(&self) -> &Floor {
@@ -93,7 +93,9 @@ impl Both {
         let (step, length) = give(&mut self.floor, event, &mut self.buffer).ok()?;
         let fed = match *event {
             Event::Start { stations, carts } => self.lists.start(stations, carts),
-            Event::Send { station, set, text } => self.lists.send(station, set, text),
+            Event::Send { station, set, text } | Event::LongSend { station, set, text } => {
+                self.lists.send(station, set, text)
+            }
             Event::GroupSend { station, group, text } => {
                 self.lists.send(station, self.floor.group(group), text)
             }

@@ -1,4 +1,4 @@
-//! A floor in the words that the proved controller keeps it in: five parts, laid out as
+//! A floor in the words that the proved controller keeps it in: six parts, laid out as
 //! docs/ARCHITECTURE.md says under "The lent parts". The words are those of the whole floor; the
 //! kit's parts, which are shorter, are not made here.
 
@@ -32,7 +32,10 @@ pub const LINES: usize = 50;
 pub const REGISTERS: usize = 818;
 pub const RECORDS: usize = REGISTERS + STATIONS * CARTS;
 
-/// The five parts.
+/// Words of a row of the messages' table. The last is where a long text begins in the store.
+pub const MESSAGE_ROW: usize = 7;
+
+/// The six parts.
 #[derive(Clone, PartialEq, Eq, Debug)]
 pub struct Words {
     pub stations: Vec<u64>,
@@ -40,6 +43,7 @@ pub struct Words {
     pub messages: Vec<u64>,
     pub lines: Vec<u64>,
     pub texts: Vec<u8>,
+    pub store: Vec<u8>,
 }
 
 impl Floor {
@@ -52,6 +56,7 @@ impl Floor {
             messages: self.message_words(),
             lines: self.line_words(row),
             texts: self.held.iter().flat_map(|held| held.text).collect(),
+            store: self.store.octets().to_vec(),
         }
     }
 
@@ -107,8 +112,8 @@ impl Floor {
     }
 
     fn message_words(&self) -> Vec<u64> {
-        let mut words = vec![0; 6 * HELD];
-        for (m, (row, held)) in words.chunks_exact_mut(6).zip(&self.held).enumerate() {
+        let mut words = vec![0; MESSAGE_ROW * HELD];
+        for (m, (row, held)) in words.chunks_exact_mut(MESSAGE_ROW).zip(&self.held).enumerate() {
             row.copy_from_slice(&[
                 held.initiator.0 as u64,
                 held.number as u64,
@@ -116,6 +121,7 @@ impl Floor {
                 held.acknowledged,
                 self.undeleted_at(m),
                 held.length as u64,
+                self.store.start(Room(m as u8)) as u64,
             ]);
         }
         words
@@ -192,7 +198,7 @@ impl Floor {
         floor.carts = words.stations[2] as u8;
         floor.groups.copy_from_slice(&words.stations[GROUP_WORDS..][..GROUPS]);
         floor.read_carts(&words.carts);
-        floor.read_messages(&words.messages, &words.texts);
+        floor.read_messages(words);
         floor.read_stations(words);
         floor.read_lines(&words.lines);
         floor
@@ -215,8 +221,9 @@ impl Floor {
         }
     }
 
-    fn read_messages(&mut self, words: &[u64], texts: &[u8]) {
-        for (m, (row, held)) in words.chunks_exact(6).zip(&mut self.held).enumerate() {
+    fn read_messages(&mut self, words: &Words) {
+        let rows = words.messages.chunks_exact(MESSAGE_ROW);
+        for (m, (row, held)) in rows.zip(&mut self.held).enumerate() {
             if row[4] == 0 {
                 continue;
             }
@@ -227,9 +234,13 @@ impl Floor {
             held.set = row[2];
             held.acknowledged = row[3];
             held.undeleted = row[4].count_ones() as u8;
-            held.length = row[5] as u8;
-            let length = held.length as usize;
-            held.text[..length].copy_from_slice(&texts[TEXT * m..][..length]);
+            held.length = row[5] as u16;
+            let (length, offset) = (row[5] as usize, row[6] as usize);
+            if length <= TEXT {
+                held.text[..length].copy_from_slice(&words.texts[TEXT * m..][..length]);
+            } else {
+                self.store.lay(Room(m as u8), offset, &words.store[offset..][..length]);
+            }
             self.rooms |= 1 << m;
             self.rooms_by[initiator.at()] |= 1 << m;
         }
@@ -248,7 +259,7 @@ impl Floor {
                     continue;
                 }
                 let entry = &row[ROOM_WORDS + 3 * m..][..3];
-                let waiting = words.messages[6 * m + 4] >> t & 1 == 1;
+                let waiting = words.messages[MESSAGE_ROW * m + 4] >> t & 1 == 1;
                 let at = &mut station.buffered[m];
                 let counts = row[COPIES] >> m & 1 == 1;
                 at.copy = if waiting && counts { entry[0] } else { 0 };
@@ -320,7 +331,7 @@ impl Floor {
     fn message_difference(&self, other: &Floor, m: usize) -> Option<String> {
         let said = |f: &Floor| {
             let h = f.held[m];
-            let text = h.text[..h.length as usize].to_vec();
+            let text = f.text_in(Room(m as u8)).to_vec();
             (h.initiator, h.number, h.order, h.set, h.acknowledged, h.undeleted, text)
         };
         let (a, b) = (said(self), said(other));

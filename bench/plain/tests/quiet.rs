@@ -10,10 +10,10 @@ use std::path::{Path, PathBuf};
 use std::process::{Command, Stdio};
 
 use numbers::Numbers;
-use plain::floor::{carts_of, TEXT};
+use plain::floor::{carts_of, LONG, TEXT};
 use plain::frames::{Event, Reader, Taken};
 use plain::run::{closing, run, run_on};
-use plain::{CartNo, Floor, GroupNo, Limits, StationNo};
+use plain::{CartNo, Floor, GroupNo, Limits, MessageNo, StationNo};
 
 /// "That count is at most 5,248 = 32 × (16 + 16 + 64 + 64) + 2 × 64", and in the kit "at most 208".
 fn most_steps(limits: Limits) -> u32 {
@@ -33,6 +33,11 @@ struct Lists {
 impl Lists {
     fn send(&mut self, floor: &mut Floor, station: StationNo, set: u64, text: &[u8]) -> bool {
         let Ok(step) = floor.send(station, set, text) else { return false };
+        self.sent(station, set, step.b, text)
+    }
+
+    fn send_long(&mut self, floor: &mut Floor, station: StationNo, set: u64, text: &[u8]) -> bool {
+        let Ok(step) = floor.send_long(station, set, text) else { return false };
         self.sent(station, set, step.b, text)
     }
 
@@ -77,7 +82,7 @@ impl Lists {
 /// and the lists afterwards.
 fn both(floor: &Floor, lists: &Lists) -> (u32, Lists) {
     let (mut ours, mut theirs, mut lists) = (floor.clone(), floor.clone(), lists.clone());
-    let (mut buffer, mut worded) = ([0xEE; TEXT + 3], [0xEE; TEXT + 3]);
+    let (mut buffer, mut worded) = ([0xEE; LONG + 3], [0xEE; LONG + 3]);
     let steps = ours.quiet(&mut buffer).expect("the floor is started, the buffer long enough");
     let mut count = 0;
     while lists.dispatched(&mut theirs, &mut worded) {
@@ -97,7 +102,7 @@ fn event(floor: &mut Floor, lists: &mut Lists, numbers: &mut Numbers, flags: boo
     let (n, k) = (floor.stations() as u64, floor.carts() as u64);
     let (s, t) = (StationNo(numbers.below(n) as u8), StationNo(numbers.below(n) as u8));
     let cart = CartNo(numbers.below(k) as u8);
-    let _ = match numbers.below(14) {
+    let _ = match numbers.below(15) {
         0 => floor.enter(s, cart).is_ok(),
         1..=3 => {
             let text = vec![numbers.next() as u8; 1 + numbers.below(TEXT as u64) as usize];
@@ -108,7 +113,7 @@ fn event(floor: &mut Floor, lists: &mut Lists, numbers: &mut Numbers, flags: boo
         5 | 6 => {
             // The head's carts are hard to meet by chance.
             let head = floor.head(s).and_then(|queued| carts_of(queued).last());
-            lists.radio(floor, s, head.unwrap_or(cart), &mut [0; TEXT])
+            lists.radio(floor, s, head.unwrap_or(cart), &mut [0; LONG])
         }
         8 => {
             let set = floor.entered() & numbers.next();
@@ -117,6 +122,10 @@ fn event(floor: &mut Floor, lists: &mut Lists, numbers: &mut Numbers, flags: boo
         9 => {
             let text = [numbers.next() as u8; 3];
             lists.send_to_group(floor, s, GroupNo(numbers.below(4) as u8), &text)
+        }
+        10 => {
+            let text = vec![numbers.next() as u8; 33 + numbers.below(480) as usize];
+            lists.send_long(floor, s, floor.entered() & numbers.next(), &text)
         }
         7 if flags => floor.set_steady(cart, numbers.below(3) > 0).is_ok(),
         _ => floor.wire(s, t).is_ok(),
@@ -148,7 +157,7 @@ fn on_many_floors(unstarted: &Floor, seeds: u64) -> (u32, u32) {
             }
             // Now and then the floor goes on from there.
             if numbers.below(4) == 0 {
-                assert_eq!(floor.quiet(&mut [0; TEXT]), Ok(steps));
+                assert_eq!(floor.quiet(&mut [0; LONG]), Ok(steps));
                 lists = after;
                 assert_eq!(both(&floor, &lists).0, 0);
             }
@@ -197,6 +206,9 @@ fn on_floors_of_the_stored_runs() {
                 Event::Start { stations, carts } => floor.start(stations, carts).is_ok(),
                 Event::Enter { station, cart } => floor.enter(station, cart).is_ok(),
                 Event::Send { station, set, text } => lists.send(&mut floor, station, set, text),
+                Event::LongSend { station, set, text } => {
+                    lists.send_long(&mut floor, station, set, text)
+                }
                 Event::Group { group, set } => floor.set_group(group, set).is_ok(),
                 Event::GroupSend { station, group, text } => {
                     lists.send_to_group(&mut floor, station, group, text)
@@ -205,7 +217,7 @@ fn on_floors_of_the_stored_runs() {
                 Event::Move { cart, to } => floor.move_cart(cart, to).is_ok(),
                 Event::Steady { cart, steady } => floor.set_steady(cart, steady).is_ok(),
                 Event::Radio { station, cart } => {
-                    lists.radio(&mut floor, station, cart, &mut [0; TEXT])
+                    lists.radio(&mut floor, station, cart, &mut [0; LONG])
                 }
             };
             if index % between == 0 && floor.stations() > 0 {
@@ -232,6 +244,14 @@ fn said(floor: &mut Floor, length: usize) -> String {
     }
 }
 
+/// The line of the reading call: its refusal, 0 if none, and the text.
+fn read(floor: &Floor, station: u8, number: u32) -> String {
+    let (at, which) = (StationNo(station), MessageNo(number));
+    let digits: String = floor.read(at, which).iter().map(|o| format!("{o:02x}")).collect();
+    let text = if digits.is_empty() { "-" } else { &digits };
+    format!("read {station} {number} = {} {text}", floor.read_refusal(at, which))
+}
+
 /// Every stored call on the floor that its run leaves: those in `data`, or in the folder that
 /// STORED_RUNS names. A name that begins with `kit.` is of the kit.
 #[test]
@@ -244,8 +264,12 @@ fn the_stored_calls() {
         let mut floor = if kit { Floor::kit() } else { Floor::new() };
         run_on(&mut floor, &frames[..], std::io::sink()).unwrap();
         for line in fs::read_to_string(&path).unwrap().lines() {
-            let length = line.split(' ').nth(1).and_then(|word| word.parse().ok());
-            let answer = said(&mut floor, length.expect("the buffer's length"));
+            let number = |word: &str| word.parse::<u32>().expect("a number");
+            let answer = match line.split(' ').collect::<Vec<_>>()[..] {
+                ["quiet", length, ..] => said(&mut floor, number(length) as usize),
+                ["read", s, n, ..] => read(&floor, number(s) as u8, number(n)),
+                _ => panic!("no call: {line}"),
+            };
             assert_eq!(answer, line, "{}", path.display());
         }
     }
@@ -276,7 +300,7 @@ fn closing_prints_the_run_and_one_line_more() {
         match run_on(&mut floor, &frames[..], &mut wanted).unwrap() {
             None => {
                 let steps = both(&floor, &Lists::default()).0;
-                floor.quiet(&mut [0; TEXT]).unwrap();
+                floor.quiet(&mut [0; LONG]).unwrap();
                 writeln!(wanted, "quiet {steps} {}", floor.held()).unwrap();
                 quiet += 1;
             }

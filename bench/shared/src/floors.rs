@@ -40,6 +40,12 @@ pub fn some_text(numbers: &mut Numbers) -> Vec<u8> {
     (0..1 + numbers.below(32)).map(|_| numbers.next() as u8).collect()
 }
 
+/// A long text: of any length, or one of the longest, so that the store fills.
+pub fn some_table(numbers: &mut Numbers) -> Vec<u8> {
+    let size = if numbers.below(3) == 0 { 512 } else { 33 + numbers.below(480) };
+    (0..size).map(|_| numbers.next() as u8).collect()
+}
+
 /// Defines all groups, with any carts that have entered.
 fn define_groups(floor: &mut Floor) {
     let mut numbers = Numbers(0x6709);
@@ -65,12 +71,12 @@ pub fn few(held: u8) -> Floor {
     settle(&mut floor);
     for _ in 0..600 {
         let (t, c) = (numbers.below(16) as u8, numbers.below(64) as u8);
-        let _ = floor.radio(StationNo(t), CartNo(c), &mut [0; 32]);
+        let _ = floor.radio(StationNo(t), CartNo(c), &mut [0; 512]);
         settle(&mut floor);
     }
     while records(&floor) < 30 {
         let (t, c) = (numbers.below(16) as u8, numbers.below(64) as u8);
-        let _ = floor.radio(StationNo(t), CartNo(c), &mut [0; 32]);
+        let _ = floor.radio(StationNo(t), CartNo(c), &mut [0; 512]);
         if numbers.below(50) == 0 {
             let _ = floor.move_cart(CartNo(c), StationNo(t));
         }
@@ -108,7 +114,7 @@ pub fn many() -> Floor {
         let here = 8 + c % 2;
         hand_off(&mut floor, c, GATE, here);
         for _ in 0..HELD {
-            floor.radio(StationNo(here), CartNo(c), &mut [0; 32]).expect("it is queued");
+            floor.radio(StationNo(here), CartNo(c), &mut [0; 512]).expect("it is queued");
         }
         hand_off(&mut floor, c, here, END);
     }
@@ -128,16 +134,17 @@ pub fn random(seed: u64) -> Floor {
         let cart = CartNo(numbers.below(k) as u8);
         // A refused event is none.
         let group = GroupNo(numbers.below(GROUPS as u64) as u8);
-        let _ = match numbers.below(13) {
+        let _ = match numbers.below(14) {
             0 => floor.enter(s, cart),
             1 => {
                 let set = floor.entered() & numbers.next() & numbers.next();
                 floor.send(s, set, &some_text(&mut numbers))
             }
             2 => floor.move_cart(cart, t),
-            3..=5 => floor.radio(s, cart, &mut [0; 32]).map(|(step, _)| step),
+            3..=5 => floor.radio(s, cart, &mut [0; 512]).map(|(step, _)| step),
             6 if numbers.below(3) == 0 => floor.set_group(group, floor.entered() & numbers.next()),
             6 => floor.send_to_group(s, group, &some_text(&mut numbers)),
+            7 => floor.send_long(s, floor.entered() & numbers.next(), &some_table(&mut numbers)),
             _ => floor.wire(s, t),
         };
     }

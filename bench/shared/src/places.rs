@@ -4,8 +4,8 @@ use crate::numbers::Numbers;
 use plain::floor::GROUPS;
 use plain::words::{GROUP_WORDS, ROWS};
 
-/// How many words the stations, carts, messages and lines have, and how many octets the texts.
-pub const LENGTHS: [usize; 5] = [1_972, 1_216, 192, 11_250, 1_024];
+/// How many words the stations, carts, messages and lines have, and how many octets the texts and the store.
+pub const LENGTHS: [usize; 6] = [1_972, 1_216, 224, 11_250, 1_024, 4_096];
 
 /// Rows of records as a young pool has them.
 pub fn in_order(k: usize) -> usize {

@@ -9,6 +9,8 @@ const ROOMS: usize = 32;
 const ROWS: usize = 3_136;
 const TEXTS: usize = 1_024;
 const TEXT: u64 = 32;
+const LONG: u64 = 512;
+const STORE: usize = 4_096;
 /// "the last number being 4,294,967,294", so no station has sent more than this.
 const MOST_SENT: u64 = 4_294_967_295;
 
@@ -25,6 +27,8 @@ pub enum Fault {
     Group,
     RoomSets,
     TextLength,
+    OverStore,
+    TextOverText,
     Number,
     SameName,
     EarlyDelete,
@@ -78,7 +82,7 @@ struct Room {
 struct Floor<'a> {
     stations: &'a [StationRow; 1 + STATIONS],
     carts: &'a [CartRow; CARTS],
-    messages: &'a [[u64; 6]; ROOMS],
+    messages: &'a [[u64; 7]; ROOMS],
     free: &'a [u64; 49],
     summary: u64,
     ends: &'a [[u64; 3]; STATIONS * STATIONS],
@@ -103,8 +107,9 @@ pub fn passes(
     messages: &[u64],
     lines: &[u64],
     texts: &[u8],
+    store: &[u8],
 ) -> bool {
-    check(stations, carts, messages, lines, texts).is_ok()
+    check(stations, carts, messages, lines, texts, store).is_ok()
 }
 
 /// The same, and where it does not, a clause that it breaks.
@@ -114,11 +119,13 @@ pub fn check(
     messages: &[u64],
     lines: &[u64],
     texts: &[u8],
+    store: &[u8],
 ) -> Result<(), Fault> {
     let (all_ends, all_registers) = (3 * STATIONS * STATIONS, STATIONS * CARTS);
-    if lines.len() != 50 + all_ends + all_registers + 3 * ROWS || texts.len() != TEXTS {
+    if lines.len() != 50 + all_ends + all_registers + 3 * ROWS {
         return Err(Lengths);
     }
+    ensure(texts.len() == TEXTS && store.len() == STORE, Lengths)?;
     let (ends, rest) = lines[50..].split_at(all_ends);
     let (registers, rows) = rest.split_at(all_registers);
     let mut floor = Floor {
@@ -157,6 +164,19 @@ fn rows_of<const W: usize, const N: usize>(words: &[u64]) -> Result<&[[u64; W]; 
 /// The greatest set of the first n, of which there is one at least.
 fn all(n: usize) -> u64 {
     u64::MAX >> (64 - n)
+}
+
+/// A text that is long lies within the store, and on none of those before it.
+fn lies_right(stored: &mut Vec<(u64, u64)>, length: u64, offset: u64) -> Result<(), Fault> {
+    if length <= TEXT {
+        return Ok(());
+    }
+    ensure(length <= LONG, TextLength)?;
+    ensure(offset <= STORE as u64 - length, OverStore)?;
+    let (from, to) = (offset, offset + length);
+    ensure(stored.iter().all(|&(a, b)| b <= from || to <= a), TextOverText)?;
+    stored.push((from, to));
+    Ok(())
 }
 
 fn within(a: u64, b: u64) -> bool {
@@ -238,16 +258,17 @@ impl Floor<'_> {
     fn rooms(&mut self) -> Result<(), Fault> {
         let mut names = [0; ROOMS];
         let mut held = 0;
+        let mut stored = vec![];
         for (room, row) in self.rooms.iter_mut().zip(self.messages) {
-            let [initiator, number, named, acked, waiting, length] = *row;
+            let [initiator, number, named, acked, waiting, length, offset] = *row;
             ensure(
                 within(named | acked, self.all_carts) && within(waiting, self.all_stations),
                 RoomSets,
             )?;
-            ensure(length <= TEXT, TextLength)?;
             if waiting == 0 {
                 continue;
             }
+            lies_right(&mut stored, length, offset)?;
             ensure(initiator < 16 && number < self.sent[initiator as usize & 15], Number)?;
             let name = initiator << 32 | number;
             ensure(!names[..held].contains(&name), SameName)?;

@@ -1,6 +1,6 @@
 //! Streams for comparing two programs: clean, wild, damaged and senseless.
 
-use plain::floor::{GROUPS, TEXT};
+use plain::floor::{GROUPS, LONG, TEXT};
 use plain::frames::{put, Event, Reader, Taken, FRAME, KINDS};
 use plain::{CartNo, GroupNo, StationNo};
 
@@ -58,6 +58,7 @@ fn busy(random: &mut Random, most: usize) -> Vec<u8> {
         lines: 1 + random.below(if crowded { 600 } else { 60 }),
         bad: [0, 2, 20, 60][random.below(4)],
         groups: [0, 10, 60][random.below(3)],
+        long: [0, 10, 60][random.below(3)],
         kit,
     };
     let count = 1 + random.below(most);
@@ -76,10 +77,11 @@ fn wild(random: &mut Random) -> Vec<u8> {
         let (station, to) = (StationNo(station()), StationNo(station()));
         let mut cart = || random.below(if beyond { 64 } else { carts as usize }) as u8;
         let (one, two) = (CartNo(cart()), CartNo(cart()));
-        let text = random.octets().to_be_bytes().repeat(TEXT / 8);
-        let text = &text[..random.below(TEXT + 1)];
+        let long = random.octets().to_be_bytes().repeat(LONG / 8);
+        let (text, long) =
+            (&long[..random.below(TEXT + 1)], &long[..TEXT + 1 + random.below(LONG - TEXT)]);
         let group = GroupNo(random.below(if beyond { GROUPS } else { 3 }) as u8);
-        let event = match random.below(23) {
+        let event = match random.below(24) {
             _ if index == 0 && !late => Event::Start { stations, carts },
             0 if random.once_in(10) => Event::Start { stations: station.0 + 1, carts: one.0 + 1 },
             0 | 1 => Event::Enter { station, cart: one },
@@ -93,6 +95,7 @@ fn wild(random: &mut Random) -> Vec<u8> {
             13 if random.once_in(8) => Event::Group { group, set: random.octets() },
             13 => Event::Group { group, set: one.alone() | two.alone() },
             14 => Event::GroupSend { station, group, text },
+            15 => Event::LongSend { station, set: one.alone() | two.alone(), text: long },
             _ => Event::Wire { from: station, to },
         };
         put(&event, &mut octets);
@@ -134,6 +137,10 @@ fn damage(octets: &mut Vec<u8>, random: &mut Random) {
         }
         // A bit of a kind, a field, a length or a set.
         (5 | 6, Some(head)) => octets[head + random.below(3)] ^= 1 << random.below(8),
+        // A bit of a long text's length.
+        (7, Some(head)) if random.once_in(3) => {
+            octets[head + 6 + random.below(2)] ^= 1 << random.below(8)
+        }
         (7, Some(head)) => octets[head + 8 + random.below(8)] ^= 1 << random.below(8),
         (8, Some(head)) => octets[head + random.below(FRAME)] ^= 1 << random.below(8),
         // A frame left out, doubled, or moved to another place.

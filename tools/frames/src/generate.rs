@@ -5,7 +5,7 @@
 //! local cart, and goes when that cart has received the message or has left. So carts roll away
 //! whatever waits for them, and once in a while lists go in a deregister step.
 
-use plain::floor::{carts_of, GROUPS, TEXT};
+use plain::floor::{carts_of, GROUPS, LONG, TEXT};
 use plain::frames::{put, Event};
 use plain::run;
 use plain::{CartNo, Floor, GroupNo, Limits, Place, Refusal, StationNo, Step};
@@ -30,6 +30,8 @@ pub struct Wishes {
     /// Percent of sends that are sends to groups, or that define one. At 0 a stream has no frame
     /// of kinds 7 and 8.
     pub groups: usize,
+    /// Percent of sends whose text is long, as far as the store has room.
+    pub long: usize,
     /// Whether the floor is the demonstration kit's, with its limits.
     pub kit: bool,
 }
@@ -44,7 +46,16 @@ impl Wishes {
 
 impl Default for Wishes {
     fn default() -> Self {
-        Wishes { stations: 16, carts: 64, held: 8, lines: 40, bad: 2, groups: 0, kit: false }
+        Wishes {
+            stations: 16,
+            carts: 64,
+            held: 8,
+            lines: 40,
+            bad: 2,
+            groups: 0,
+            long: 0,
+            kit: false,
+        }
     }
 }
 
@@ -88,7 +99,7 @@ impl Generator {
 
     /// Chooses the next event, gives it to the floor beside, and writes its frame.
     pub fn frame(&mut self, out: &mut Vec<u8>) {
-        let mut text = [0; TEXT];
+        let mut text = [0; LONG];
         let event = self.choose(&mut text);
         put(&event, out);
         self.counts.frames += 1;
@@ -98,7 +109,9 @@ impl Generator {
             self.on_lines += step.w as usize;
             match event {
                 Event::Wire { .. } => self.on_lines -= 1,
-                Event::Send { .. } | Event::GroupSend { .. } => self.counts.sends += 1,
+                Event::Send { .. } | Event::GroupSend { .. } | Event::LongSend { .. } => {
+                    self.counts.sends += 1;
+                }
                 Event::Radio { .. } => self.counts.receipts += 1,
                 _ => (),
             }
@@ -107,7 +120,7 @@ impl Generator {
         self.counts.on_lines += self.on_lines as u64;
     }
 
-    fn choose<'t>(&mut self, text: &'t mut [u8; TEXT]) -> Event<'t> {
+    fn choose<'t>(&mut self, text: &'t mut [u8; LONG]) -> Event<'t> {
         if !self.started {
             return Event::Start { stations: self.wishes.stations, carts: self.wishes.carts };
         }
@@ -200,11 +213,23 @@ impl Generator {
         (room && self.floor.sent(station) <= self.floor.limits().last_number).then_some(station)
     }
 
-    fn send<'t>(&mut self, station: StationNo, text: &'t mut [u8; TEXT]) -> Event<'t> {
+    fn send<'t>(&mut self, station: StationNo, text: &'t mut [u8; LONG]) -> Event<'t> {
         if self.wishes.groups > 0 && self.random.percent(self.wishes.groups) {
             return self.group_event(station, text);
         }
+        if self.wishes.long > 0 && self.random.percent(self.wishes.long) {
+            if let Some(length) = self.long_length() {
+                let set = self.some_set();
+                return Event::LongSend { station, set, text: self.fill(&mut text[..length]) };
+            }
+        }
         Event::Send { station, set: self.some_set(), text: self.text(text) }
+    }
+
+    /// The length of a long text that the store has room for.
+    fn long_length(&mut self) -> Option<usize> {
+        let most = self.floor.free_octets().min(LONG);
+        (most > TEXT).then(|| TEXT + 1 + self.random.below(most - TEXT))
     }
 
     /// Carts that have entered.
@@ -219,7 +244,7 @@ impl Generator {
 
     /// A send to a group that is defined. Once in four times, and where it is not, its members are
     /// set, seldom to none.
-    fn group_event<'t>(&mut self, station: StationNo, text: &'t mut [u8; TEXT]) -> Event<'t> {
+    fn group_event<'t>(&mut self, station: StationNo, text: &'t mut [u8; LONG]) -> Event<'t> {
         let group = self.some_group();
         match self.random.below(64) {
             0 => Event::Group { group, set: 0 },
@@ -234,13 +259,13 @@ impl Generator {
     }
 
     /// A text that a send may have.
-    fn text<'t>(&mut self, text: &'t mut [u8; TEXT]) -> &'t [u8] {
+    fn text<'t>(&mut self, text: &'t mut [u8; LONG]) -> &'t [u8] {
         let length = 1 + self.random.below(TEXT);
         self.fill(&mut text[..length])
     }
 
     /// A text that may be empty too.
-    fn any_text<'t>(&mut self, text: &'t mut [u8; TEXT]) -> &'t [u8] {
+    fn any_text<'t>(&mut self, text: &'t mut [u8; LONG]) -> &'t [u8] {
         let length = self.random.below(TEXT + 1);
         self.fill(&mut text[..length])
     }
@@ -303,9 +328,12 @@ impl Generator {
     }
 
     /// An event that is likely to be refused by the floor, never by the frame.
-    fn bad<'t>(&mut self, text: &'t mut [u8; TEXT]) -> Event<'t> {
+    fn bad<'t>(&mut self, text: &'t mut [u8; LONG]) -> Event<'t> {
         if self.wishes.groups > 0 && self.random.once_in(8) {
             return self.bad_group(text);
+        }
+        if self.wishes.long > 0 && self.random.once_in(8) {
+            return self.any_long(text);
         }
         let (stations, carts) = (self.floor.stations(), self.floor.carts());
         let (station, entered) = (self.station(), self.floor.entered());
@@ -345,8 +373,21 @@ impl Generator {
         }
     }
 
+    /// A long text from any station, to carts that have entered or any others, whether the store has
+    /// room or not.
+    fn any_long<'t>(&mut self, text: &'t mut [u8; LONG]) -> Event<'t> {
+        let set = match self.random.below(4) {
+            0 => self.random.octets() & self.random.octets(),
+            1 => 0,
+            _ => self.floor.entered(),
+        };
+        let length = TEXT + 1 + self.random.below(LONG - TEXT);
+        let station = self.near_station();
+        Event::LongSend { station, set, text: self.fill(&mut text[..length]) }
+    }
+
     /// A group with any carts or none, or a send to any group from any station.
-    fn bad_group<'t>(&mut self, text: &'t mut [u8; TEXT]) -> Event<'t> {
+    fn bad_group<'t>(&mut self, text: &'t mut [u8; LONG]) -> Event<'t> {
         let group = self.some_group();
         match self.random.below(5) {
             0 => Event::Group { group, set: 0 },
@@ -372,7 +413,7 @@ impl Generator {
     }
 
     /// An event with random fields, refused or not.
-    fn wild<'t>(&mut self, text: &'t mut [u8; TEXT]) -> Event<'t> {
+    fn wild<'t>(&mut self, text: &'t mut [u8; LONG]) -> Event<'t> {
         let (station, to) = (self.near_station(), self.near_station());
         let cart = CartNo(self.random.below((self.floor.carts() as usize + 1).min(64)) as u8);
         match self.random.below(17) {
@@ -398,7 +439,7 @@ impl Generator {
 
 /// Gives an event to a floor.
 pub fn give(floor: &mut Floor, event: &Event) -> Result<Step, Refusal> {
-    run::give(floor, event, &mut [0; TEXT]).map(|(step, _)| step)
+    run::give(floor, event, &mut [0; LONG]).map(|(step, _)| step)
 }
 
 /// A whole stream.

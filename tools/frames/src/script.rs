@@ -11,6 +11,7 @@
 //! steady 0 1         cart, 1 for steady or 0 for not
 //! group 3 0,1        group, carts (- undefines it)
 //! gsend 1 3 A1B2     station, group, text: a send to the members of the group
+//! long 1 0,3 A1B2..  station, carts, text of 33 to 512 octets
 //! octets F0FF        octets as they stand, for what is no frame
 //! ```
 //!
@@ -19,7 +20,7 @@
 
 use std::fmt::Write;
 
-use plain::floor::{carts_of, TEXT};
+use plain::floor::{carts_of, LONG, TEXT};
 use plain::frames::{put, Event, Reader, Taken};
 use plain::{CartNo, GroupNo, StationNo};
 
@@ -72,6 +73,10 @@ fn one_line(words: &[&str], out: &mut Vec<u8>) -> Result<(), String> {
             text = text_of(octets)?;
             Event::GroupSend { station: station(at)?, group: group(to)?, text: &text }
         }
+        ["long", at, carts, octets] => {
+            text = long_text_of(octets)?;
+            Event::LongSend { station: station(at)?, set: set(carts)?, text: &text }
+        }
         ["octets", octets] => {
             out.extend(hexadecimal(octets)?);
             return Ok(());
@@ -93,6 +98,7 @@ fn wanted(word: &str) -> String {
         "radio" => "radio STATION CART",
         "move" => "move CART TO",
         "steady" => "steady CART FLAG",
+        "long" => "long STATION CARTS TEXT",
         "octets" => "octets HEXADECIMAL",
         "group" => "group GROUP CARTS",
         "gsend" => "gsend STATION GROUP TEXT",
@@ -124,6 +130,14 @@ fn text_of(word: &str) -> Result<Vec<u8>, String> {
     let text = hexadecimal(word)?;
     if text.len() > TEXT {
         return Err(format!("a text of {} octets, longer than {TEXT}", text.len()));
+    }
+    Ok(text)
+}
+
+fn long_text_of(word: &str) -> Result<Vec<u8>, String> {
+    let text = hexadecimal(word)?;
+    if !(TEXT + 1..=LONG).contains(&text.len()) {
+        return Err(format!("a long text of {} octets, not of {} to {LONG}", text.len(), TEXT + 1));
     }
     Ok(text)
 }
@@ -192,6 +206,9 @@ pub fn show_event(event: &Event) -> String {
         Event::GroupSend { station, group, text } => {
             format!("gsend {} {} {}", station.0, group.0, show_octets(text))
         }
+        Event::LongSend { station, set, text } => {
+            format!("long {} {} {}", station.0, show_set(set), show_octets(text))
+        }
     }
 }
 
@@ -254,6 +271,19 @@ mod tests {
         assert_eq!(mistake("gsend 0 0"), "line 1: wanted: gsend STATION GROUP TEXT");
         let long = format!("gsend 0 1 {}", "00".repeat(33));
         assert_eq!(mistake(&long), "line 1: a text of 33 octets, longer than 32");
+    }
+
+    #[test]
+    fn long_texts() {
+        let text = format!("long 15 - {}\nlong 0 63 {}\n", "A1".repeat(33), "0F".repeat(512));
+        assert_eq!(show(&script(&text).unwrap()), text);
+        assert_eq!(script(&text).unwrap()[..8], [0x9F, 0, 0, 0, 0, 0, 0, 33]);
+        for length in [0, 32, 513] {
+            let line = format!("long 0 1 -{}", "00".repeat(length)).replace("-0", "0");
+            let wanted = format!("line 1: a long text of {length} octets, not of 33 to 512");
+            assert_eq!(mistake(&line), wanted);
+        }
+        assert_eq!(mistake("long 0 1"), "line 1: wanted: long STATION CARTS TEXT");
     }
 
     #[test]

@@ -2,7 +2,7 @@
 
 use std::fmt;
 
-use plain::floor::TEXT;
+use plain::floor::LONG;
 use plain::frames::{Event, Reader, Taken, FRAME};
 use plain::{Floor, Limits, Refusal, Step};
 
@@ -50,7 +50,7 @@ impl<'a> Walk<'a> {
             Taken::End => return Ok(None),
             Taken::Refused(refusal) => return Err(self.bad_frame(refusal)),
         };
-        let mut buffer = [0; TEXT];
+        let mut buffer = [0; LONG];
         let answer = match event {
             Event::Radio { station, cart } => self.floor.radio(station, cart, &mut buffer),
             _ => give(&mut self.floor, &event).map(|step| (step, 0)),

@@ -93,7 +93,7 @@ fn show_then_script_is_the_identity_on_damaged_streams() {
 }
 
 /// The last refusal that an event can have.
-const LAST_REFUSAL: usize = 26;
+const LAST_REFUSAL: usize = 27;
 
 /// Gives a stream to a floor; answers the accepted and the refused events, the latter by number,
 /// and the most messages held in the last tenth.
@@ -167,10 +167,25 @@ fn streams_with_groups() {
 }
 
 #[test]
+fn streams_with_long_texts() {
+    for (stations, carts) in [(16, 64), (2, 3), (1, 1)] {
+        let wishes = Wishes { stations, carts, held: 30, long: 60, bad: 0, ..Wishes::default() };
+        let (octets, _) = stream(14, 20_000, wishes);
+        assert_eq!(give_all(&octets, 20_000).0, 20_000);
+        let long = show(&octets).lines().filter(|line| line.starts_with("long ")).count();
+        assert!(long > 100, "{long} long texts");
+        let (octets, _) = stream(14, 20_000, Wishes { bad: 10, ..wishes });
+        let refused = give_all(&octets, 20_000).1;
+        assert!(refused[27] > 0, "{stations} stations, {carts} carts: no 27");
+    }
+}
+
+#[test]
 fn the_head_of_the_plain_list_is_what_is_handed_over() {
     for (seed, (stations, carts)) in [(16, 64), (3, 5), (1, 2)].iter().enumerate() {
         let (stations, carts) = (*stations, *carts);
-        let wishes = Wishes { stations, carts, held: 20, groups: 30, bad: 5, ..Wishes::default() };
+        let wishes =
+            Wishes { stations, carts, held: 20, groups: 30, long: 30, bad: 5, ..Wishes::default() };
         let (octets, counts) = stream(seed as u64, 50_000, wishes);
         let (mut both, mut reader, mut handed) = (Both::new(), Reader::new(&octets), 0);
         while let Taken::Event(event) = reader.take() {

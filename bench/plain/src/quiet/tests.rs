@@ -1,7 +1,7 @@
 use super::*;
 use crate::floor::Limits;
 
-const BUFFER: [u8; TEXT] = [0; TEXT];
+const BUFFER: [u8; LONG] = [0; LONG];
 
 fn floor(stations: u8, carts: u8) -> Floor {
     let mut floor = Floor::new();
@@ -26,14 +26,14 @@ fn refused_before_the_first_step() {
     f.send(s(1), 1, &[0xA1]).unwrap();
     let before = f.clone();
     // By the buffer's length alone: here one octet would do, and at the end none.
-    for length in 0..TEXT {
+    for length in 0..LONG {
         let mut short = vec![0xEE; length];
         assert_eq!(f.quiet(&mut short), Err(Refusal::ShortBuffer));
         assert_eq!(f.difference(&before), None);
         assert_eq!(short, vec![0xEE; length]);
     }
     assert_eq!(f.quiet(&mut BUFFER.clone()), Ok(6));
-    assert_eq!(f.quiet(&mut [0; TEXT - 1]), Err(Refusal::ShortBuffer));
+    assert_eq!(f.quiet(&mut [0; LONG - 1]), Err(Refusal::ShortBuffer));
 }
 
 #[test]
@@ -117,10 +117,10 @@ fn a_line_goes_before_a_cart() {
     f.send(s(1), 1, &[0xBB; 3]).unwrap();
     // The cart could receive station 0's at once. When the lines are empty, station 1's is before
     // it, and what is longer of its text is left behind the other.
-    let mut buffer = [0xEE; TEXT + 1];
+    let mut buffer = [0xEE; LONG + 1];
     assert_eq!(f.quiet(&mut buffer), Ok(11));
     assert_eq!(buffer[..4], [0xAA, 0xBB, 0xBB, 0xEE]);
-    assert_eq!(buffer[4..], [0xEE; TEXT - 3]);
+    assert_eq!(buffer[4..], [0xEE; LONG - 3]);
     assert_eq!(f.held(), 0);
 }
 

@@ -35,7 +35,7 @@ fn c(cart: u8) -> CartNo {
 impl Floor {
     /// A radio step whose text does not matter.
     fn hand(&mut self, station: u8, cart: u8) -> Result<Step, Refusal> {
-        self.radio(s(station), c(cart), &mut [0; TEXT]).map(|(step, _)| step)
+        self.radio(s(station), c(cart), &mut [0; LONG]).map(|(step, _)| step)
     }
 }
 
@@ -320,7 +320,7 @@ fn the_kit_has_limits_of_its_own() {
         assert_eq!(refusal(f.send(s(station), 1 << 7, ONE)), 14);
     }
     // Behind the last delete the room is free again.
-    f.quiet(&mut [0; TEXT]).unwrap();
+    f.quiet(&mut [0; LONG]).unwrap();
     assert_eq!(answer(f.send(s(0), 1 << 7, ONE)), (0, 8, 0, 4));
 }
 
@@ -337,6 +337,10 @@ fn nothing_before_a_start() {
     assert_eq!(refusal(f.set_group(GroupNo(99), u64::MAX)), 5);
     assert_eq!(refusal(f.send_to_group(s(99), GroupNo(99), &[0; 33])), 4);
     assert_eq!(refusal(f.send_to_group(s(99), GroupNo(99), &[])), 5);
+    assert_eq!(refusal(f.send_long(s(99), 0, &[0; 32])), 4);
+    assert_eq!(refusal(f.send_long(s(99), 0, &[0; 513])), 4);
+    assert_eq!(refusal(f.send_long(s(99), 0, &[0; 33])), 5);
+    assert_eq!(f.read_refusal(s(99), MessageNo(0)), 5);
 }
 
 #[test]
@@ -533,6 +537,78 @@ fn the_checks_of_a_send_to_a_group() {
 }
 
 #[test]
+fn a_long_text_is_handed_out_and_its_octets_are_free_again() {
+    let mut f = floor(2, 1);
+    f.enter(s(0), c(0)).unwrap();
+    let text: Vec<u8> = (0..512).map(|at| at as u8).collect();
+    for number in 0..8 {
+        assert_eq!(answer(f.send_long(s(0), 1, &text)), (0, number, 0, 2));
+    }
+    assert_eq!(refusal(f.send_long(s(0), 1, &text[..33])), 27);
+    // A short text needs none of the store.
+    assert_eq!(answer(f.send(s(0), 1, ONE)), (0, 8, 0, 2));
+    f.wire(s(0), s(0)).unwrap();
+    let mut buffer = [0xEE; 513];
+    assert_eq!(refusal(f.radio(s(0), c(0), &mut buffer[..511])), 21);
+    assert_eq!(buffer, [0xEE; 513]);
+    assert_eq!(f.radio(s(0), c(0), &mut buffer[..512]).unwrap().1, 512);
+    assert_eq!((&buffer[..512], buffer[512]), (&text[..], 0xEE));
+    // Free only behind the last station's delete.
+    while f.wire(s(0), s(0)).is_ok() {}
+    assert_eq!(refusal(f.send_long(s(0), 1, &text[..33])), 27);
+    for _ in 0..10 {
+        f.wire(s(0), s(1)).unwrap();
+    }
+    assert_eq!(answer(f.send_long(s(0), 1, &text)), (0, 9, 0, 2));
+}
+
+#[test]
+fn the_checks_of_a_long_send() {
+    let mut f = floor(1, 2);
+    f.enter(s(0), c(0)).unwrap();
+    let text = [7; 512];
+    assert_eq!(refusal(f.send_long(s(0), 1, &[7; 32])), 4);
+    assert_eq!(refusal(f.send_long(s(0), 1, &[7; 513])), 4);
+    assert_eq!(refusal(f.send(s(0), 1, &[7; 33])), 4);
+    assert_eq!(refusal(f.send_long(s(1), 4, &text)), 8);
+    assert_eq!(refusal(f.send_long(s(0), 4, &text)), 9);
+    assert_eq!(refusal(f.send_long(s(0), 0, &text)), 11);
+    assert_eq!(refusal(f.send_long(s(0), 2, &text)), 12);
+    for _ in 0..8 {
+        f.send_long(s(0), 1, &text).unwrap();
+    }
+    assert_eq!(refusal(f.send_long(s(0), 1, &text)), 27);
+    for _ in 8..32 {
+        f.send(s(0), 1, ONE).unwrap();
+    }
+    assert_eq!(refusal(f.send_long(s(0), 1, &text)), 14);
+    f.station[0].sent = f.limits.last_number + 1;
+    assert_eq!(refusal(f.send_long(s(0), 1, &text)), 13);
+}
+
+#[test]
+fn texts_are_read_by_initiator_and_number() {
+    let mut f = floor(2, 1);
+    f.enter(s(0), c(0)).unwrap();
+    f.send(s(1), 1, &[0xA1]).unwrap();
+    f.send_long(s(1), 1, &[0xB2; 33]).unwrap();
+    f.send(s(0), 1, &[0xC3]).unwrap();
+    // An empty text that is held is the empty part too, but not refused.
+    f.held[2].length = 0;
+    let read = |f: &Floor, station, number| {
+        let number = MessageNo(number);
+        (f.read_refusal(s(station), number), f.read(s(station), number).to_vec())
+    };
+    assert_eq!(read(&f, 1, 0), (0, vec![0xA1]));
+    assert_eq!(read(&f, 1, 1), (0, vec![0xB2; 33]));
+    assert_eq!(read(&f, 0, 0), (0, vec![]));
+    assert_eq!(read(&f, 0, 1), (28, vec![]));
+    assert_eq!(read(&f, 2, 0), (8, vec![]));
+    f.quiet(&mut [0; LONG]).unwrap();
+    assert_eq!(read(&f, 1, 1), (28, vec![]));
+}
+
+#[test]
 fn an_unsteady_cart_at_the_head_holds_back_the_entries_behind_it() {
     let mut f = floor(2, 3);
     for cart in 0..3 {
@@ -693,6 +769,7 @@ mod as_worded {
         places: Vec<(u8, u8)>,
         steady: Vec<bool>,
         groups: Vec<Option<u64>>,
+        long: Vec<(Message, usize)>,
         held: Vec<(Message, Vec<u8>, Vec<u8>, usize)>,
         lines: Vec<Vec<Travelling>>,
         pub sum: u64,
@@ -706,6 +783,7 @@ mod as_worded {
                 places: vec![(0, 0); carts as usize],
                 steady: vec![true; carts as usize],
                 groups: vec![None; 16],
+                long: Vec::new(),
                 held: Vec::new(),
                 lines: vec![Vec::new(); 256],
                 sum: 0,
@@ -824,6 +902,19 @@ mod as_worded {
             Ok([station as u32, message.number, 0, w as u32, 0])
         }
 
+        pub fn send_long(&mut self, station: u8, set: u64, text: &[u8]) -> Result<[u32; 5], u8> {
+            let used: usize = self.long.iter().map(|(_, length)| length).sum();
+            let (messages, held) = (self.posts.clone(), self.held.clone());
+            let lines = self.lines.clone();
+            let answer = self.send(station, set, text)?;
+            if used + text.len() > 4_096 {
+                (self.posts, self.held, self.lines) = (messages, held, lines);
+                return Err(27);
+            }
+            self.long.push((Message { initiator: station, number: answer[1] }, text.len()));
+            Ok(answer)
+        }
+
         pub fn group(&mut self, group: u8, set: u64) -> Result<[u32; 5], u8> {
             let carts: Vec<u8> = (0..64).filter(|c| set >> c & 1 == 1).collect();
             carts.iter().try_for_each(|c| self.cart(*c))?;
@@ -886,6 +977,7 @@ mod as_worded {
                     self.held[at].3 -= 1;
                     if self.held[at].3 == 0 {
                         self.held.remove(at);
+                        self.long.retain(|(m, _)| *m != message);
                     }
                     Ok([3, message.number, 0, 0, 0])
                 }
@@ -1001,7 +1093,7 @@ fn the_same_as_the_worded_steps() {
                 let station = below(stations as u64 + beyond) as u8;
                 let other = below(stations as u64 + beyond) as u8;
                 let cart = below(carts as u64 + beyond) as u8;
-                let (ours, theirs) = match below(23) {
+                let (ours, theirs) = match below(24) {
                     0 => (floor.enter(s(station), c(cart)), worded.enter(station, cart)),
                     1 | 2 => {
                         let mut half = || below(1 << 32);
@@ -1034,6 +1126,12 @@ fn the_same_as_the_worded_steps() {
                         let text = if below(30) == 0 { &[] } else { ONE };
                         let ours = floor.send_to_group(s(station), GroupNo(group), text);
                         (ours, worded.send_to_group(station, group, text))
+                    }
+                    13 => {
+                        let set = floor.entered & below(1 << 40);
+                        let text = vec![9; 33 + below(480) as usize];
+                        let ours = floor.send_long(s(station), set, &text);
+                        (ours, worded.send_long(station, set, &text))
                     }
                     _ => (floor.wire(s(station), s(other)), worded.wire(station, other)),
                 };
