@@ -1,5 +1,5 @@
 use mathlib.Core.Path.{ap, refl, _∙_, _≡_}
-use mathlib.Core.Bool.{Bool, cond, false, not, true, _||_}
+use mathlib.Core.Bool.{_&&_, Bool, cond, false, not, true, _||_}
 use mathlib.Core.Option.{some}
 use mathlib.Core.List.{List, [], _∷_}
 use Prim.Native.Nat.{_+_, _<_, _^_, ℕ, _≤_}
@@ -9,16 +9,16 @@ use lib.ListN.{length}
 use borrow.Author.Tests.{eqb-true, leb-false, lt-leb, ltb-false, ne-eqb, not-false}
 use Rattle.protocol.specs.Folds.{every, isEmpty, isNone}
 use Rattle.protocol.specs.CartSets.{has}
-use Rattle.protocol.specs.Floor.{Floor, Limits, Record, at, behead, entered, isAt, mostText, moving, onLines}
-use Rattle.protocol.specs.Events.{Answer, Event, Report, accepted, enter, flag, group, move, radio, refused, send, sendGroup, sendLong, start, wire}
+use Rattle.protocol.specs.Floor.{Floor, Limits, Record, at, behead, entered, isAt, isHeld, mostText, moving, onLines}
+use Rattle.protocol.specs.Events.{Answer, Event, Report, accepted, enter, flag, group, move, radio, refused, retire, send, sendGroup, sendLong, start, wire}
 use Rattle.protocol.specs.Groups.{groupCount, onGroup}
 use Rattle.protocol.specs.Store.{notLong, storeUsed}
-use Rattle.protocol.specs.Handoff.{onEnter, onFlag, onMove}
+use Rattle.protocol.specs.Handoff.{onEnter, onFlag, onMove, onRetire}
 use Rattle.protocol.specs.Wired.{buffer, freeRoom, handle, onSend, onWire, withMessage}
 use Rattle.protocol.specs.Wireless.{handOver, onRadio, queueHead}
 use Rattle.protocol.specs.Claims.{True}
 use Rattle.protocol.specs.Form.{formRule, groupRule, passesForm}
-use Rattle.protocol.specs.Refusals.{check, firstOfSend, headLacks, neverEntered, noCart, noGroup, noStation, numberAndRoom, refusal, refusalIf, storeFull, strangers, undefined}
+use Rattle.protocol.specs.Refusals.{check, firstOfSend, headLacks, isNamed, noCart, noGroup, noStation, notEntered, numberAndRoom, refusal, refusalIf, storeFull, strangers, undefined}
 use Rattle.protocol.specs.Step.{accept, answer, step}
 use Rattle.protocol.proofs.Tests.{by-eq, by-option, by-test, clash, every-all, every-at, first-some, or-false}
 use Rattle.protocol.proofs.ClaimLaws.{reflect}
@@ -52,7 +52,7 @@ pub record MayName (F : Floor) (s set : ℕ) : Type 0 where
   pub station : s < F .stations
   pub carts : set < 2 ^ F .carts
   pub some : eqb set 0 ≡ false
-  pub all-entered : neverEntered F set ≡ false
+  pub all-entered : notEntered F set ≡ false
 
 -- under which number, and in which room
 pub record MayTake (M : Limits) (F : Floor) (s m : ℕ) : Type 0 where
@@ -84,21 +84,27 @@ pub record MayFlag (F : Floor) (c : ℕ) : Type 0 where
   pub cart : c < F .carts
   pub has-entered : entered (F .place c) ≡ true
 
+pub record MayRetire (M : Limits) (F : Floor) (c : ℕ) : Type 0 where
+  pub cart : c < F .carts
+  pub has-entered : entered (F .place c) ≡ true
+  pub not-moving : moving (F .place c) ≡ false
+  pub unnamed : (m : ℕ) → m < M .held → eqb (F .waiting m) 0 ≡ false → has (F .named m) c ≡ true → ⊥
+
 pub record MayGroup (F : Floor) (g set : ℕ) : Type 0 where
   pub carts : set < 2 ^ F .carts
-  pub all-entered : neverEntered F set ≡ false
+  pub all-entered : notEntered F set ≡ false
   pub number : g < groupCount
 
 -- a named cart has entered
-pub named-has-entered : (F : Floor) (set c : ℕ) → c < F .carts → neverEntered F set ≡ false → has set c ≡ true → entered (F .place c) ≡ true
-unfolding neverEntered
+pub named-has-entered : (F : Floor) (set c : ℕ) → c < F .carts → notEntered F set ≡ false → has set c ≡ true → entered (F .place c) ≡ true
+unfolding notEntered
 named-has-entered F set c lc e n =
     let z = every-at (F .carts) (λ c. not (has set c) || entered (F .place c)) (not-false (every (F .carts) (λ c. not (has set c) || entered (F .place c))) e) c lc in
     rw n at z
 
 -- and where each has, 12 is not met
-pub all-have-entered : (F : Floor) (set : ℕ) → ((c : ℕ) → c < F .carts → has set c ≡ true → entered (F .place c) ≡ true) → neverEntered F set ≡ false
-unfolding neverEntered
+pub all-have-entered : (F : Floor) (set : ℕ) → ((c : ℕ) → c < F .carts → has set c ≡ true → entered (F .place c) ≡ true) → notEntered F set ≡ false
+unfolding notEntered
 all-have-entered F set h =
     ap not (every-all (F .carts) (λ c. not (has set c) || entered (F .place c)) (λ c lc. by-test (has set c) (λ n. rw (n, h c lc n)) (λ n. rw n)))
 
@@ -170,7 +176,7 @@ module _ (M : Limits) (F : Floor) (broken : Bool) where
       let a8 = passed-check 8 (noStation F s) _ (omega arith) (a5 .1) in
       let a9 = passed-check 9 (strangers F set) _ (omega arith) (a8 .1) in
       let a11 = passed-check 11 (eqb set 0) _ (omega arith) (a9 .1) in
-      let a12 = passed-check 12 (neverEntered F set) rest (omega arith) (a11 .1) in (
+      let a12 = passed-check 12 (notEntered F set) rest (omega arith) (a11 .1) in (
         record { station = leb-false (F .stations) s (a8 .0); carts = leb-false (2 ^ F .carts) set (a9 .0); some = a11 .0; all-entered = a12 .0 },
         a12 .1,
       )
@@ -265,13 +271,30 @@ module _ (M : Limits) (F : Floor) (broken : Bool) where
       let a18 = passed-check 18 (not (entered (F .place c))) _ (omega arith) (a9 .1) in
       record { cart = leb-false (F .carts) c (a9 .0); has-entered = not-false (entered (F .place c)) (a18 .0) }
 
+  pub may-retire : (c : ℕ) → refusalIf M F broken (retire c) ≡ 0 → MayRetire M F c
+  unfolding refusalIf isNamed
+  may-retire c e =
+      let a5 = passed-check 5 broken _ (omega arith) e in
+      let a9 = passed-check 9 (noCart F c) _ (omega arith) (a5 .1) in
+      let a18 = passed-check 18 (not (entered (F .place c))) _ (omega arith) (a9 .1) in
+      let a19 = passed-check 19 (moving (F .place c)) _ (omega arith) (a18 .1) in
+      let a29 = passed-check 29 (isNamed M F c) _ (omega arith) (a19 .1) in
+      record {
+        cart = leb-false (F .carts) c (a9 .0);
+        has-entered = not-false (entered (F .place c)) (a18 .0);
+        not-moving = a19 .0;
+        unnamed = λ m l h n. absurd (let z = every-at (M .held) (λ m. not (isHeld F m && has (F .named m) c))
+            (not-false (every (M .held) (λ m. not (isHeld F m && has (F .named m) c))) (a29 .0)) m l in
+            clash false (rw (h, n) at z) refl);
+      }
+
 module _ (M : Limits) (F : Floor) where
   pub may-group : (g set : ℕ) → refusalIf M F (not (passesForm M F)) (group g set) ≡ 0 → MayGroup F g set
   unfolding refusalIf
   may-group g set e =
       let a5 = passed-check 5 (not (passesForm M F)) _ (omega arith) e in
       let a9 = passed-check 9 (strangers F set) _ (omega arith) (a5 .1) in
-      let a12 = passed-check 12 (neverEntered F set) _ (omega arith) (a9 .1) in
+      let a12 = passed-check 12 (notEntered F set) _ (omega arith) (a9 .1) in
       let a26 = passed-check 26 (noGroup g) _ (omega arith) (a12 .1) in
       record { carts = leb-false (2 ^ F .carts) set (a9 .0); all-entered = a12 .0; number = leb-false groupCount g (a26 .0) }
 
@@ -349,6 +372,7 @@ module _ (M : Limits) (F : Floor) (Q : Event → Floor → Answer → Type 0) (b
     (handing : (t c buffer m : ℕ) → MayRadio M F t c m → Q (radio t c buffer) (handOver M F m t c .floor) (accepted (handOver M F m t c .report)))
     (moves : (c to : ℕ) → MayMove F c to → Q (move c to) (onMove F c to .floor) (accepted (onMove F c to .report)))
     (flagging : (c : ℕ) (b : Bool) → MayFlag F c → Q (flag c b) (onFlag F c b .floor) (accepted (onFlag F c b .report)))
+    (retiring : (c : ℕ) → MayRetire M F c → Q (retire c) (onRetire F c .floor) (accepted (onRetire F c .report)))
     (grouping : (g set : ℕ) → MayGroup F g set → Q (group g set) (onGroup F g set .floor) (accepted (onGroup F g set .report)))
     (sendingGroup : (s g : ℕ) (text : List ℕ) (m : ℕ) → MaySend M F s (F .groups g) text m
     → Q (sendGroup s g text) (withMessage F m s (F .groups g) text)
@@ -367,6 +391,7 @@ module _ (M : Limits) (F : Floor) (Q : Event → Floor → Answer → Type 0) (b
       let a = may-radio M F (not (passesForm M F)) t c buffer z in rw (a .1 .is-head) (handing t c buffer (a .0) (a .1))
   when-accepted (move c to) z = moves c to (may-move M F (not (passesForm M F)) c to z)
   when-accepted (flag c on) z = flagging c on (may-flag M F (not (passesForm M F)) c on z)
+  when-accepted (retire c) z = retiring c (may-retire M F (not (passesForm M F)) c z)
   when-accepted (group g set) z = grouping g set (may-group M F g set z)
   when-accepted (sendGroup s g text) z = let a = may-send-group M F s g text z in rw (a .1) (sendingGroup s g text (a .0) (a .2))
   when-accepted (sendLong s set text) z =

@@ -9,11 +9,11 @@ use lib.ListN.{length}
 use Rattle.protocol.specs.Folds.{byOption, isEmpty, sum, update}
 use Rattle.protocol.specs.CartSets.{union, without}
 use Rattle.protocol.specs.Floor.{Floor, Limits, Record, ackList, at, behead, delete, deregister, isBuffered, multicast, onLines, register, setPlace, setTexts, setWaiting}
-use Rattle.protocol.specs.Events.{Event, done, enter, flag, group, move, radio, send, sendGroup, sendLong, start, wire}
+use Rattle.protocol.specs.Events.{Event, done, enter, flag, group, move, radio, retire, send, sendGroup, sendLong, start, wire}
 use Rattle.protocol.specs.Groups.{membersOf, onGroup}
 use Rattle.protocol.specs.Store.{storeUsed, storedOf}
 use Rattle.protocol.specs.Order.{placeIn}
-use Rattle.protocol.specs.Handoff.{arrive, bufferedFor, catchUp, catchUpEach, catchUpStop, deepest, entryOf, largestPlace, onEnter, onFlag, onMove, onRegister, passedOver, placeGiven, roomOf, struck, withRow}
+use Rattle.protocol.specs.Handoff.{arrive, bufferedFor, catchUp, catchUpEach, catchUpStop, deepest, entryOf, largestPlace, onEnter, onFlag, onMove, onRegister, onRetire, passedOver, placeGiven, roomOf, struck, withRow}
 use Rattle.protocol.specs.Deregister.{bufferedRooms, inOrder, insert, isComplete, leave, listsSent, onDeregister, sendIfComplete, testEach}
 use Rattle.protocol.specs.Wired.{buffer, freeRoom, handle, multicastByRow, onAckList, onDelete, onMulticast, onSend, onWire, placeOfNew, unbuffer, withMessage}
 use Rattle.protocol.specs.Wireless.{allAcked, handOver, headAmong, headWith, onRadio, queueHead, receive, sendAcks, sendAcksIfAll}
@@ -204,7 +204,7 @@ module _ (M : Limits) where
   -- EVERY EVENT
 
   pub accept-blurred : (F : Floor) (e : Event) → accept M (blur F) (blurEvent e) ≡ blurDone (accept M F e)
-  unfolding accept onEnter onMove onFlag onGroup membersOf
+  unfolding accept onEnter onMove onFlag onRetire onGroup membersOf
   accept-blurred F (start n k) = refl
   accept-blurred F (enter t c) = rw (arrive-blurred F t c (λ s. 0), passed-blurred F t c (λ s. 0), deepest-blurred F t c (λ s. 0))
   accept-blurred F (send s set text) = send-blurred F 2 s set text
@@ -212,6 +212,7 @@ module _ (M : Limits) where
   accept-blurred F (radio t c buffer) = radio-blurred F t c
   accept-blurred F (move c to) = refl
   accept-blurred F (flag c b) = refl
+  accept-blurred F (retire c) = refl
   accept-blurred F (group g set) = refl
   accept-blurred F (sendGroup s g text) = send-blurred F 8 s (F .groups g) text
   accept-blurred F (sendLong s set text) = send-blurred F 9 s set text

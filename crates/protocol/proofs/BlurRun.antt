@@ -5,12 +5,12 @@ use mathlib.Core.List.{List, [], map, _∷_}
 use native.Mathlib.Omega.{arith}
 use lib.Dec.{eqb}
 use Rattle.protocol.specs.Floor.{Floor, Limits}
-use Rattle.protocol.specs.Events.{Answer, Done, Event, accepted, enter, flag, group, move, radio, send, sendGroup, sendLong, start, wire}
+use Rattle.protocol.specs.Events.{Answer, Done, Event, accepted, enter, flag, group, move, radio, retire, send, sendGroup, sendLong, start, wire}
 use Rattle.protocol.specs.Handoff.{roomOf}
 use Rattle.protocol.specs.Wired.{freeRoom}
 use Rattle.protocol.specs.Wireless.{queueHead}
 use Rattle.protocol.specs.Form.{passesForm}
-use Rattle.protocol.specs.Refusals.{neverEntered, refusal, refusalIf}
+use Rattle.protocol.specs.Refusals.{isNamed, notEntered, refusal, refusalIf}
 use Rattle.protocol.specs.Step.{answer, answers, floorAfter, step}
 use Rattle.protocol.specs.Blur.{blur, blurAnswer, blurEvent}
 use Rattle.protocol.proofs.Tests.{by-option, by-test, same-test}
@@ -64,7 +64,7 @@ passes-blurred M F =
 -- THE REFUSALS
 
 refusal-if-blurred : (M : Limits) (F : Floor) (b : Bool) (e : Event) → refusalIf M (blur F) b (blurEvent e) ≡ refusalIf M F b e
-unfolding refusalIf neverEntered freeRoom
+unfolding refusalIf notEntered freeRoom isNamed
 refusal-if-blurred M F b (start n k) = refl
 refusal-if-blurred M F b (enter t c) = refl
 refusal-if-blurred M F b (send s set text) = rw (length-blurred text, empty-blurred text)
@@ -73,6 +73,7 @@ refusal-if-blurred M F b (radio t c buffer) = rw (head-blurred M F t)
     (by-option (queueHead M F t) (λ e. rw e) (λ m e. rw (e, length-blurred (F .text m))))
 refusal-if-blurred M F b (move c to) = refl
 refusal-if-blurred M F b (flag c on) = refl
+refusal-if-blurred M F b (retire c) = refl
 refusal-if-blurred M F b (group g set) = refl
 refusal-if-blurred M F b (sendGroup s g text) = rw (length-blurred text, empty-blurred text)
 refusal-if-blurred M F b (sendLong s set text) = rw (length-blurred text, store-blurred M (F .waiting) (F .text))

@@ -6,38 +6,30 @@ use mathlib.Core.List.{_++_, List, [], _∷_}
 use Prim.Native.Nat.{_+_, _-_, _<_, suc, zero, ℕ, _≤_}
 use native.Mathlib.Omega.{arith}
 use lib.Dec.{eqb, leb}
-use lib.ListN.{drop, getD, length, length-append, take, take-append-drop}
+use lib.ListN.{drop, getD, length, take, take-append-drop}
 use lib.Seq.{getD-drop}
 use borrow.Author.Tests.{eq-eqb, eqb-true, le-leb, leb-true, not-false, not-true}
-use Rattle.protocol.specs.Folds.{count, every, sum, update2}
+use Rattle.protocol.specs.Folds.{every, sum}
 use Rattle.protocol.specs.CartSets.{has, union}
 use Rattle.protocol.specs.Floor.{Floor, Limits, Record, ackList, at, delete, deregister, isHeld, justStarted, multicast, register}
-use Rattle.protocol.specs.Events.{Answer, Done, Event, Report, accepted, enter, flag, group, move, radio, refused, send, sendGroup, sendLong, start, wire}
-use Rattle.protocol.specs.Groups.{asSent, onGroup}
-use Rattle.protocol.specs.Handoff.{arrive, entryOf, onEnter, onFlag, onMove, onRegister, roomOf, struck}
+use Rattle.protocol.specs.Events.{Done, Event}
+use Rattle.protocol.specs.Groups.{onGroup}
+use Rattle.protocol.specs.Handoff.{arrive, entryOf, onEnter, onFlag, onMove, onRegister, onRetire, roomOf, struck}
 use Rattle.protocol.specs.Deregister.{leave}
 use Rattle.protocol.specs.Wired.{buffer, handle, multicastByRow, onAckList, onDelete, onMulticast, withMessage}
 use Rattle.protocol.specs.Wireless.{allAcked, handOver, receive, sendAcks, sendAcksIfAll}
-use Rattle.protocol.specs.Step.{answer, floorAfter, step}
-use Rattle.protocol.specs.TwoLists.{Item, Lists, TwoListRule, item, listsAfter, listsStep, owes}
-use Rattle.protocol.proofs.Tests.{and-intro, and-left, and-right, by-test, clash, eqb-self, every-at, every-fails, on-cond, on-option}
+use Rattle.protocol.specs.Step.{step}
+use Rattle.protocol.specs.TwoLists.{Item, TwoListRule, item, owes}
+use Rattle.protocol.proofs.Tests.{and-intro, and-left, and-right, by-test, clash, every-at, every-fails, on-cond, on-option}
 use Rattle.protocol.proofs.SetLaws.{has-zero}
 use Rattle.protocol.proofs.InOrder.{completed, deregister-is, send-each-is}
 use Rattle.protocol.proofs.Accepted.{by-step, unlined}
 use Rattle.protocol.proofs.Invariant.{Entry, Held, History, Invariant, blank, names, naming}
 use Rattle.protocol.proofs.Updates.{append-nil}
 use Rattle.protocol.proofs.CatchUp.{arrive-at-once, one-at-once}
-use Rattle.protocol.proofs.SendStep.{noted}
-use Rattle.protocol.proofs.InvariantStep.{note, step-ok}
 
 abbrev pub nothing : History
 nothing = record { sends = λ s. []; received = λ s c. [] }
-
--- the lists are those of the accepted sends
-pub record Same (G : History) (L : Lists) : Type 0 where
-  pub count : (s : ℕ) → L .count s ≡ length (G .sends s)
-  pub sent : (s c : ℕ) → L .sent s c ≡ naming c 0 (G .sends s)
-  pub received : L .received ≡ G .received
 
 pub naming-more : (c k : ℕ) (h : List Entry) (e : Entry)
     → naming c k (h ++ (e ∷ [])) ≡ naming c k h ++ cond (has (e .set) c) (item (k + length h) (e .text) ∷ []) []
@@ -46,35 +38,6 @@ naming-more c k (x ∷ h) e =
     let z : k + suc (length h) ≡ suc k + length h = omega arith in
     by-test (has (x .set) c) (λ q. rw (q, z, naming-more c (suc k) h e)) (λ q. rw (q, z, naming-more c (suc k) h e))
 
-same-send : (G : History) (L : Lists) (s set : ℕ) (text : List ℕ) (l : Report) → Same G L → Same (noted G s (record { set = set; text = text })) (listsStep (send s set text) (accepted l) L)
-same-send G L s set text l S =
-    record {
-      count = λ u. by-test (eqb u s) (λ z. rw z (let a = length-append (G .sends s) (record { set = set; text = text } ∷ []) in let b = S .count s in omega arith)) (λ z. rw z (S .count u));
-      sent = λ u c. by-test (eqb u s)
-          (λ z. let y = eqb-true u s z in
-          let k : 0 + length (G .sends s) ≡ L .count s = (let b = S .count s in omega arith) in
-          let w : naming c 0 (G .sends s ++ (record { set = set; text = text } ∷ [])) ≡ L .sent s c ++ cond (has set c) (item (L .count s) text ∷ []) [] =
-          naming-more c 0 (G .sends s) (record { set = set; text = text }) ∙ rw (k, S .sent s c) in
-          rw (y, eqb-self s, w) (by-test (has set c) (λ q. rw q) (λ q. rw (q, append-nil (L .sent s c)))))
-          (λ z. rw z (S .sent u c));
-      received = S .received;
-    }
-
-same-note : (G : History) (L : Lists) (e : Event) (a : Answer) → Same G L → Same (note e a G) (listsStep e a L)
-same-note G L (start n k) a S = S
-same-note G L (enter t c) a S = S
-same-note G L (send s set text) (refused r) S = S
-same-note G L (send s set text) (accepted l) S = same-send G L s set text l S
-same-note G L (wire i j) a S = S
-same-note G L (radio t c room) (refused r) S = S
-same-note G L (radio t c room) (accepted l) S =
-    record { count = S .count; sent = S .sent; received = ap (λ (f : ℕ → ℕ → List Item). update2 f (l .a) c (f (l .a) c ++ (item (l .b) (l .text) ∷ []))) (S .received) }
-same-note G L (move c to) a S = S
-same-note G L (flag c b) a S = S
-same-note G L (group g set) a S = S
-same-note G L (sendGroup s g text) a S = S
-same-note G L (sendLong s set text) a S = S
-
 -- the entries from a number on
 pub naming-append : (c k : ℕ) (h g : List Entry) → naming c k (h ++ g) ≡ naming c k h ++ naming c (k + length h) g
 naming-append c k [] g = let z : k + 0 ≡ k = omega arith in rw z
@@ -82,7 +45,7 @@ naming-append c k (x ∷ h) g =
     let z : k + suc (length h) ≡ suc k + length h = omega arith in
     by-test (has (x .set) c) (λ q. rw (q, z, naming-append c (suc k) h g)) (λ q. rw (q, z, naming-append c (suc k) h g))
 
-naming-none : (c k : ℕ) (h : List Entry) → ((j : ℕ) → names h j c ≡ false) → naming c k h ≡ []
+pub naming-none : (c k : ℕ) (h : List Entry) → ((j : ℕ) → names h j c ≡ false) → naming c k h ≡ []
 naming-none c k [] f = refl
 naming-none c k (x ∷ h) f = rw (f 0) (naming-none c (suc k) h (λ j. f (suc j)))
 
@@ -94,7 +57,8 @@ naming-some c k (x ∷ h) (suc j) e =
     (λ q. (item k (x .text), naming c (suc k) h, rw q))
     (λ q. let r = naming-some c (suc k) h j e in (r .0, r .1, rw q (r .2)))
 
-two-lists : (M : Limits) (F : Floor) (G : History) → Invariant M F G → (s c : ℕ) → c < F .carts → TwoListRule (owes M F s c) (naming c 0 (G .sends s)) (G .received s c)
+pub two-lists : (M : Limits) (F : Floor) (G : History) → Invariant M F G → (s c : ℕ) → c < F .carts → TwoListRule (owes M F s c)
+    (naming c 0 (G .sends s)) (G .received s c)
 unfolding owes
 two-lists M F G I s c lc =
     record {
@@ -200,7 +164,7 @@ handled-size M F i j (deregister c) =
 handled-size M F i j (register c row) = arrived-size M F j c (entryOf row)
 
 pub step-size : (M : Limits) (F : Floor) → F .started ≡ true → (e : Event) → SameSize F (step M F e)
-unfolding onEnter onFlag onGroup withMessage onMove handOver receive sendAcks
+unfolding onEnter onFlag onRetire onGroup withMessage onMove handOver receive sendAcks
 step-size M F begun =
     by-step M F (λ e X a. SameSize F X) begun (λ e r. same-size F) (λ t c may. arrived-size M F t c (λ s. 0)) (λ s set text m may. same-size F)
     (λ i j r l may. handled-size M (unlined F i j) i j r)
@@ -208,16 +172,7 @@ step-size M F begun =
     (on-cond (λ (X : Floor). SameSize F X) (allAcked (receive F m t c) m t) (λ b. same-size F) (λ b. same-size F)))
     (λ c to may. same-size F)
     (λ c b may. same-size F)
+    (λ c may. same-size F)
     (λ g set may. same-size F)
     (λ s g text m may. same-size F)
     (λ s set text m may. same-size F)
-
--- the rule after any list of events, from any floor and history that the invariant joins
-pub rule-after : (M : Limits) (F : Floor) (G : History) (L : Lists) (es : List Event) → Invariant M F G → Same G L → (s c : ℕ) → c < F .carts
-    → TwoListRule (owes M (floorAfter M F es) s c) (listsAfter M F L es .sent s c) (listsAfter M F L es .received s c)
-unfolding floorAfter listsAfter
-rule-after M F G L [] I S s c lc = rw (S .sent s c, S .received) (two-lists M F G I s c lc)
-rule-after M F G L (e ∷ es) I S s c lc =
-    rule-after M (step M F e) (note (asSent F e) (answer M F e) G) (listsStep (asSent F e) (answer M F e) L) es (step-ok M F G I e)
-    (same-note G L (asSent F e) (answer M F e) S) s c
-    (let z = step-size M F (I .started) e .carts in omega arith)

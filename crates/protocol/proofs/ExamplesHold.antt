@@ -1,5 +1,5 @@
 use mathlib.Core.Path.{ap, ap₂, refl, _∙_, _≡_}
-use mathlib.Core.Bool.{true}
+use mathlib.Core.Bool.{false, true}
 use mathlib.Core.List.{List, [], map, _∷_}
 use Prim.Native.Nat.{_<_, suc, ℕ}
 use native.Mathlib.Omega.{arith}
@@ -12,24 +12,26 @@ use Rattle.protocol.specs.Floor.{Floor, Limits, kit, limits, limitsOf, u
 use Rattle.protocol.specs.Events.{Answer, Event, Report, accepted, enter}
 use Rattle.protocol.specs.Groups.{membersOf, onGroup}
 use Rattle.protocol.specs.Order.{placeIn}
-use Rattle.protocol.specs.Handoff.{arrive, bufferedFor, catchUp, catchUpEach, catchUpStop, climb, deepest, largestPlace, onEnter, onFlag, onMove, onRegister, passedOver, placeGiven, roomOf, struck}
+use Rattle.protocol.specs.Handoff.{arrive, bufferedFor, catchUp, catchUpEach, catchUpStop, climb, deepest, largestPlace, onEnter, onFlag, onMove, onRegister, onRetire, passedOver, placeGiven, roomOf, struck}
 use Rattle.protocol.specs.Wired.{buffer, freeRoom, handle, multicastByRow, onAckList, onDelete, onMulticast, onSend, onWire, placeOfNew, withMessage}
 use Rattle.protocol.specs.Wireless.{allAcked, handOver, headAmong, onRadio, queueHead, receive, sendAcks}
 use Rattle.protocol.specs.Deregister.{bufferedRooms, inOrder, insert, isComplete, leave, listsSent, onDeregister, testEach}
 use Rattle.protocol.specs.Claims.{test}
 use Rattle.protocol.specs.Form.{passesForm}
 use Rattle.protocol.specs.Blank.{BlankBeyond}
-use Rattle.protocol.specs.Refusals.{neverEntered, refusal, refusalIf}
+use Rattle.protocol.specs.Refusals.{isNamed, notEntered, refusal, refusalIf}
 use Rattle.protocol.specs.Step.{accept, answer, answers, floorAfter, step}
 use Rattle.protocol.specs.Quiet.{buffersAfter, busyFrom, busyTo, dispatched, firstCart, firstStation, nextEvent, quietAfter, quietCall, quietEvents}
 use Rattle.protocol.specs.PlainLists.{appended, beheaded, entries, exchanges, exchangesFrom, plainAnswer, plainPasses, plainRefusal, plainRun, plainStep}
 use Rattle.protocol.specs.Frames.{bigEndian, fieldsOf, unlisted, eventOf, fieldsRefusal, frameRefusal, frameOf}
 use Rattle.protocol.specs.Printed.{decimal, decimalDigits, hexadecimal, restOf, lineOf, printedRun}
-use Rattle.protocol.specs.Examples.{Given, K1frames, Row, Shown, after, allSent, answered, events, examples, form, frames, framesOn, heldOn, holds, holdsNoText, nearTheLast, octetsOf, outcome, passes, printed, rollsAway}
+use Rattle.protocol.specs.Examples.{Given, K1frames, Row, Shown, after, allSent, answered, events, examples, form, frames, framesOn, heldOn, holds, holdsNoText, nearTheLast, octetsOf, outcome, passes, printed, rollsAway, smallest, stoodStill, wentBack}
 use Rattle.protocol.proofs.Tests.{and-false}
 use Rattle.protocol.proofs.Ready.{Ready, quick-answers, quick-floor, quick-lines, quickAnswer, quickAnswers, quickFloor, quickLines, quickStep, ready-run, ready-unstarted}
 use Rattle.protocol.proofs.SumSteps.{enter-over-all}
 use Rattle.protocol.proofs.QuietCall.{call-runs, else-runs}
+use Rattle.protocol.specs.Route.{retiresNone, sendingsOf}
+use Rattle.protocol.specs.TwoLists.{bothEmpty, item, listsAfter}
 
 -- The starred examples, by computation.
 -- what is computed for a row: with refusal 5 read off the mark
@@ -102,7 +104,7 @@ no-text-blank =
     }
 
 computed : map (λ r. quickOutcome (r .within) (r .given)) examples ≡ map (λ r. r .shown) examples
-unfolding quickOutcome quickLines quickAnswers quickFloor quickStep quickAnswer refusalIf accept frameOf frameRefusal fieldsRefusal fieldsOf bigEndian unlisted eventOf restOf lineOf decimal decimalDigits hexadecimal onEnter onFlag onGroup membersOf onSend onWire onRadio onMove handle onMulticast multicastByRow onAckList onDelete onDeregister bufferedRooms inOrder insert isComplete testEach listsSent leave onRegister arrive passedOver deepest largestPlace placeGiven placeOfNew placeIn catchUpEach catchUp catchUpStop climb bufferedFor roomOf freeRoom struck withMessage buffer receive sendAcks allAcked handOver queueHead headAmong neverEntered passesForm test every count sum first listOf has union minus with without setOf
+unfolding quickOutcome quickLines quickAnswers quickFloor quickStep quickAnswer refusalIf accept frameOf frameRefusal fieldsRefusal fieldsOf bigEndian unlisted eventOf restOf lineOf decimal decimalDigits hexadecimal onEnter onFlag onRetire onGroup membersOf onSend onWire onRadio onMove handle onMulticast multicastByRow onAckList onDelete onDeregister bufferedRooms inOrder insert isComplete testEach listsSent leave onRegister arrive passedOver deepest largestPlace placeGiven placeOfNew placeIn catchUpEach catchUp catchUpStop climb bufferedFor roomOf freeRoom struck withMessage buffer receive sendAcks allAcked handOver queueHead headAmong notEntered isNamed passesForm test every count sum first listOf has union minus with without setOf
 computed = refl
 
 kit-near-the-last : Ready (limitsOf kit) (nearTheLast 65534)
@@ -151,7 +153,7 @@ table-holds =
                                     no-text,
                                     (
                                       no-text,
-                                      (no-text, (u, (tt, (tt, (u, (u, (k, (k, (k, (tt, (tt, tt))))))))))),
+                                      (no-text, (u, (tt, (tt, (u, (u, (tt, (k, (k, (k, (tt, (tt, tt)))))))))))),
                                     ),
                                   ),
                                 ),
@@ -198,7 +200,7 @@ most-passed =
 
 -- THE CART THAT ROLLS AWAY
 rolls-away : heldOn limits (quickFloor limits unstarted rollsAway) ≡ 0
-unfolding quickFloor quickStep refusalIf accept onEnter onFlag onGroup membersOf onSend onWire onRadio onMove handle onMulticast multicastByRow onAckList onDelete onDeregister bufferedRooms inOrder insert isComplete testEach listsSent leave onRegister arrive passedOver deepest largestPlace placeGiven placeOfNew placeIn catchUpEach catchUp catchUpStop climb bufferedFor roomOf freeRoom struck withMessage buffer receive sendAcks allAcked handOver queueHead headAmong neverEntered every count sum first listOf has union minus with without setOf
+unfolding quickFloor quickStep refusalIf accept onEnter onFlag onRetire onGroup membersOf onSend onWire onRadio onMove handle onMulticast multicastByRow onAckList onDelete onDeregister bufferedRooms inOrder insert isComplete testEach listsSent leave onRegister arrive passedOver deepest largestPlace placeGiven placeOfNew placeIn catchUpEach catchUp catchUpStop climb bufferedFor roomOf freeRoom struck withMessage buffer receive sendAcks allAcked handOver queueHead headAmong notEntered every count sum first listOf has union minus with without setOf
 rolls-away = refl
 
 pub rolled-away : heldOn limits (floorAfter limits unstarted rollsAway) ≡ 0
@@ -213,18 +215,18 @@ unfolding closing
 closing-is = quick-floor limits unstarted (take 8 rollsAway) from-unstarted
 
 closing-events : quietEvents limits closing ≡ drop 8 rollsAway
-unfolding closing quietEvents dispatched nextEvent busyFrom busyTo firstStation firstCart step refusal passesForm test quickFloor quickStep refusalIf accept onEnter onFlag onGroup membersOf onSend onWire onRadio onMove handle onMulticast multicastByRow onAckList onDelete onDeregister bufferedRooms inOrder insert isComplete testEach listsSent leave onRegister arrive passedOver deepest largestPlace placeGiven placeOfNew placeIn catchUpEach catchUp catchUpStop climb bufferedFor roomOf freeRoom struck withMessage buffer receive sendAcks allAcked handOver queueHead headAmong neverEntered every count sum first listOf has union minus with without setOf
+unfolding closing quietEvents dispatched nextEvent busyFrom busyTo firstStation firstCart step refusal passesForm test quickFloor quickStep refusalIf accept onEnter onFlag onRetire onGroup membersOf onSend onWire onRadio onMove handle onMulticast multicastByRow onAckList onDelete onDeregister bufferedRooms inOrder insert isComplete testEach listsSent leave onRegister arrive passedOver deepest largestPlace placeGiven placeOfNew placeIn catchUpEach catchUp catchUpStop climb bufferedFor roomOf freeRoom struck withMessage buffer receive sendAcks allAcked handOver queueHead headAmong notEntered every count sum first listOf has union minus with without setOf
 closing-events = refl
 
 closing-started : closing .started ≡ true
-unfolding closing quickFloor quickStep refusalIf accept onEnter onFlag onGroup membersOf onSend onWire onRadio onMove handle onMulticast multicastByRow onAckList onDelete onDeregister bufferedRooms inOrder insert isComplete testEach listsSent leave onRegister arrive passedOver deepest largestPlace placeGiven placeOfNew placeIn catchUpEach catchUp catchUpStop climb bufferedFor roomOf freeRoom struck withMessage buffer receive sendAcks allAcked handOver queueHead headAmong neverEntered every count sum first listOf has union minus with without setOf
+unfolding closing quickFloor quickStep refusalIf accept onEnter onFlag onRetire onGroup membersOf onSend onWire onRadio onMove handle onMulticast multicastByRow onAckList onDelete onDeregister bufferedRooms inOrder insert isComplete testEach listsSent leave onRegister arrive passedOver deepest largestPlace placeGiven placeOfNew placeIn catchUpEach catchUp catchUpStop climb bufferedFor roomOf freeRoom struck withMessage buffer receive sendAcks allAcked handOver queueHead headAmong notEntered every count sum first listOf has union minus with without setOf
 closing-started = refl
 
 closing-ready : Ready limits closing
 closing-ready = let z = ready-run limits unstarted (take 8 rollsAway) from-unstarted in rw closing-is at z
 
 closing-writes : buffersAfter (quickAnswers limits closing (drop 8 rollsAway)) (replicate 512 0) ≡ 0xa1 ∷ replicate 511 0
-unfolding closing quickFloor quickAnswers quickAnswer quickStep refusalIf accept onEnter onFlag onGroup membersOf onSend onWire onRadio onMove handle onMulticast multicastByRow onAckList onDelete onDeregister bufferedRooms inOrder insert isComplete testEach listsSent leave onRegister arrive passedOver deepest largestPlace placeGiven placeOfNew placeIn catchUpEach catchUp catchUpStop climb bufferedFor roomOf freeRoom struck withMessage buffer receive sendAcks allAcked handOver queueHead headAmong neverEntered every count sum first listOf has union minus with without setOf
+unfolding closing quickFloor quickAnswers quickAnswer quickStep refusalIf accept onEnter onFlag onRetire onGroup membersOf onSend onWire onRadio onMove handle onMulticast multicastByRow onAckList onDelete onDeregister bufferedRooms inOrder insert isComplete testEach listsSent leave onRegister arrive passedOver deepest largestPlace placeGiven placeOfNew placeIn catchUpEach catchUp catchUpStop climb bufferedFor roomOf freeRoom struck withMessage buffer receive sendAcks allAcked handOver queueHead headAmong notEntered every count sum first listOf has union minus with without setOf
 closing-writes = refl
 
 pub closed : (quietEvents limits (floorAfter limits unstarted (take 8 rollsAway)) ≡ drop 8 rollsAway)
@@ -245,5 +247,14 @@ closed =
 
 -- THE PROGRAM OF THE PLAIN LISTS, on the frames of K1
 pub lists-of-K1 : plainRun limits K1frames ≡ octetsOf "9 1 0\n"
-unfolding plainRun exchanges exchangesFrom plainAnswer plainStep plainRefusal plainPasses appended beheaded entries step answer refusal passesForm test refusalIf accept frameOf frameRefusal fieldsRefusal fieldsOf bigEndian unlisted eventOf decimal decimalDigits onEnter onFlag onGroup membersOf onSend onWire onRadio onMove handle onMulticast multicastByRow onAckList onDelete onDeregister bufferedRooms inOrder insert isComplete testEach listsSent leave onRegister arrive passedOver deepest largestPlace placeGiven placeOfNew placeIn catchUpEach catchUp catchUpStop climb bufferedFor roomOf freeRoom struck withMessage buffer receive sendAcks allAcked handOver queueHead headAmong neverEntered every count sum first listOf has union minus with without setOf
+unfolding plainRun exchanges exchangesFrom plainAnswer plainStep plainRefusal plainPasses appended beheaded entries step answer refusal passesForm test refusalIf accept frameOf frameRefusal fieldsRefusal fieldsOf bigEndian unlisted eventOf decimal decimalDigits onEnter onFlag onRetire onGroup membersOf onSend onWire onRadio onMove handle onMulticast multicastByRow onAckList onDelete onDeregister bufferedRooms inOrder insert isComplete testEach listsSent leave onRegister arrive passedOver deepest largestPlace placeGiven placeOfNew placeIn catchUpEach catchUp catchUpStop climb bufferedFor roomOf freeRoom struck withMessage buffer receive sendAcks allAcked handOver queueHead headAmong notEntered every count sum first listOf has union minus with without setOf
 lists-of-K1 = refl
+
+-- A RUN WITH A RETIREMENT: the same sends, nothing held at either end, and other lists
+pub went-back : ((u : ℕ) → sendingsOf smallest unstarted stoodStill u ≡ sendingsOf smallest unstarted wentBack u)
+    × ((heldOn smallest (floorAfter smallest unstarted stoodStill) ≡ 0) × ((heldOn smallest (floorAfter smallest unstarted wentBack) ≡ 0)
+    × ((retiresNone smallest unstarted stoodStill ≡ true) × ((retiresNone smallest unstarted wentBack ≡ false)
+    × ((listsAfter smallest unstarted bothEmpty stoodStill .received 0 0 ≡ item 0 (0xa1 ∷ []) ∷ [])
+    × (listsAfter smallest unstarted bothEmpty wentBack .received 0 0 ≡ []))))))
+unfolding sendingsOf retiresNone floorAfter listsAfter step answer refusal refusalIf accept frameOf frameRefusal fieldsRefusal fieldsOf bigEndian unlisted eventOf restOf lineOf decimal decimalDigits hexadecimal onEnter onFlag onRetire onGroup membersOf onSend onWire onRadio onMove handle onMulticast multicastByRow onAckList onDelete onDeregister bufferedRooms inOrder insert isComplete testEach listsSent leave onRegister arrive passedOver deepest largestPlace placeGiven placeOfNew placeIn catchUpEach catchUp catchUpStop climb bufferedFor roomOf freeRoom struck withMessage buffer receive sendAcks allAcked handOver queueHead headAmong notEntered isNamed passesForm test every count sum first listOf has union minus with without setOf
+went-back = ((λ u. refl), (refl, (refl, (refl, (refl, (refl, refl))))))

@@ -149,7 +149,7 @@ facts-of-invariant M F G I X =
 -- THE FORM RULE: kept by every step, and it bounds the lines
 pub facts-step : (M : Limits) (F : Floor) (e : Event) → FormFacts M F → FormFacts M (step M F e)
 facts-step M F e X =
-    facts-of-invariant M (step M F e) (note (asSent F e) (answer M F e) (past M F X)) (step-ok M F (past M F X) (some-history M F X) e)
+    facts-of-invariant M (step M F e) (note (asSent F e) (answer M F e) (past M F X)) (step-ok M F (past M F X) (some-history M F X) (X .on-lines) e)
     (step-lines M F (past M F X) (some-history M F X) (X .on-lines) e)
 
 pub facts-bound : (M : Limits) (F : Floor) → FormFacts M F → onTheLines (F .stations) (F .lines) ≤ M .held * (F .stations + F .stations + F .carts) + F .carts

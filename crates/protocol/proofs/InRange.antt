@@ -10,7 +10,7 @@ use Rattle.protocol.specs.CartSets.{union}
 use Rattle.protocol.specs.Floor.{Floor, Limits, Record, ackList, at, delete, deregister, multicast, register}
 use Rattle.protocol.specs.Events.{Answer, Done, Event, accepted, refused}
 use Rattle.protocol.specs.Groups.{onGroup}
-use Rattle.protocol.specs.Handoff.{entryOf, onEnter, onFlag, onMove, onRegister, passedOver, roomOf}
+use Rattle.protocol.specs.Handoff.{entryOf, onEnter, onFlag, onMove, onRegister, onRetire, passedOver, roomOf}
 use Rattle.protocol.specs.Deregister.{onDeregister}
 use Rattle.protocol.specs.Wired.{buffer, handle, localRow, multicastByRow, onAckList, onDelete, onMulticast, passesOver}
 use Rattle.protocol.specs.Wireless.{allAcked, handOver, receive, sendAcks, sendAcksIfAll}
@@ -127,7 +127,7 @@ module _ (M : Limits) (F : Floor) (G : History) (I : Invariant M F G) (S : Sized
       climbs-most D t c s n x one e f = rw (eqb-self c, eqb-self s) (let a = catch-up-ascent M D t c s .below in omega arith)
 
   pub step-most : (e : Event) → PassesAtMost (max (F .stations * suc (M .last)) (F .carts)) (answer M F e)
-  unfolding onEnter onFlag onGroup onMove most
+  unfolding onEnter onFlag onRetire onGroup onMove most
   step-most =
       by-step M F (λ e X a. PassesAtMost most a) (I .started) (λ e r. tt)
       (λ t c may. arrival-most F t c (λ s. 0) refl (λ s. refl) (may .station))
@@ -136,6 +136,7 @@ module _ (M : Limits) (F : Floor) (G : History) (I : Invariant M F G) (S : Sized
       (λ t c buffer m may. radio-most m t c may)
       (λ c to may. omega arith)
       (λ c b may. omega arith)
+      (λ c may. omega arith)
       (λ g set may. omega arith)
       (λ s g text m may. omega arith)
       (λ s set text m may. omega arith)

@@ -13,6 +13,7 @@ pub mod WiredSteps
 pub mod RadioStep
 pub mod DeregisterStep
 pub mod SendStep
+pub mod RetireStep
 pub mod InvariantStep
 pub mod Demand3
 pub mod Counting
@@ -46,6 +47,7 @@ pub mod QuietCall
 pub mod Places
 pub mod Found
 pub mod Texts
+pub mod ListsRun
 pub mod Dispatch
 pub mod PlainLaws
 pub mod PlainRun

@@ -54,7 +54,7 @@ pub reached-step : (M : Limits) (F : Floor) (G : History) (e : Event) → Reache
 reached-step M F G e R =
     let z = step-live M F G (R .fits-history) (R .on-lines) (R .live) (R .lists-wait) e in
     record {
-      fits-history = step-ok M F G (R .fits-history) e;
+      fits-history = step-ok M F G (R .fits-history) (R .on-lines) e;
       on-lines = step-lines M F G (R .fits-history) (R .on-lines) e;
       live = z .0;
       lists-wait = z .1;
@@ -134,6 +134,7 @@ module _ (M : Limits) (F : Floor) (G : History) (I : Invariant M F G) (A : AllSt
       (on-cond (λ (X : Floor). AllSteady X) (allAcked (receive F m t c) m t) (λ b. A) (λ b. A)))
       (λ c to may w. absurd w)
       (λ c b may w. absurd w)
+      (λ c may w. absurd w)
       (λ g set may w. absurd w)
       (λ s g text m may w. absurd w)
       (λ s set text m may w. absurd w)

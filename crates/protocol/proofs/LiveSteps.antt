@@ -13,7 +13,7 @@ use Rattle.protocol.specs.Floor.{Floor, Limits, Place, Record, ackList, 
 use Rattle.protocol.specs.Events.{Done, Event}
 use Rattle.protocol.specs.Step.{step}
 use Rattle.protocol.specs.Groups.{onGroup}
-use Rattle.protocol.specs.Handoff.{arrive, entryOf, onEnter, onFlag, onMove, onRegister, roomOf, rowOf, struck}
+use Rattle.protocol.specs.Handoff.{arrive, entryOf, onEnter, onFlag, onMove, onRegister, onRetire, roomOf, rowOf, struck}
 use Rattle.protocol.specs.Wired.{addAcks, buffer, handle, isQueued, isStruck, localRow, multicastByRow, onAckList, onDelete, onMulticast, passesOver, raiseExpected, withMessage, unbuffer}
 use Rattle.protocol.specs.Wireless.{allAcked, handOver, receive, sendAcks, sendAcksIfAll}
 use Rattle.protocol.specs.Deregister.{bufferedRooms, isComplete, leave, onDeregister}
@@ -22,7 +22,7 @@ use Rattle.protocol.proofs.Tests.{and-false, and-intro, and-left, and-r
 use Rattle.protocol.proofs.SetLaws.{has-minus, has-setOf, has-some, has-with, has-without, has-zero, member-below, setOf-member}
 use Rattle.protocol.proofs.FloorLaws.{at-home, at-is, local-one, outside-is}
 use Rattle.protocol.proofs.InOrder.{EachOf, acks-after, all-acked-same, among, completed, copy-after, deregister-splits, each-map, handedOff, in-order-among, send-each-head, send-each-is, sendEach, those-among}
-use Rattle.protocol.proofs.Accepted.{MayMove, MayRadio, MaySend, MayWire, by-step, named-has-entered, unlined}
+use Rattle.protocol.proofs.Accepted.{MayMove, MayRadio, MayRetire, MaySend, MayWire, by-step, named-has-entered, unlined}
 use Rattle.protocol.proofs.Invariant.{Held, History, Invariant}
 use Rattle.protocol.proofs.Updates.{counts-up-le}
 use Rattle.protocol.proofs.CatchUp.{arrive-at-once, catchUpAtOnce, one-at-once, room-none, room-some}
@@ -759,6 +759,32 @@ unspoken-live M F flags groups L W = (
   W,
 )
 
+-- RETIRE: cart c is local to no station, and no held message names it
+retired-live : (M : Limits) (F : Floor) (G : History) (c : ℕ) → MayRetire M F c → Invariant M F G → Live M F never → ListsWait M F → Live M
+    (onRetire F c .floor) never × ListsWait M (onRetire F c .floor)
+unfolding onRetire
+retired-live M F G c may I L W =
+    let P = update (F .place) c outside in
+    let home : (d u : ℕ) → localTo (P d) u ≡ true → (d ≡ c → ⊥) × (localTo (F .place d) u ≡ true) =
+    λ d u. on-update (λ p. localTo p u ≡ true → (d ≡ c → ⊥) × (localTo (F .place d) u ≡ true)) (F .place) c outside d (λ z e. clash false e refl)
+    (λ z e. (z, e)) in
+    let not-c : (m d : ℕ) → Held M (F .waiting) m → has (F .named m) d ≡ true → d ≡ c → ⊥ = λ m d h n z. may .unnamed m (h .slot) (h .some)
+    (rw z at n) in (
+      record {
+        queue-come = L .queue-come;
+        acks-come = L .acks-come;
+        behind-queued = λ d u s q e. let w = home d u e in rw (ne-eqb d c (w .0)) (λ b. L .behind-queued d u s q (w .1) b);
+        passed-listed = λ m u d h lu b e. let w = home d u e in rw (ne-eqb d c (w .0)) (λ y p. L .passed-listed m u d h lu b (w .1) y p);
+        passed-acks = λ m d h n. rw (ne-eqb d c (not-c m d h n)) (λ p. L .passed-acks m d h n p);
+        named-entered = λ m d h n. rw (ne-eqb d c (not-c m d h n)) (L .named-entered m d h n);
+        deletes-come = L .deletes-come;
+      },
+      λ m u d h lu q.
+          let r = waits-for F m u (W m u d h lu q) in
+          let ne = not-c m (r .0) h (I .within m u (r .0) h lu (r .3)) in
+          not-complete (onRetire F c .floor) m u (r .0) (r .1) (rw (ne-eqb (r .0) c ne) (r .2)) (r .3) (r .4),
+    )
+
 -- EVERY EVENT
 module _ (M : Limits) (F : Floor) (G : History) (I : Invariant M F G) (X : LineFacts M F) (L : Live M F never) (W : ListsWait M F) where
   abbrev Alive : Floor → Type 0
@@ -816,6 +842,7 @@ module _ (M : Limits) (F : Floor) (G : History) (I : Invariant M F G) (X : LineF
       (λ t c buffer m may. radio-live M F G m t c may I X L W)
       (λ c to may. move-live M F c to may L W)
       (λ c b may. unspoken-live M F (update (F .steady) c b) (F .groups) L W)
+      (λ c may. retired-live M F G c may I L W)
       (λ g set may. unspoken-live M F (F .steady) (update (F .groups) g set) L W)
       (λ s g text m may. (send-live M F G s (F .groups g) text m may I L W, send-waits M F G s (F .groups g) text m may I L W))
       (λ s set text m may. (send-live M F G s set text m may I L W, send-waits M F G s set text m may I L W))

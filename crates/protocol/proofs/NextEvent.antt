@@ -10,7 +10,7 @@ use borrow.Author.Tests.{eq-eqb, eqb-true, le-ltb, lt-leb, not-true}
 use Rattle.protocol.specs.Folds.{byOption, isEmpty, isNone}
 use Rattle.protocol.specs.CartSets.{has}
 use Rattle.protocol.specs.Floor.{Floor, Limits, Record, at, mostText}
-use Rattle.protocol.specs.Events.{Event, enter, flag, group, move, radio, send, sendGroup, sendLong, start, wire}
+use Rattle.protocol.specs.Events.{Event, enter, flag, group, move, radio, retire, send, sendGroup, sendLong, start, wire}
 use Rattle.protocol.specs.Wireless.{queueHead}
 use Rattle.protocol.specs.Form.{passesForm}
 use Rattle.protocol.specs.Refusals.{refusal, refusalIf}
@@ -68,6 +68,7 @@ Next M F (some (flag c b)) = ⊥
 Next M F (some (group g set)) = ⊥
 Next M F (some (sendGroup s g text)) = ⊥
 Next M F (some (sendLong s set text)) = ⊥
+Next M F (some (retire c)) = ⊥
 
 module _ (F : Floor) where
   to-is : (i : ℕ) → IsFirst (F .stations) (λ j. not (isEmpty (F .lines i j))) (busyTo F i)

@@ -11,10 +11,10 @@ use borrow.Author.Tests.{eqb-true, le-ltb, lt-ltb, ltb-true, ne-eqb, not-true}
 use Rattle.protocol.specs.Folds.{byOption, count}
 use Rattle.protocol.specs.CartSets.{union}
 use Rattle.protocol.specs.Floor.{Floor, Limits, Record, ackList, cartsThat, delete, deregister, multicast, register}
-use Rattle.protocol.specs.Events.{Answer, Done, Event, Report, accepted, enter, flag, group, move, radio, refused, send, sendGroup, sendLong, start, wire}
+use Rattle.protocol.specs.Events.{Answer, Done, Event, Report, accepted, enter, flag, group, move, radio, refused, retire, send, sendGroup, sendLong, start, wire}
 use Rattle.protocol.specs.Groups.{onGroup}
 use Rattle.protocol.specs.Order.{placeIn, standsBefore}
-use Rattle.protocol.specs.Handoff.{bufferedFor, catchUp, catchUpEach, catchUpStop, deepest, largestPlace, onEnter, onFlag, onMove, onRegister, placeGiven, roomOf}
+use Rattle.protocol.specs.Handoff.{bufferedFor, catchUp, catchUpEach, catchUpStop, deepest, largestPlace, onEnter, onFlag, onMove, onRegister, onRetire, placeGiven, roomOf}
 use Rattle.protocol.specs.Deregister.{inOrder, onDeregister}
 use Rattle.protocol.specs.Wired.{handle, isQueued, localRow, multicastByRow, onAckList, onDelete, onMulticast, placeOfNew}
 use Rattle.protocol.specs.Wireless.{handOver, queueHead}
@@ -152,7 +152,7 @@ module _ (M : Limits) (F : Floor) (begun : F .started ≡ true) where
   handled-place i j (register c row) l may = largest-most M (F .stations) _ j c
 
   step-places : (e : Event) → PlacesAtMost (M .held) (answer M F e)
-  unfolding onEnter onFlag onGroup onMove handOver deepest
+  unfolding onEnter onFlag onRetire onGroup onMove handOver deepest
   step-places =
       by-step M F (λ e X a. PlacesAtMost (M .held) a) begun (λ e r. tt)
       (λ t c may. largest-most M (F .stations) _ t c)
@@ -161,6 +161,7 @@ module _ (M : Limits) (F : Floor) (begun : F .started ≡ true) where
       (λ t c buffer m may. given-most M _ t c (F .initiator m))
       (λ c to may. omega arith)
       (λ c b may. omega arith)
+      (λ c may. omega arith)
       (λ g set may. omega arith)
       (λ s g text m may. omega arith)
       (λ s set text m may. omega arith)
@@ -180,6 +181,7 @@ unstarted-place M F b t (sendGroup s g text) r =
     clash b t (passed-check 5 b _ (omega arith) (passed-check 4 (ltb (M .text) (length text)) _ (omega arith) r .1) .0)
 unstarted-place M F b t (sendLong s set text) r =
     clash b t (passed-check 5 b _ (omega arith) (passed-check 4 (notLong M (length text)) _ (omega arith) r .1) .0)
+unstarted-place M F b t (retire c) r = clash b t (passed-check 5 b _ (omega arith) r .0)
 
 pub places-most : (M : Limits) (F : Floor) (e : Event) (l : Report) → answer M F e ≡ accepted l → l .q ≤ M .held
 unfolding refusal

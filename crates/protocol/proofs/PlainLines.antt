@@ -10,7 +10,7 @@ use lib.Dec.{ltb}
 use lib.ListN.{drop, length}
 use borrow.Author.Tests.{ne-eqb}
 use Rattle.protocol.specs.Floor.{Floor, Limits, unstarted}
-use Rattle.protocol.specs.Events.{Answer, Event, Report, accepted, enter, flag, group, move, radio, refused, send, sendGroup, sendLong, start, wire}
+use Rattle.protocol.specs.Events.{Answer, Event, Report, accepted, enter, flag, group, move, radio, refused, retire, send, sendGroup, sendLong, start, wire}
 use Rattle.protocol.specs.Groups.{asSent}
 use Rattle.protocol.specs.Form.{passesForm}
 use Rattle.protocol.specs.Refusals.{refusal, refusalIf, wrongSize}
@@ -62,6 +62,7 @@ line-met M F P index (radio t c buffer) (accepted l) m =
     rw (head-answered M P (l .a) c l m) (append-nil (receiptLine index (radio t c buffer) (accepted l)))
 line-met M F P index (move c to) a m = refl
 line-met M F P index (flag c b) a m = refl
+line-met M F P index (retire c) a m = refl
 line-met M F P index (group g set) a m = refl
 line-met M F P index (sendGroup s g text) (refused r) m = refl
 line-met M F P index (sendGroup s g text) (accepted l) m = refl
@@ -142,6 +143,7 @@ first-step M index (wire i j) = first-refused M index (wire i j) 4 (rw (unstarte
 first-step M index (radio t c buffer) = first-refused M index (radio t c buffer) 4 (rw (unstarted-breaks M)) refl
 first-step M index (move c to) = first-refused M index (move c to) 4 (rw (unstarted-breaks M)) refl
 first-step M index (flag c b) = first-refused M index (flag c b) 4 (rw (unstarted-breaks M)) refl
+first-step M index (retire c) = first-refused M index (retire c) 4 (rw (unstarted-breaks M)) refl
 first-step M index (group g set) = first-refused M index (group g set) 4 (rw (unstarted-breaks M)) refl
 first-step M index (sendGroup s g text) =
     by-test (ltb (M .text) (length text))

@@ -12,9 +12,9 @@ use borrow.Author.Tests.{eq-eqb, le-leb, le-ltb, leb-true, lt-leb, ne-eqb}
 use Rattle.protocol.specs.Folds.{count, sum, update2}
 use Rattle.protocol.specs.CartSets.{has}
 use Rattle.protocol.specs.Floor.{Floor, Limits, at, isHeld, justStarted, mostText}
-use Rattle.protocol.specs.Events.{Answer, Event, Report, accepted, enter, flag, group, move, radio, refused, send, sendGroup, sendLong, start, wire}
+use Rattle.protocol.specs.Events.{Answer, Event, Report, accepted, enter, flag, group, move, radio, refused, retire, send, sendGroup, sendLong, start, wire}
 use Rattle.protocol.specs.Groups.{asSent, onGroup}
-use Rattle.protocol.specs.Handoff.{onEnter, onFlag, onMove}
+use Rattle.protocol.specs.Handoff.{onEnter, onFlag, onMove, onRetire}
 use Rattle.protocol.specs.Wired.{handle, withMessage}
 use Rattle.protocol.specs.Wireless.{handOver}
 use Rattle.protocol.specs.Form.{bit}
@@ -22,18 +22,20 @@ use Rattle.protocol.specs.Step.{answer, floorAfter, step}
 use Rattle.protocol.specs.TwoLists.{Item, item}
 use Rattle.protocol.specs.PlainLists.{Plain, PlainCall, appended, beheaded, callOf, entries, fed, fedBy, mostEntries, plainAccept, plainAfter, plainPasses, plainRefusal, plainSend, plainStart, plainStarted, plainStep, plainTake}
 use Rattle.protocol.proofs.Tests.{and-intro, and-left, and-right, both-equal, by-eq, by-test, clash, eqb-self, on-cond, update2-at}
-use Rattle.protocol.proofs.Accepted.{MayRadio, MaySend, by-step, unlined}
+use Rattle.protocol.proofs.Accepted.{MayRadio, MayRetire, MaySend, by-step, unlined}
 use Rattle.protocol.proofs.Invariant.{Entry, History, Invariant, blank, names, naming}
 use Rattle.protocol.proofs.Updates.{append-nil, handed}
 use Rattle.protocol.proofs.SendStep.{noted}
 use Rattle.protocol.proofs.InvariantStep.{note, note-refused}
-use Rattle.protocol.proofs.Demand3.{naming-append, naming-more, nothing, step-size}
+use Rattle.protocol.proofs.Demand3.{naming-append, naming-more, naming-none, nothing, step-size, two-lists}
 use Rattle.protocol.proofs.Counting.{count-mono, count-off, sum-le, sum-mono, sum-only, sum-swap}
 use Rattle.protocol.proofs.SumSteps.{sum-count}
 use Rattle.protocol.proofs.SumRun.{initiator-on-floor}
 use Rattle.protocol.proofs.Sized.{CountsFit}
 use Rattle.protocol.proofs.LiveRun.{Reached, reached-start, reached-step}
 use Rattle.protocol.proofs.PlainLaws.{entries-more, plain-form-kept, plain-form-started, plain-rule-of}
+use Rattle.protocol.proofs.ListsRun.{nothing-owed}
+use Rattle.protocol.proofs.RetireStep.{forget, forgotten, length-forget, names-forget, naming-forget}
 
 -- LISTS
 
@@ -221,6 +223,7 @@ fed-refused (wire i j) r = refl
 fed-refused (radio t c buffer) r = refl
 fed-refused (move c to) r = refl
 fed-refused (flag c b) r = refl
+fed-refused (retire c) r = refl
 fed-refused (group g set) r = refl
 fed-refused (sendGroup s g text) r = refl
 fed-refused (sendLong s set text) r = refl
@@ -321,6 +324,26 @@ module _ (M : Limits) (F : Floor) (G : History) (P : Plain) (B : Beside M F G P)
         met = (z, rw q);
       })
 
+  retire-goes : (c : ℕ) → MayRetire M F c → (a : Answer) → Goes M P P (forgotten G c) none a
+  retire-goes c may a =
+      record {
+        tracks = record {
+          counted = λ s. T .counted s ∙ sym (length-forget c (G .sends s));
+          rest = λ s d. by-eq d c
+              (λ z. rw (z, eqb-self c) (naming-none c 0 (forget c (G .sends s))
+              (λ n. by-test (names (forget c (G .sends s)) n c) (λ q. absurd (names-forget c (G .sends s) n c q .1 refl)) (λ q. q)) ∙ sym
+              (list-empty s)))
+              (λ z. rw (ne-eqb d c z) (naming-forget c d 0 (G .sends s) z ∙ T .rest s d));
+        };
+        stations = refl;
+        carts = refl;
+        met = tt;
+      }
+    where
+      list-empty : (s : ℕ) → P .list s c ≡ []
+      list-empty s = append-same (G .received s c) (P .list s c) []
+          (sym (T .rest s c) ∙ two-lists M F G I s c (may .cart) .equal (nothing-owed M F s c (may .unnamed)) ∙ sym (append-nil (G .received s c)))
+
   -- every event
   abbrev Next : Event → Floor → Answer → Type 0
   Next e X a = Invariant M X (note (asSent F e) a G) → Goes M P (fed M P (fedBy (asSent F e) a)) (note (asSent F e) a G) (fedBy (asSent F e) a) a
@@ -336,6 +359,7 @@ module _ (M : Limits) (F : Floor) (G : History) (P : Plain) (B : Beside M F G P)
       (λ t c buffer m may J. radio-goes t c buffer m may J)
       (λ c to may J. same-goes (accepted (onMove F c to .report)))
       (λ c b may J. same-goes (accepted (onFlag F c b .report)))
+      (λ c may J. retire-goes c may (accepted (onRetire F c .report)))
       (λ g set may J. same-goes (accepted (onGroup F g set .report)))
       (λ s g text m may J. send-goes s (F .groups g) text m may _ J)
       (λ s set text m may J. send-goes s set text m may _ J)

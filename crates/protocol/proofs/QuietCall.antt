@@ -108,6 +108,7 @@ text-fits M F begun S =
     (λ t c buffer m may w. S .messages .text m (head-first M F t m (may .is-head) .0))
     (λ c to may w. absurd w)
     (λ c b may w. absurd w)
+    (λ c may w. absurd w)
     (λ g set may w. absurd w)
     (λ s g text m may w. absurd w)
     (λ s set text m may w. absurd w)

@@ -40,6 +40,7 @@ step-falls M F G I X =
     (λ t c buffer m may w. radio-falls M F G I X m t c may)
     (λ c to may w. absurd w)
     (λ c b may w. absurd w)
+    (λ c may w. absurd w)
     (λ g set may w. absurd w)
     (λ s g text m may w. absurd w)
     (λ s set text m may w. absurd w)

@@ -10,7 +10,7 @@ use borrow.Author.Tests.{eqb-true, lt-leb, ne-eqb}
 use Rattle.protocol.specs.Folds.{update}
 use Rattle.protocol.specs.CartSets.{has, setOf}
 use Rattle.protocol.specs.Floor.{Floor, Limits, at, isMessage}
-use Rattle.protocol.specs.Events.{Answer, Event, accepted, enter, flag, group, move, radio, refused, send, wire}
+use Rattle.protocol.specs.Events.{Answer, Event, accepted, enter, flag, group, move, radio, refused, retire, send, wire}
 use Rattle.protocol.specs.Groups.{asSent}
 use Rattle.protocol.specs.Handoff.{roomOf}
 use Rattle.protocol.specs.Wired.{withMessage}
@@ -72,6 +72,7 @@ step-reads M F B h =
     (λ t c buffer m may w. read-held M F h X m (X .queues m t c (may .queued) .held))
     (λ c to may. no-radio)
     (λ c b may. no-radio)
+    (λ c may. no-radio)
     (λ g set may. no-radio)
     (λ s g text m may. no-radio)
     (λ s set text m may. no-radio)
@@ -111,6 +112,7 @@ step-send-reads M F begun =
     (λ t c buffer m may B h s set text q. impossible (let z : radio t c buffer ≡ send s set text = q in cc))
     (λ c to may B h s set text q. impossible (let z : move c to ≡ send s set text = q in cc))
     (λ c b may B h s set text q. impossible (let z : flag c b ≡ send s set text = q in cc))
+    (λ c may B h s set text q. impossible (let z : retire c ≡ send s set text = q in cc))
     (λ g x may B h s set text q. impossible (let z : group g x ≡ send s set text = q in cc))
     (λ u g y m may B h s set text q.
     let z : send u (F .groups g) y ≡ send s set text = q in

@@ -1,4 +1,4 @@
-use mathlib.Core.Path.{ap, refl, _∙_, _≡_}
+use mathlib.Core.Path.{ap, refl, sym, _∙_, _≡_}
 use mathlib.Core.Bool.{_&&_, Bool, cond, false, not, true}
 use mathlib.Core.Logic.{_⊎_, inl, inr}
 use mathlib.Core.Option.{none, some}
@@ -7,26 +7,26 @@ use Prim.Native.Nat.{_%_, _+_, _/_, _<_, suc, zero, ℕ, _≤_}
 use native.Mathlib.Omega.{arith}
 use lib.Dec.{eqb, leb, ltb}
 use lib.ListN.{length}
-use borrow.Author.Tests.{eqb-true, le-ltb, lt-leb, lt-ltb, ne-eqb, not-true}
-use Rattle.protocol.specs.Folds.{isEmpty, isNone, sum, update}
+use borrow.Author.Tests.{eqb-false, eqb-true, le-ltb, lt-leb, lt-ltb, ne-eqb, not-true}
+use Rattle.protocol.specs.Folds.{every, isEmpty, isNone, sum, update}
 use Rattle.protocol.specs.CartSets.{has, union, without}
-use Rattle.protocol.specs.Floor.{Floor, Limits, Place, ackList, at, entered, isAt, isHeld, isLocal, register, setGroups, setPlace, setTexts}
-use Rattle.protocol.specs.Events.{Done, flag, group, radio, send, sendGroup, sendLong, start}
+use Rattle.protocol.specs.Floor.{Floor, Limits, Place, ackList, at, entered, isAt, isHeld, isLocal, moving, outside, register, setGroups, setNext, setPlace, setTexts}
+use Rattle.protocol.specs.Events.{Answer, Done, accepted, enter, flag, group, radio, refused, retire, send, sendGroup, sendLong, start}
 use Rattle.protocol.specs.Groups.{onGroup}
 use Rattle.protocol.specs.Store.{notLong, storeUsed, storedOf}
 use Rattle.protocol.specs.Order.{placeIn}
-use Rattle.protocol.specs.Handoff.{arrive, catchUp, catchUpEach, catchUpStop, entryOf, onMove, onRegister, roomOf, rowOf, struck, withRow}
+use Rattle.protocol.specs.Handoff.{arrive, catchUp, catchUpEach, catchUpStop, entryOf, onMove, onRegister, onRetire, roomOf, rowOf, struck, withRow}
 use Rattle.protocol.specs.Wired.{buffer, freeRoom, localRow, multicastByRow, onAckList, placeOfNew, unbuffer}
 use Rattle.protocol.specs.Wireless.{allAcked, handOver, receive, sendAcks, sendAcksIfAll, standsBefore}
 use Rattle.protocol.specs.Deregister.{bufferedRooms, isComplete, leave, onDeregister, sendIfComplete, testEach}
 use Rattle.protocol.specs.Claims.{True}
 use Rattle.protocol.specs.Form.{formRule}
-use Rattle.protocol.specs.Refusals.{neverEntered, noCart, noGroup, noStation, refusalIf, strangers, undefined}
+use Rattle.protocol.specs.Refusals.{isNamed, noCart, noGroup, noStation, notEntered, refusalIf, strangers, undefined}
 use Rattle.protocol.specs.Frames.{Fields, fieldsRefusal, unlisted}
-use Rattle.protocol.specs.TwoLists.{Item, item}
+use Rattle.protocol.specs.TwoLists.{Item, Lists, item, listsStep}
 use Rattle.protocol.specs.PlainLists.{Plain, appended, beheaded}
-use Rattle.protocol.proofs.Tests.{and-false, and-left, and-right, by-lt, by-option, by-test, clash, eqb-self, first-nowhere, on-cond, on-option, or-false, or-right}
-use Rattle.protocol.proofs.SetLaws.{has-setOf, has-with, has-without}
+use Rattle.protocol.proofs.Tests.{and-false, and-left, and-right, and-true, by-lt, by-option, by-test, clash, eqb-self, every-all, every-at, first-nowhere, on-cond, on-option, or-false, or-right}
+use Rattle.protocol.proofs.SetLaws.{has-setOf, has-with, has-without, somebody}
 
 -- "Readings that lose or double a correction": for each of them, what the written steps do instead. Behind them, for each later request, the
 -- plain facts that a wrong reading of it would break.
@@ -91,13 +91,15 @@ complete-is F t m e =
 -- A CORRECTION WITH NO TEXT: "24 empty text, after 12 and before 13"
 
 -- of a send with no text that passes 8, 9 and 11: 12 comes before 24
-pub never-entered-is-12 : (M : Limits) (F : Floor) (s set : ℕ) → noStation F s ≡ false → strangers F set ≡ false → eqb set 0 ≡ false → neverEntered F set ≡ true
+pub not-entered-before-24 : (M : Limits) (F : Floor) (s set : ℕ) → noStation F s ≡ false → strangers F set ≡ false → eqb set 0 ≡ false
+    → notEntered F set ≡ true
     → refusalIf M F false (send s set []) ≡ 12
 unfolding refusalIf
-never-entered-is-12 M F s set a8 a9 a11 a12 = rw (le-ltb (M .text) 0 (omega arith), a8, a9, a11, a12)
+not-entered-before-24 M F s set a8 a9 a11 a12 = rw (le-ltb (M .text) 0 (omega arith), a8, a9, a11, a12)
 
 -- and 24 before 13 and 14: whatever number the station has used, and whatever is held
-pub no-text-is-24 : (M : Limits) (F : Floor) (s set : ℕ) → noStation F s ≡ false → strangers F set ≡ false → eqb set 0 ≡ false → neverEntered F set ≡ false
+pub no-text-is-24 : (M : Limits) (F : Floor) (s set : ℕ) → noStation F s ≡ false → strangers F set ≡ false → eqb set 0 ≡ false → notEntered F set
+    ≡ false
     → refusalIf M F false (send s set []) ≡ 24
 unfolding refusalIf
 no-text-is-24 M F s set a8 a9 a11 a12 = rw (le-ltb (M .text) 0 (omega arith), a8, a9, a11, a12)
@@ -145,7 +147,7 @@ freed-by-the-last F m t k =
 
 -- "27 .., after 14": of a long send that passes all before it
 pub full-is-27 : (M : Limits) (F : Floor) (s set : ℕ) (text : List ℕ) → notLong M (length text) ≡ false → noStation F s ≡ false
-    → strangers F set ≡ false → eqb set 0 ≡ false → neverEntered F set ≡ false → F .sent s ≤ M .last → isNone (freeRoom M F) ≡ false
+    → strangers F set ≡ false → eqb set 0 ≡ false → notEntered F set ≡ false → F .sent s ≤ M .last → isNone (freeRoom M F) ≡ false
     → refusalIf M F false (sendLong s set text) ≡ cond (ltb (M .store) (storeUsed M (F .waiting) (F .text) + length text)) 27 0
 unfolding refusalIf
 full-is-27 M F s set text a4 a8 a9 a11 a12 a13 a14 = rw (a4, a8, a9, a11, a12, le-ltb (M .last) (F .sent s) a13, a14)
@@ -194,14 +196,14 @@ pub unsteady-is-25 : (M : Limits) (F : Floor) (t c buffer : ℕ) → noStation F
 unfolding refusalIf
 unsteady-is-25 M F t c buffer a8 a9 a16 a25 = rw (a8, a9, a16, a25)
 
--- "for kind 6, 18 if never entered, after 9"
+-- for kind 6, 18 "after 9", where the cart is "not now entered"
 pub no-cart-is-9 : (M : Limits) (F : Floor) (c : ℕ) (b : Bool) → noCart F c ≡ true → refusalIf M F false (flag c b) ≡ 9
 unfolding refusalIf
 no-cart-is-9 M F c b a9 = rw a9
 
-pub never-in-is-18 : (M : Limits) (F : Floor) (c : ℕ) (b : Bool) → noCart F c ≡ false → entered (F .place c) ≡ false → refusalIf M F false (flag c b) ≡ 18
+pub not-in-is-18 : (M : Limits) (F : Floor) (c : ℕ) (b : Bool) → noCart F c ≡ false → entered (F .place c) ≡ false → refusalIf M F false (flag c b) ≡ 18
 unfolding refusalIf
-never-in-is-18 M F c b a9 a18 = rw (a9, a18)
+not-in-is-18 M F c b a9 a18 = rw (a9, a18)
 
 -- "in the other field, 1 for steady or 0 for not; 2 to 15 there is refusal 3"
 pub other-flag-is-3 : (M : Limits) (f : Fields) (behind : ℕ) → f .kind ≡ 6 → 2 ≤ f .other → fieldsRefusal M f behind ≡ 3
@@ -257,12 +259,12 @@ pub strangers-are-9 : (M : Limits) (F : Floor) (g set : ℕ) → strangers F set
 unfolding refusalIf
 strangers-are-9 M F g set a9 = rw a9
 
-pub not-entered-is-12 : (M : Limits) (F : Floor) (g set : ℕ) → strangers F set ≡ false → neverEntered F set ≡ true
+pub not-entered-is-12 : (M : Limits) (F : Floor) (g set : ℕ) → strangers F set ≡ false → notEntered F set ≡ true
     → refusalIf M F false (group g set) ≡ 12
 unfolding refusalIf
 not-entered-is-12 M F g set a9 a12 = rw (a9, a12)
 
-pub above-15-is-26 : (M : Limits) (F : Floor) (g set : ℕ) → strangers F set ≡ false → neverEntered F set ≡ false → noGroup g ≡ true
+pub above-15-is-26 : (M : Limits) (F : Floor) (g set : ℕ) → strangers F set ≡ false → notEntered F set ≡ false → noGroup g ≡ true
     → refusalIf M F false (group g set) ≡ 26
 unfolding refusalIf
 above-15-is-26 M F g set a9 a12 a26 = rw (a9, a12, a26)
@@ -281,7 +283,7 @@ undefined-is-26 M F s g text a4 a8 a26 = rw (le-ltb (M .text) (length text) a4, 
 
 -- then 24, 13 and 14 as for a send to the members, which passes 9, 11 and 12: both meet the same refusal
 pub refused-as-the-send : (M : Limits) (F : Floor) (s g : ℕ) (text : List ℕ) → undefined F g ≡ false → strangers F (F .groups g) ≡ false
-    → neverEntered F (F .groups g) ≡ false → refusalIf M F false (sendGroup s g text) ≡ refusalIf M F false (send s (F .groups g) text)
+    → notEntered F (F .groups g) ≡ false → refusalIf M F false (sendGroup s g text) ≡ refusalIf M F false (send s (F .groups g) text)
 unfolding refusalIf
 refused-as-the-send M F s g text a26 a9 a12 = rw (a26, a9, or-false (noGroup g) (eqb (F .groups g) 0) a26 .1, a12)
 
@@ -298,14 +300,14 @@ too-large-is-7 M F broken n k lengths fresh (inr l) =
 
 -- "13 now speaks of the caller's last number; its place is unchanged": after 24 and before 14, whatever is held
 pub used-up-is-13 : (M : Limits) (F : Floor) (s set : ℕ) (text : List ℕ) → length text ≤ M .text → noStation F s ≡ false → strangers F set ≡ false
-    → eqb set 0 ≡ false → neverEntered F set ≡ false → isEmpty text ≡ false → M .last < F .sent s → refusalIf M F false (send s set text) ≡ 13
+    → eqb set 0 ≡ false → notEntered F set ≡ false → isEmpty text ≡ false → M .last < F .sent s → refusalIf M F false (send s set text) ≡ 13
 unfolding refusalIf
 used-up-is-13 M F s set text a4 a8 a9 a11 a12 a24 a13 =
     rw (le-ltb (M .text) (length text) a4, a8, a9, a11, a12, a24, lt-ltb (M .last) (F .sent s) a13)
 
 -- as many messages held as the caller may hold
 pub none-free-is-14 : (M : Limits) (F : Floor) (s set : ℕ) (text : List ℕ) → length text ≤ M .text → noStation F s ≡ false → strangers F set ≡ false
-    → eqb set 0 ≡ false → neverEntered F set ≡ false → isEmpty text ≡ false → F .sent s ≤ M .last → ((m : ℕ) → m < M .held → isHeld F m ≡ true)
+    → eqb set 0 ≡ false → notEntered F set ≡ false → isEmpty text ≡ false → F .sent s ≤ M .last → ((m : ℕ) → m < M .held → isHeld F m ≡ true)
     → refusalIf M F false (send s set text) ≡ 14
 unfolding refusalIf freeRoom
 none-free-is-14 M F s set text a4 a8 a9 a11 a12 a24 a13 full =
@@ -329,3 +331,93 @@ others-as-they-were P s set text u c e = rw e
 pub rest-stays : (P : Plain) (s c : ℕ) (x : Item) (rest : List Item) → P .list s c ≡ x ∷ rest → beheaded P s c .list s c ≡ rest
 unfolding beheaded
 rest-stays P s c x rest q = rw (eqb-self s, eqb-self c, q)
+
+-- A CART GOES BACK TO THE FACTORY
+
+-- "the number becomes outside", with all next numbers 0, and "leaves every group"
+pub retired-out : (F : Floor) (c : ℕ)
+    → (onRetire F c .floor .place c ≡ outside)
+    × (((s : ℕ) → onRetire F c .floor .next c s ≡ 0) × ((g : ℕ) → has (onRetire F c .floor .groups g) c ≡ false))
+unfolding onRetire
+retired-out F c =
+    (rw (eqb-self c), ((λ s. rw (eqb-self c)), λ g. has-without (F .groups g) c c ∙ rw (eqb-self c) (and-false (has (F .groups g) c))))
+
+-- no other cart does
+pub others-stay : (F : Floor) (c d : ℕ) → (d ≡ c → ⊥)
+    → (onRetire F c .floor .place d ≡ F .place d)
+    × (((s : ℕ) → onRetire F c .floor .next d s ≡ F .next d s) × ((g : ℕ) → has (onRetire F c .floor .groups g) d ≡ has (F .groups g) d))
+unfolding onRetire
+others-stay F c d ne =
+    let z = ne-eqb d c ne in
+    let y = ne-eqb c d (λ e. ne (sym e)) in
+    (rw z, ((λ s. rw z), λ g. has-without (F .groups g) c d ∙ rw y (and-true (has (F .groups g) d))))
+
+-- and nothing else changes
+pub retire-alone : (F : Floor) (c : ℕ)
+    → onRetire F c .floor ≡ setGroups (setNext (setPlace F (onRetire F c .floor .place)) (onRetire F c .floor .next)) (onRetire F c .floor .groups)
+unfolding onRetire
+retire-alone F c = refl
+
+-- "a group that this empties is undefined"
+pub emptied-by-retiring : (F : Floor) (c g : ℕ) → ((d : ℕ) → has (F .groups g) d ≡ true → d ≡ c) → undefined (onRetire F c .floor) g ≡ true
+unfolding onRetire
+emptied-by-retiring F c g only =
+    let left = without (F .groups g) c in
+    let empty : eqb left 0 ≡ true =
+    by-test (eqb left 0) (λ e. e)
+    (λ e. let d = somebody left e in
+    let q = sym (has-without (F .groups g) c (d .0)) ∙ d .1 in
+    absurd (eqb-false c (d .0) (not-true (eqb c (d .0)) (and-right (has (F .groups g) (d .0)) (not (eqb c (d .0))) q))
+    (sym (only (d .0) (and-left (has (F .groups g) (d .0)) (not (eqb c (d .0))) q))))) in
+    or-right (noGroup g) (eqb left 0) empty
+
+-- "Kind 10 carries a cart": any other field is 3
+pub stray-at-10-is-3 : (M : Limits) (f : Fields) (behind : ℕ) → f .kind ≡ 10 → 0 < f .station + f .other + f .length + f .zero + f .set
+    → fieldsRefusal M f behind ≡ 3
+unfolding fieldsRefusal unlisted
+stray-at-10-is-3 M f behind k l = rw (k, ne-eqb (f .station + f .other + f .length + f .zero + f .set) 0 (λ z. omega arith))
+
+-- no request defines a kind above it
+pub above-10-is-2 : (M : Limits) (f : Fields) (behind : ℕ) → 10 < f .kind → fieldsRefusal M f behind ≡ 2
+unfolding fieldsRefusal
+above-10-is-2 M f behind l = rw (lt-ltb 10 (f .kind) l)
+
+-- "after 9, 18, then 19, then 29 a held message names the cart"
+pub no-such-cart-is-9 : (M : Limits) (F : Floor) (c : ℕ) → noCart F c ≡ true → refusalIf M F false (retire c) ≡ 9
+unfolding refusalIf
+no-such-cart-is-9 M F c a9 = rw a9
+
+pub outside-is-18 : (M : Limits) (F : Floor) (c : ℕ) → noCart F c ≡ false → entered (F .place c) ≡ false → refusalIf M F false (retire c) ≡ 18
+unfolding refusalIf
+outside-is-18 M F c a9 a18 = rw (a9, a18)
+
+pub moving-is-19 : (M : Limits) (F : Floor) (c : ℕ) → noCart F c ≡ false → entered (F .place c) ≡ true → moving (F .place c) ≡ true
+    → refusalIf M F false (retire c) ≡ 19
+unfolding refusalIf
+moving-is-19 M F c a9 a18 a19 = rw (a9, a18, a19)
+
+-- 29 goes by the set as sent
+pub named-is-29 : (M : Limits) (F : Floor) (c m : ℕ) → noCart F c ≡ false → entered (F .place c) ≡ true → moving (F .place c) ≡ false
+    → m < M .held → isHeld F m ≡ true → has (F .named m) c ≡ true → refusalIf M F false (retire c) ≡ 29
+unfolding refusalIf isNamed
+named-is-29 M F c m a9 a18 a19 l h n =
+    let free : ℕ → Bool = λ k. not (isHeld F k && has (F .named k) c) in
+    let some-named : every (M .held) free ≡ false =
+    by-test (every (M .held) free) (λ e. let z = every-at (M .held) free e m l in clash false (rw (h, n) at z) refl) (λ e. e) in
+    rw (a9, a18, a19, some-named)
+
+-- and nothing else stops it
+pub unnamed-is-none : (M : Limits) (F : Floor) (c : ℕ) → noCart F c ≡ false → entered (F .place c) ≡ true → moving (F .place c) ≡ false
+    → ((m : ℕ) → m < M .held → isHeld F m ≡ true → has (F .named m) c ≡ false) → refusalIf M F false (retire c) ≡ 0
+unfolding refusalIf isNamed
+unnamed-is-none M F c a9 a18 a19 unnamed =
+    let free : every (M .held) (λ m. not (isHeld F m && has (F .named m) c)) ≡ true =
+    every-all (M .held) (λ m. not (isHeld F m && has (F .named m) c)) (λ m l. by-test (isHeld F m) (λ e. rw (e, unnamed m l e)) (λ e. rw e)) in
+    rw (a9, a18, a19, free)
+
+-- "the sent and received lists of a cart begin at its latest entry": an entry leaves those of the others
+pub entry-leaves-others : (a : Answer) (L : Lists) (t c d s : ℕ) → (d ≡ c → ⊥)
+    → (listsStep (enter t c) a L .sent s d ≡ L .sent s d)
+    × ((listsStep (enter t c) a L .received s d ≡ L .received s d) × (listsStep (enter t c) a L .count s ≡ L .count s))
+entry-leaves-others (refused r) L t c d s ne = (refl, (refl, refl))
+entry-leaves-others (accepted l) L t c d s ne = let z = ne-eqb d c ne in (rw z, (rw z, refl))

@@ -7,7 +7,7 @@ use lib.Dec.{eqb, leb, ltb}
 use lib.ListN.{drop, length}
 use borrow.Author.Tests.{eqb-true, leb-true, ltb-true, not-false}
 use Rattle.protocol.specs.Floor.{Floor, Limits}
-use Rattle.protocol.specs.Events.{Answer, Event, accepted, enter, flag, group, move, radio, refused, send, sendGroup, sendLong, start, wire}
+use Rattle.protocol.specs.Events.{Answer, Event, accepted, enter, flag, group, move, radio, refused, retire, send, sendGroup, sendLong, start, wire}
 use Rattle.protocol.specs.Wired.{buffer}
 use Rattle.protocol.specs.Form.{passesForm}
 use Rattle.protocol.specs.Blank.{BlankBeyond}
@@ -72,6 +72,7 @@ only-start M F b t (wire i j) r = clash b t (passed-check 5 b _ (omega arith) r 
 only-start M F b t (radio u c buffer) r = clash b t (passed-check 5 b _ (omega arith) r .0)
 only-start M F b t (move c to) r = clash b t (passed-check 5 b _ (omega arith) r .0)
 only-start M F b t (flag c on) r = clash b t (passed-check 5 b _ (omega arith) r .0)
+only-start M F b t (retire c) r = clash b t (passed-check 5 b _ (omega arith) r .0)
 only-start M F b t (group g set) r = clash b t (passed-check 5 b _ (omega arith) r .0)
 only-start M F b t (sendLong s set text) r = clash b t (passed-check 5 b _ (omega arith)
     (passed-check 4 (notLong M (length text)) _ (omega arith) r .1) .0)

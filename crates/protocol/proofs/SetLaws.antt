@@ -13,7 +13,7 @@ use Rattle.protocol.specs.Folds.{every}
 use Rattle.protocol.specs.CartSets.{digit, has, minus, setOf, union, with, without}
 use Rattle.protocol.specs.Floor.{at}
 use Rattle.protocol.specs.Step.{step}
-use Rattle.protocol.proofs.Tests.{by-eq, by-lt, by-test, clash, eqb-self, every-at, every-fails, or-none, or-right}
+use Rattle.protocol.proofs.Tests.{and-true, by-eq, by-lt, by-test, clash, eqb-self, every-at, every-fails, or-none, or-right}
 
 -- DIGITS
 
@@ -245,3 +245,9 @@ still-waited x t e =
     by-eq x 0
     (λ z. clash (eqb (without x t) 0) (eq-eqb (without x t) 0 (let less = without-lt 0 x t (omega arith) in omega arith)) e)
     (λ z. ne-eqb x 0 z)
+
+-- a set without one that is not in it
+pub without-absent : (x c : ℕ) → has x c ≡ false → without x c ≡ x
+without-absent x c e =
+    same-members x (without x c) x (without-lt x x c (lt-two-pow x)) (lt-two-pow x)
+    (λ d l. has-without x c d ∙ by-eq c d (λ z. let e' : has x d ≡ false = rw z at e in rw e') (λ z. rw (ne-eqb c d z) (and-true (has x d))))

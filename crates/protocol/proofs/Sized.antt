@@ -1,18 +1,18 @@
-use mathlib.Core.Path.{ap, refl, subst, sym, _≡_}
-use mathlib.Core.Bool.{_&&_, Bool, cond, false, true}
+use mathlib.Core.Path.{ap, refl, subst, sym, _∙_, _≡_}
+use mathlib.Core.Bool.{_&&_, Bool, cond, false, not, true}
 use mathlib.Core.List.{List, [], _∷_}
 use Prim.Native.Nat.{_<_, _^_, suc, ℕ, _≤_}
 use native.Mathlib.Omega.{arith}
 use lib.Dec.{eqb, ltb}
 use lib.ListN.{length}
 use lib.Seq.{sets}
-use borrow.Author.Tests.{eqb-true, ltb-true, ne-eqb}
+use borrow.Author.Tests.{eqb-false, eqb-true, ltb-true, ne-eqb, not-true}
 use Rattle.protocol.specs.Folds.{update, update2}
 use Rattle.protocol.specs.CartSets.{has, minus, setOf, union, with, without}
 use Rattle.protocol.specs.Floor.{Floor, Limits, Place, Record, ackList, at, behead, between, cartsThat, delete, deregister, entered, isBuffered, justStarted, leaving, mostText, multicast, outside, put, register, stationOf, toEvery, travelling}
 use Rattle.protocol.specs.Events.{Done, Event}
 use Rattle.protocol.specs.Groups.{groupCount, onGroup}
-use Rattle.protocol.specs.Handoff.{arrive, catchUpStop, entryOf, onEnter, onFlag, onMove, onRegister, roomOf, rowOf, struck, withRow}
+use Rattle.protocol.specs.Handoff.{arrive, catchUpStop, entryOf, onEnter, onFlag, onMove, onRegister, onRetire, roomOf, rowOf, struck, withRow}
 use Rattle.protocol.specs.Wired.{buffer, handle, isQueued, isStruck, localRow, multicastByRow, onAckList, onDelete, onMulticast, withMessage}
 use Rattle.protocol.specs.Wireless.{allAcked, handOver, receive, sendAcks, sendAcksIfAll}
 use Rattle.protocol.specs.Deregister.{leave}
@@ -22,7 +22,7 @@ use Rattle.protocol.specs.Step.{step}
 use Rattle.protocol.specs.Ranges.{PlaceInRange}
 use Rattle.protocol.specs.Store.{storeUsed, storedOf}
 use Rattle.protocol.proofs.Tests.{and-left, and-right, both-equal, by-eq, by-test, clash, eqb-self, on-cond, on-option, on-update, on-update2}
-use Rattle.protocol.proofs.SetLaws.{has-zero, member-below, minus-lt, setOf-lt, still-waited, union-lt, with-lt, without-lt, zero-below}
+use Rattle.protocol.proofs.SetLaws.{has-without, has-zero, member-below, minus-lt, setOf-lt, still-waited, union-lt, with-lt, without-lt, zero-below}
 use Rattle.protocol.proofs.FloorLaws.{on-put}
 use Rattle.protocol.proofs.InOrder.{EachOf, completed, deregister-splits, each-map, handedOff, send-each-is, sendEach}
 use Rattle.protocol.proofs.Accepted.{MayGroup, MayMove, MayRadio, MaySend, MayWire, by-step, named-has-entered, unlined}
@@ -133,6 +133,34 @@ station-fits n (travelling s u) e h = h .0
 groups-stay : (carts : ℕ) (place : ℕ → Place) (groups : ℕ → ℕ) (c : ℕ) (p : Place) → entered p ≡ true → GroupsFit carts place groups
     → GroupsFit carts (update place c p) groups
 groups-stay carts place groups c p e S g lg = (S g lg .0, λ d h. on-update (λ q. entered q ≡ true) place c p d (λ z. e) (λ z. S g lg .1 d h))
+
+-- a cart that goes out leaves every group
+groups-left : (carts : ℕ) (place : ℕ → Place) (groups : ℕ → ℕ) (c : ℕ) → GroupsFit carts place groups → GroupsFit carts (update place c outside)
+    (λ g. without (groups g) c)
+groups-left carts place groups c S g lg = (
+  without-lt carts (groups g) c (S g lg .0),
+  λ d h. let z : has (groups g) d && not (eqb c d) ≡ true = sym (has-without (groups g) c d) ∙ h in
+      on-update (λ q. entered q ≡ true) place c outside d
+      (λ y. absurd (eqb-false c d (not-true (eqb c d) (and-right (has (groups g) d) (not (eqb c d)) z)) (sym y)))
+      (λ y. S g lg .1 d (and-left (has (groups g) d) (not (eqb c d)) z)),
+)
+
+-- a retired cart is outside
+retired-sized : (M : Limits) (F : Floor) (c : ℕ) → Sized M F → Sized M (onRetire F c .floor)
+unfolding onRetire
+retired-sized M F c S =
+    record {
+      places = λ d. on-update (PlaceInRange (F .stations)) (F .place) c outside d (λ z. tt) (λ z. S .places d);
+      lengths = S .lengths;
+      words = S .words;
+      store = S .store;
+      groups = groups-left (F .carts) (F .place) (F .groups) c (S .groups);
+      counts = S .counts;
+      numbers = S .numbers;
+      messages = S .messages;
+      copies = S .copies;
+      lines = S .lines;
+    }
 
 -- a group has other members
 group-defined : (F : Floor) (g set : ℕ) → MayGroup F g set → GroupsFit (F .carts) (F .place) (F .groups)
@@ -484,6 +512,7 @@ step-sized M F G I S =
     (λ t c buffer m may. radio-sized M F G m t c I S may)
     (λ c to may. moved-sized M F c to may S)
     (λ c b may. S)
+    (λ c may. retired-sized M F c S)
     (λ g set may. grouped-sized M F g set may S)
     (λ s g text m may. sent-sized M F s (F .groups g) text m may S)
     (λ s set text m may. sent-sized M F s set text m may S)

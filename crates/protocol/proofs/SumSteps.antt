@@ -1,18 +1,20 @@
 -- The sum rule: next numbers rise by receipts and by what p counts.
-use mathlib.Core.Path.{ap, refl, _∙_, _≡_}
-use mathlib.Core.Bool.{_&&_, Bool, cond, false, not}
+use mathlib.Core.Path.{ap, refl, sym, _∙_, _≡_}
+use mathlib.Core.Bool.{_&&_, Bool, cond, false, not, true}
 use Prim.Native.Nat.{_+_, _-_, _<_, suc, zero, ℕ, _≤_}
 use native.Mathlib.Omega.{arith}
 use lib.Dec.{eqb, ltb}
 use borrow.Author.Tests.{eqb-false, eqb-true, lt-ltb, ne-eqb}
 use Rattle.protocol.specs.Folds.{count, sum, update2}
-use Rattle.protocol.specs.CartSets.{has}
-use Rattle.protocol.specs.Floor.{Floor, Limits, isHeld}
-use Rattle.protocol.specs.Handoff.{arrive, catchUpStop, passedOver, struck}
+use Rattle.protocol.specs.CartSets.{has, without}
+use Rattle.protocol.specs.Floor.{Floor, Limits, isBuffered, isHeld}
+use Rattle.protocol.specs.Handoff.{arrive, catchUpStop, passedOver, struck, withRow}
 use Rattle.protocol.specs.Wired.{buffer, passesOver}
 use Rattle.protocol.specs.Wireless.{allAcked, handOver, receive, sendAcks, sendAcksIfAll}
 use Rattle.protocol.specs.SumRule.{total}
 use Rattle.protocol.proofs.Tests.{and-left, and-right, by-option, by-test, clash, eqb-self, on-cond, update2-at}
+use Rattle.protocol.proofs.SetLaws.{has-without}
+use Rattle.protocol.proofs.Invariant.{Held}
 use Rattle.protocol.proofs.CatchUp.{arrive-at-once, catch-up-ascent, catchUpAtOnce, docked, one-at-once, stops-at}
 use Rattle.protocol.proofs.Counting.{sum-add, sum-ext, sum-mono, sum-nil, sum-zero}
 
@@ -45,6 +47,13 @@ row-sum n k c d lc =
     (λ x lx. by-test (eqb x c) (λ e. rw e) (λ e. rw e (sum-zero k)))
     ∙ sum-at n c (sum k d) lc
 
+-- a cart that is in a copy behind a striking was in it before
+not-struck : (F : Floor) (m t c : ℕ) → has (struck F t c .copy m t) c ≡ true → has (F .copy m t) c ≡ true
+unfolding struck
+not-struck F m t c =
+    on-cond (λ (x : ℕ). has x c ≡ true → has (F .copy m t) c ≡ true) (eqb t t && (isBuffered F m t && ltb (F .number m) (F .next c (F .initiator m))))
+    (λ e h. and-left (has (F .copy m t) c) (not (eqb c c)) (sym (has-without (F .copy m t) c c) ∙ h)) (λ e h. h)
+
 -- where an arriving cart's next numbers go
 module _ (M : Limits) (F : Floor) (t c : ℕ) (row : ℕ → ℕ) where
   upto : ℕ → ℕ
@@ -68,21 +77,22 @@ module _ (M : Limits) (F : Floor) (t c : ℕ) (row : ℕ → ℕ) where
   unfolding passedOver
   passed-over-is = sum-ext (F .stations) (λ s. arrive M F t c row .next c s - row s) (λ s. upto s - row s) (λ s l. rw (arrive-next c s, eqb-self c, lt-ltb s (F .stations) l))
 
-  -- where no message is held, nothing stops the cart below the expected numbers
-  stops-nowhere : ((m : ℕ) → m < M .held → isHeld F m ≡ false) → (s : ℕ) → upto s ≡ row s + (F .expected t s - row s)
+  -- where no held message has the cart in its copy here, nothing stops the cart below the expected numbers
+  stops-nowhere : ((m : ℕ) → Held M (F .waiting) m → has (F .copy m t) c ≡ true → ⊥) → (s : ℕ) → upto s ≡ row s + (F .expected t s - row s)
   unfolding upto struck
-  stops-nowhere none-held s =
+  stops-nowhere none-waits s =
       let a = catch-up-ascent M (docked F t c row) t c s in
       let e : docked F t c row .next c s ≡ row s = rw (eqb-self c) in
       by-option (catchUpStop M (docked F t c row) t c s .found)
       (λ q. let z = a .end q in omega arith)
-      (λ m q. let h = stops-at M (docked F t c row) t c s (upto s) m (a .stop m q) .held in
-      clash (isHeld F m) (ap not (h .some)) (none-held m (h .slot)))
+      (λ m q. let h = stops-at M (docked F t c row) t c s (upto s) m (a .stop m q) in
+      absurd (none-waits m (h .held) (not-struck (withRow F c row) m t c (h .in-copy))))
 
-  passed-over-all : ((m : ℕ) → m < M .held → isHeld F m ≡ false) → passedOver M F t c row ≡ sum (F .stations) (λ s. F .expected t s - row s)
-  passed-over-all none-held =
+  passed-over-all : ((m : ℕ) → Held M (F .waiting) m → has (F .copy m t) c ≡ true → ⊥)
+      → passedOver M F t c row ≡ sum (F .stations) (λ s. F .expected t s - row s)
+  passed-over-all none-waits =
       passed-over-is
-      ∙ sum-ext (F .stations) (λ s. upto s - row s) (λ s. F .expected t s - row s) (λ s l. let z = stops-nowhere none-held s in omega arith)
+      ∙ sum-ext (F .stations) (λ s. upto s - row s) (λ s. F .expected t s - row s) (λ s l. let z = stops-nowhere none-waits s in omega arith)
 
   -- the sum of all next numbers rises by p
   pub arrive-sum : c < F .carts → ((s : ℕ) → row s ≡ F .next c s) → total (arrive M F t c row) ≡ total F + passedOver M F t c row
@@ -107,11 +117,19 @@ module _ (M : Limits) (F : Floor) (t c : ℕ) (row : ℕ → ℕ) where
       rw passed-over-is
       (sum-mono (F .stations) (λ s. upto s - row s) (λ s. F .expected t s - row s) (λ s ls. let a = rises s .1 in omega arith))
 
--- a cart that enters where no message is held passes over all that its station expects
+-- a cart that enters where no held message has it in its copy passes over all that its station expects
+pub unwaited-over-all : (M : Limits) (F : Floor) (t c : ℕ) → ((m : ℕ) → Held M (F .waiting) m → has (F .copy m t) c ≡ true → ⊥)
+    → (passedOver M F t c (λ s. 0) ≡ sum (F .stations) (λ s. F .expected t s))
+    × ((s : ℕ) → s < F .stations → arrive M F t c (λ s. 0) .next c s ≡ F .expected t s)
+unwaited-over-all M F t c none-waits = (
+  passed-over-all M F t c (λ s. 0) none-waits ∙ sum-ext (F .stations) (λ s. F .expected t s - 0) (λ s. F .expected t s) (λ s l. omega arith),
+  λ s l. arrive-next M F t c (λ s. 0) c s ∙ rw (eqb-self c, lt-ltb s (F .stations) l) (let z = stops-nowhere M F t c (λ s. 0) none-waits s in omega arith),
+)
+
+-- so does every cart where no message is held
 pub enter-over-all : (M : Limits) (F : Floor) (t c : ℕ) → ((m : ℕ) → m < M .held → isHeld F m ≡ false)
     → passedOver M F t c (λ s. 0) ≡ sum (F .stations) (λ s. F .expected t s)
-enter-over-all M F t c none-held =
-    passed-over-all M F t c (λ s. 0) none-held ∙ sum-ext (F .stations) (λ s. F .expected t s - 0) (λ s. F .expected t s) (λ s l. omega arith)
+enter-over-all M F t c none-held = unwaited-over-all M F t c (λ m h e. clash (isHeld F m) (ap not (h .some)) (none-held m (h .slot))) .0
 
 -- multicast: p counts the carts that are passed over, by any row
 pub multicast-sum : (M : Limits) (F : Floor) (local m s t n : ℕ) → s < F .stations

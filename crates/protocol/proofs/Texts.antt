@@ -9,7 +9,7 @@ use Rattle.protocol.specs.CartSets.{union}
 use Rattle.protocol.specs.Floor.{Floor, Limits, Record, ackList, delete, deregister, multicast, register}
 use Rattle.protocol.specs.Events.{Done, Event}
 use Rattle.protocol.specs.Groups.{onGroup}
-use Rattle.protocol.specs.Handoff.{arrive, entryOf, onEnter, onFlag, onMove, onRegister, roomOf, struck}
+use Rattle.protocol.specs.Handoff.{arrive, entryOf, onEnter, onFlag, onMove, onRegister, onRetire, roomOf, struck}
 use Rattle.protocol.specs.Wired.{buffer, handle, multicastByRow, onAckList, onDelete, onMulticast, unbuffer, withMessage}
 use Rattle.protocol.specs.Wireless.{allAcked, handOver, receive, sendAcks, sendAcksIfAll}
 use Rattle.protocol.specs.Deregister.{leave}
@@ -60,7 +60,7 @@ module _ (M : Limits) (F : Floor) (T : AllTexts F) where
 
 -- every event keeps it
 step-text : (M : Limits) (F : Floor) → F .started ≡ true → AllTexts F → (e : Event) → AllTexts (step M F e)
-unfolding onEnter onFlag onGroup onMove handOver receive sendAcks
+unfolding onEnter onFlag onRetire onGroup onMove handOver receive sendAcks
 step-text M F begun T =
     by-step M F (λ e X a. AllTexts X) begun (λ e r. T) (λ t c may. arrived-text M F T t c (λ s. 0)) (λ s set text m may. sent-text M F T s set text m may)
     (λ i j r l may. handled-text M (unlined F i j) T i j r)
@@ -68,6 +68,7 @@ step-text M F begun T =
     (on-cond (λ (X : Floor). AllTexts X) (allAcked (receive F m t c) m t) (λ b. T) (λ b. T)))
     (λ c to may. T)
     (λ c b may. T)
+    (λ c may. T)
     (λ g set may. T)
     (λ s g text m may. sent-text M F T s (F .groups g) text m may)
     (λ s set text m may. sent-text M F T s set text m may)

@@ -8,43 +8,44 @@ use native.Mathlib.Nat.{mul-le-mul-left, mul-le-mul-right}
 use native.Mathlib.Omega.{arith}
 use lib.Dec.{eqb, ltb}
 use lib.ListN.{drop, getD, length, replicate, take}
-use borrow.Author.Tests.{le-leb, ne-eqb, not-true}
+use borrow.Author.Tests.{le-leb, lt-leb, ne-eqb, not-true}
 use Rattle.protocol.specs.Folds.{count, isEmpty, isNone, sum, update}
 use Rattle.protocol.specs.CartSets.{has}
-use Rattle.protocol.specs.Floor.{Floor, Limits, Place, Product, Record, ackList, at, behead, delete, entered, isAt, isBuffered, isHeld, isLocal, isMessage, justStarted, kit, limits, limitsOf, mostRecords, mostText, multicast, onLines, onTheLines, register, setGroups, setPlace, setSteady, setTexts, stationOf, unstarted}
-use Rattle.protocol.specs.Events.{Event, Report, accepted, bufferAfter, enter, flag, group, move, radio, refused, send, sendGroup, sendLong, start, wire}
+use Rattle.protocol.specs.Floor.{Floor, Limits, Place, Product, Record, ackList, at, behead, delete, entered, isAt, isBuffered, isHeld, isLocal, isMessage, justStarted, kit, limits, limitsOf, mostRecords, mostText, moving, multicast, onLines, onTheLines, outside, register, setGroups, setNext, setPlace, setSteady, setTexts, stationOf, unstarted}
+use Rattle.protocol.specs.Events.{Event, Report, accepted, bufferAfter, enter, flag, group, move, radio, refused, retire, send, sendGroup, sendLong, start, wire}
 use Rattle.protocol.specs.Groups.{asSent, membersOf, onGroup}
 use Rattle.protocol.specs.Store.{notLong, storeUsed}
 use Rattle.protocol.specs.Order.{placeIn}
-use Rattle.protocol.specs.Handoff.{arrive, entryOf, onEnter, onFlag, onRegister, roomOf, rowOf}
+use Rattle.protocol.specs.Handoff.{arrive, entryOf, onEnter, onFlag, onRegister, onRetire, roomOf, rowOf}
 use Rattle.protocol.specs.Wired.{freeRoom, handle, localRow, multicastByRow, onDelete, onMulticast, onWire}
 use Rattle.protocol.specs.Wireless.{queueHead}
 use Rattle.protocol.specs.Deregister.{bufferedRooms, inOrder, isComplete, leave, onDeregister, testEach, timesIn}
 use Rattle.protocol.specs.Form.{formRule, passesForm}
 use Rattle.protocol.specs.Blank.{BlankBeyond}
-use Rattle.protocol.specs.Refusals.{neverEntered, noCart, noGroup, noStation, refusal, refusalIf, strangers, undefined, wrongSize}
+use Rattle.protocol.specs.Refusals.{noCart, noGroup, noStation, notEntered, refusal, refusalIf, strangers, undefined, wrongSize}
 use Rattle.protocol.specs.Step.{accept, answer, answers, floorAfter, step}
 use Rattle.protocol.specs.Quiet.{AllSteady, IsWork, Works, buffersAfter, dispatched, mostSteps, nextEvent, quietAfter, quietCall, quietEvents, quietFloor, quietSteps, turnedAway, wouldReceive}
 use Rattle.protocol.specs.Potential.{potential}
-use Rattle.protocol.specs.Route.{Sending, sendingsOf}
-use Rattle.protocol.specs.TwoLists.{Item, TwoListRule, bothEmpty, item, listsAfter, owes}
-use Rattle.protocol.specs.SumRule.{gains, total}
+use Rattle.protocol.specs.Route.{Sending, retiresNone, sendingsOf}
+use Rattle.protocol.specs.TwoLists.{Item, Lists, TwoListRule, bothEmpty, item, listsAfter, owes}
+use Rattle.protocol.specs.SumRule.{gains, takenAway, total}
 use Rattle.protocol.specs.PlainLists.{NeverRefused, Plain, PlainCall, appended, beheaded, callOf, entries, exchanges, plainAfter, plainAfterCalls, plainAnswer, plainPasses, plainRefusal, plainRefused, plainRun, plainStart, plainStarted, plainStep, plainTake, plainTook, plainUnstarted, receiptLinesFrom}
 use Rattle.protocol.specs.Frames.{Fields, Reading, fieldsRefusal, framesFrom, framesIn}
 use Rattle.protocol.specs.Printed.{linesFrom, printedRun}
 use Rattle.protocol.specs.ReadText.{readRefusal, readText}
 use Rattle.protocol.specs.Blur.{blur, blurAnswer, blurEvent, blurPrinted, blurReading}
 use Rattle.protocol.specs.Ranges.{InRange, NumbersBelow, Wide}
-use Rattle.protocol.specs.Examples.{K1frames, allSent, examples, heldOn, octetsOf, outcome, rollsAway}
-use Rattle.protocol.proofs.Tests.{by-eq, clash, on-cond, or-right}
+use Rattle.protocol.specs.Examples.{K1frames, allSent, examples, heldOn, octetsOf, outcome, rollsAway, smallest, stoodStill, wentBack}
+use Rattle.protocol.proofs.Tests.{by-eq, clash, eqb-self, on-cond, or-right}
 use Rattle.protocol.proofs.InOrder.{deregister-counts, none-stays, tested-once}
-use Rattle.protocol.proofs.Readings.{above-15-is-26, arrive-keeps-flags, deregister-keeps-flags, emptied-is-undefined, form-without-texts, freed-by-the-last, full-is-27, group-alone, length-is-4, move-keeps-flags, never-entered-is-12, never-in-is-18, no-cart-is-9, no-station-is-8, no-text-is-24, none-free-is-14, not-entered-is-12, not-here-is-16, other-flag-is-3, others-as-they-were, places-not-asked, put-at-the-end, register-is-last, register-keeps-flags, rest-stays, row-kept, row-of-local, strangers-are-9, stray-is-3, too-large-is-7, undefined-is-26, unsteady-is-25, used-up-is-13}
-use Rattle.protocol.proofs.Accepted.{MayWire, accepted-passes, accepted-report, is-long, long-as-the-send, may-move, may-radio, may-send, may-wire, passed-check, printed-as-the-send, sent-as-the-send}
-use Rattle.protocol.proofs.Demand3.{nothing, rule-after, started-ok}
+use Rattle.protocol.proofs.Readings.{above-10-is-2, above-15-is-26, arrive-keeps-flags, deregister-keeps-flags, emptied-by-retiring, emptied-is-undefined, entry-leaves-others, form-without-texts, freed-by-the-last, full-is-27, group-alone, length-is-4, move-keeps-flags, moving-is-19, named-is-29, no-cart-is-9, no-station-is-8, no-such-cart-is-9, no-text-is-24, none-free-is-14, not-entered-before-24, not-entered-is-12, not-here-is-16, not-in-is-18, other-flag-is-3, others-as-they-were, others-stay, outside-is-18, places-not-asked, put-at-the-end, register-is-last, register-keeps-flags, rest-stays, retire-alone, retired-out, row-kept, row-of-local, strangers-are-9, stray-at-10-is-3, stray-is-3, too-large-is-7, undefined-is-26, unnamed-is-none, unsteady-is-25, used-up-is-13}
+use Rattle.protocol.proofs.Accepted.{MayWire, accepted-passes, accepted-report, is-long, long-as-the-send, may-move, may-radio, may-retire, may-send, may-wire, passed-check, printed-as-the-send, sent-as-the-send}
+use Rattle.protocol.proofs.Demand3.{nothing, started-ok, step-size}
 use Rattle.protocol.proofs.Counting.{sum-ext, sum-term}
 use Rattle.protocol.proofs.HandoffSteps.{carried}
+use Rattle.protocol.proofs.Invariant.{Held}
 use Rattle.protocol.proofs.FloorLaws.{at-home}
-use Rattle.protocol.proofs.SumSteps.{arrive-bound, enter-over-all}
+use Rattle.protocol.proofs.SumSteps.{arrive-bound, enter-over-all, unwaited-over-all}
 use Rattle.protocol.proofs.SumRun.{started-total, sums}
 use Rattle.protocol.proofs.FormFacts.{past, some-history}
 use Rattle.protocol.proofs.ClaimLaws.{reflect}
@@ -54,7 +55,7 @@ use Rattle.protocol.proofs.FormTest.{clauses-of, form-of, sized-of}
 use Rattle.protocol.proofs.FormRule.{form-bound, form-kept, form-started}
 use Rattle.protocol.proofs.Ready.{ready-run, ready-unstarted, right-size, started-after, unstarted-fails}
 use Rattle.protocol.proofs.Width.{numbers-below}
-use Rattle.protocol.proofs.ExamplesHold.{closed, lists-of-K1, most-passed, rolled-away, table-holds}
+use Rattle.protocol.proofs.ExamplesHold.{closed, lists-of-K1, most-passed, rolled-away, table-holds, went-back}
 use Rattle.protocol.proofs.InRange.{in-range, step-most}
 use Rattle.protocol.proofs.QueueOrder.{head-first, tested-in-order}
 use Rattle.protocol.proofs.Places.{head-place, place-is-position, places-most}
@@ -67,10 +68,13 @@ use Rattle.protocol.proofs.PlainRun.{beside-run, beside-start, few-besi
 use Rattle.protocol.proofs.PlainLines.{before, head-answered, through}
 use Rattle.protocol.proofs.Found.{ack-list-room, delete-room, multicast-room}
 use Rattle.protocol.proofs.Texts.{texts-after}
-use Rattle.protocol.proofs.Route.{listed, sent-is}
+use Rattle.protocol.proofs.Route.{listed}
 use Rattle.protocol.proofs.BlurRun.{answers-blurred, floor-blurred}
 use Rattle.protocol.proofs.BlurPrint.{blur-keeps-length, frames-enough, lines-blurred, lines-by-frames, linesOf}
 use Rattle.protocol.proofs.ReadLaws.{read-nothing, step-reads, step-send-reads, unheld-is-28}
+use Rattle.protocol.proofs.LinesSteps.{started-lines}
+use Rattle.protocol.proofs.ListsRun.{rule-after, sent-is}
+use Rattle.protocol.proofs.RetireStep.{enter-keeps-groups}
 
 -- WHAT IS PROVED of the written steps. Each statement uses names of specs/ alone; M are any limits, `limits` those of the floor.
 
@@ -93,21 +97,24 @@ start-afresh M F n k l a =
 from-start : (P : Floor → Type 0) (M : Limits) (F : Floor) (n k : ℕ) (l : Report) → answer M F (start n k) ≡ accepted l → (CountsFit M n k → P (justStarted n k)) → P (step M F (start n k))
 from-start P M F n k l a h = let z = start-afresh M F n k l a in subst P (sym (z .0)) (h (right-size M n k (z .1)))
 
--- DEMAND 3, THE TWO-LIST RULE: over every list of events, refused ones and starts among them, from the floor that an accepted start left
+-- DEMAND 3, THE TWO-LIST RULE: over every list of events, refused ones, starts and retirements among them, from the floor that an accepted start left
 pub two-list-rule : (M : Limits) (F : Floor) (n k : ℕ) (l : Report) → answer M F (start n k) ≡ accepted l → (es : List Event) (s c : ℕ) → c < k
     → TwoListRule (owes M (floorAfter M (step M F (start n k)) es) s c)
     (listsAfter M (step M F (start n k)) bothEmpty es .sent s c) (listsAfter M (step M F (start n k)) bothEmpty es .received s c)
 two-list-rule M F n k l a es s c lc =
     from-start (λ X. TwoListRule (owes M (floorAfter M X es) s c) (listsAfter M X bothEmpty es .sent s c) (listsAfter M X bothEmpty es .received s c)) M F n k l a
-    (λ fit. rule-after M (justStarted n k) nothing bothEmpty es (started-ok M n k (fit .stations)) (record { count = λ s. refl; sent = λ s c. refl; received = refl }) s c lc)
+    (λ fit. rule-after M (justStarted n k) nothing bothEmpty es (reached-start M n k (fit .stations))
+    (record { count = λ s. refl; sent = λ s c e. refl; received = λ s c e. refl; equal = λ s c o. refl }) s c lc)
 
--- THE SUM RULE: "Over any run from a start, the sum of all carts' next numbers equals accepted radio steps plus all p"
+-- THE SUM RULE: "Over any run from a start, the sum of all carts' next numbers equals accepted radio steps plus all p"; it "adds the next
+-- numbers that retired carts took with them"
 pub sum-rule : (M : Limits) (F : Floor) (n k : ℕ) (l : Report) → answer M F (start n k) ≡ accepted l → (es : List Event)
-    → total (floorAfter M (step M F (start n k)) es) ≡ gains M (step M F (start n k)) es
-sum-rule M F n k l a es = from-start (λ X. total (floorAfter M X es) ≡ gains M X es) M F n k l a from-fresh
+    → total (floorAfter M (step M F (start n k)) es) + takenAway M (step M F (start n k)) es ≡ gains M (step M F (start n k)) es
+sum-rule M F n k l a es = from-start (λ X. total (floorAfter M X es) + takenAway M X es ≡ gains M X es) M F n k l a from-fresh
   where
-    from-fresh : CountsFit M n k → total (floorAfter M (justStarted n k) es) ≡ gains M (justStarted n k) es
-    from-fresh fit = let a = sums M (justStarted n k) nothing (started-ok M n k (fit .stations)) es in let b = started-total n k in omega arith
+    from-fresh : CountsFit M n k → total (floorAfter M (justStarted n k) es) + takenAway M (justStarted n k) es ≡ gains M (justStarted n k) es
+    from-fresh fit = let a = sums M (justStarted n k) nothing (started-ok M n k (fit .stations))
+        (started-lines M n k) es in let b = started-total n k in omega arith
 
 -- "In a register step p is at most the sum, over initiators, of expected number minus next number, where positive"
 pub register-bound : (M : Limits) (F : Floor) (t c : ℕ) (row : List ℕ) → onRegister M F t c row .report .p ≤ sum (F .stations) (λ s. F .expected t s - entryOf row s)
@@ -303,14 +310,14 @@ refused-with : (M : Limits) (F : Floor) (e : Event) (r : ℕ) → 0 < r → pass
 unfolding answer refusal
 refused-with M F e r pos h z = rw (h, z, ne-eqb r 0 (omega arith))
 
--- "24 empty text, after 12 and before 13": on a floor that passes, a send with no text that passes 8, 9 and 11 is 12 if a named cart never entered,
+-- "24 empty text, after 12 and before 13": on a floor that passes, a send with no text that passes 8, 9 and 11 is 12 if a named cart is not entered,
 -- and 24 otherwise, whatever number the station has used and whatever is held
 pub no-text-after-12 : (M : Limits) (F : Floor) (s set : ℕ) → passesForm M F ≡ true → noStation F s ≡ false → strangers F set ≡ false → eqb set 0 ≡ false
-    → neverEntered F set ≡ true → answer M F (send s set []) ≡ refused 12
-no-text-after-12 M F s set h a8 a9 a11 a12 = refused-with M F (send s set []) 12 (omega arith) h (never-entered-is-12 M F s set a8 a9 a11 a12)
+    → notEntered F set ≡ true → answer M F (send s set []) ≡ refused 12
+no-text-after-12 M F s set h a8 a9 a11 a12 = refused-with M F (send s set []) 12 (omega arith) h (not-entered-before-24 M F s set a8 a9 a11 a12)
 
 pub no-text-before-13 : (M : Limits) (F : Floor) (s set : ℕ) → passesForm M F ≡ true → noStation F s ≡ false → strangers F set ≡ false → eqb set 0 ≡ false
-    → neverEntered F set ≡ false → answer M F (send s set []) ≡ refused 24
+    → notEntered F set ≡ false → answer M F (send s set []) ≡ refused 24
 no-text-before-13 M F s set h a8 a9 a11 a12 = refused-with M F (send s set []) 24 (omega arith) h (no-text-is-24 M F s set a8 a9 a11 a12)
 
 -- "no run from a start holds one now"
@@ -434,12 +441,12 @@ unsteady-head-holds-back M F t m e unsteady c buffer l a =
     let queued = z .1 .queued in
     clash (F .steady c) (z .1 .is-steady) (unsteady c (rw same at queued))
 
--- "for kind 6, 18 if never entered, after 9"
+-- for kind 6, 18 "after 9": "Never entered .. reads not now entered"
 pub flag-of-no-cart : (M : Limits) (F : Floor) (c : ℕ) (b : Bool) → passesForm M F ≡ true → noCart F c ≡ true → answer M F (flag c b) ≡ refused 9
 flag-of-no-cart M F c b h a9 = refused-with M F (flag c b) 9 (omega arith) h (no-cart-is-9 M F c b a9)
 
 pub flag-before-entry : (M : Limits) (F : Floor) (c : ℕ) (b : Bool) → passesForm M F ≡ true → noCart F c ≡ false → entered (F .place c) ≡ false → answer M F (flag c b) ≡ refused 18
-flag-before-entry M F c b h a9 a18 = refused-with M F (flag c b) 18 (omega arith) h (never-in-is-18 M F c b a9 a18)
+flag-before-entry M F c b h a9 a18 = refused-with M F (flag c b) 18 (omega arith) h (not-in-is-18 M F c b a9 a18)
 
 -- "in the other field, 1 for steady or 0 for not; 2 to 15 there is refusal 3"
 pub flag-above-one : (M : Limits) (f : Fields) (behind : ℕ) → f .kind ≡ 6 → 2 ≤ f .other → fieldsRefusal M f behind ≡ 3
@@ -654,11 +661,11 @@ group-send-prints M F s g text l h d a = printed-as-the-send M F s g text h d l 
 pub group-of-strangers : (M : Limits) (F : Floor) (g set : ℕ) → passesForm M F ≡ true → strangers F set ≡ true → answer M F (group g set) ≡ refused 9
 group-of-strangers M F g set h a9 = refused-with M F (group g set) 9 (omega arith) h (strangers-are-9 M F g set a9)
 
-pub group-before-entry : (M : Limits) (F : Floor) (g set : ℕ) → passesForm M F ≡ true → strangers F set ≡ false → neverEntered F set ≡ true
+pub group-before-entry : (M : Limits) (F : Floor) (g set : ℕ) → passesForm M F ≡ true → strangers F set ≡ false → notEntered F set ≡ true
     → answer M F (group g set) ≡ refused 12
 group-before-entry M F g set h a9 a12 = refused-with M F (group g set) 12 (omega arith) h (not-entered-is-12 M F g set a9 a12)
 
-pub group-above-15 : (M : Limits) (F : Floor) (g set : ℕ) → passesForm M F ≡ true → strangers F set ≡ false → neverEntered F set ≡ false → 16 ≤ g
+pub group-above-15 : (M : Limits) (F : Floor) (g set : ℕ) → passesForm M F ≡ true → strangers F set ≡ false → notEntered F set ≡ false → 16 ≤ g
     → answer M F (group g set) ≡ refused 26
 group-above-15 M F g set h a9 a12 l = refused-with M F (group g set) 26 (omega arith) h (above-15-is-26 M F g set a9 a12 (le-leb 16 g l))
 
@@ -683,14 +690,14 @@ size-by-limits M F n k lengths fresh above = rw (too-large-is-7 M F (not (passes
 
 -- 13, by the caller's last number: "its place is unchanged", so on a floor that passes it is met after all but 14, whatever is held
 pub number-by-limits : (M : Limits) (F : Floor) (s set : ℕ) (text : List ℕ) → passesForm M F ≡ true → length text ≤ M .text → noStation F s ≡ false
-    → strangers F set ≡ false → eqb set 0 ≡ false → neverEntered F set ≡ false → isEmpty text ≡ false → M .last < F .sent s
+    → strangers F set ≡ false → eqb set 0 ≡ false → notEntered F set ≡ false → isEmpty text ≡ false → M .last < F .sent s
     → answer M F (send s set text) ≡ refused 13
 number-by-limits M F s set text h a4 a8 a9 a11 a12 a24 a13 =
     refused-with M F (send s set text) 13 (omega arith) h (used-up-is-13 M F s set text a4 a8 a9 a11 a12 a24 a13)
 
 -- 14, by the messages that the caller may hold: on a floor that passes, a send that passes all other checks finds that many held
 pub full-by-limits : (M : Limits) (F : Floor) (s set : ℕ) (text : List ℕ) → passesForm M F ≡ true → length text ≤ M .text → noStation F s ≡ false
-    → strangers F set ≡ false → eqb set 0 ≡ false → neverEntered F set ≡ false → isEmpty text ≡ false → F .sent s ≤ M .last
+    → strangers F set ≡ false → eqb set 0 ≡ false → notEntered F set ≡ false → isEmpty text ≡ false → F .sent s ≤ M .last
     → ((m : ℕ) → m < M .held → isHeld F m ≡ true) → answer M F (send s set text) ≡ refused 14
 full-by-limits M F s set text h a4 a8 a9 a11 a12 a24 a13 full =
     refused-with M F (send s set text) 14 (omega arith) h (none-free-is-14 M F s set text a4 a8 a9 a11 a12 a24 a13 full)
@@ -813,7 +820,7 @@ long-send-4 M F s set text a4 = rw a4
 -- "27 free octets in the store, counted together, fewer than the length, after 14": on a floor that passes, a long send that passes all other checks
 -- is 27 exactly if what is taken and its length are more than the store has
 pub store-full-is-27 : (M : Limits) (F : Floor) (s set : ℕ) (text : List ℕ) → passesForm M F ≡ true → notLong M (length text) ≡ false
-    → noStation F s ≡ false → strangers F set ≡ false → eqb set 0 ≡ false → neverEntered F set ≡ false → F .sent s ≤ M .last
+    → noStation F s ≡ false → strangers F set ≡ false → eqb set 0 ≡ false → notEntered F set ≡ false → F .sent s ≤ M .last
     → isNone (freeRoom M F) ≡ false
     → refusal M F (sendLong s set text) ≡ cond (ltb (M .store) (storeUsed M (F .waiting) (F .text) + length text)) 27 0
 unfolding refusal
@@ -904,22 +911,178 @@ printed-with-more M k l h =
     lines-by-frames M k unstarted 0 l ∙ ap (λ (r : List Reading). linesOf M unstarted 0 r) (frames-with-more M k l h)
     ∙ sym (lines-by-frames M (suc (length l)) unstarted 0 l)
 
+-- the first lists of a run without retirement
+sent-from-start : (M : Limits) (F : Floor) (n k : ℕ) (l : Report) → answer M F (start n k) ≡ accepted l → (es : List Event)
+    → retiresNone M (step M F (start n k)) es ≡ true → (s c : ℕ)
+    → listsAfter M (step M F (start n k)) bothEmpty es .sent s c ≡ listed c 0 (sendingsOf M (step M F (start n k)) es s)
+sent-from-start M F n k l a es =
+    from-start (λ X. retiresNone M X es ≡ true → (s c : ℕ) → listsAfter M X bothEmpty es .sent s c ≡ listed c 0 (sendingsOf M X es s)) M F n k l a
+    (λ fit q s c. sent-is M (justStarted n k) nothing bothEmpty es (reached-start M n k (fit .stations)) (λ u d o. refl) q s c)
+
 -- THE ROUTE MUST NOT MATTER: "for two runs from the same start in which each station makes the same accepted sends (set or members, and text) in the
 -- same order, with entries, moves, flags, wire and radio steps as they please, and both ending with no message held, every cart has received the same
--- messages from every station in the same order, texts included". The same start is one of as many stations and carts, on whatever floors
+-- messages from every station in the same order, texts included". "Request 13 covers runs without retirement". The same start is one of as many
+-- stations and carts, on whatever floors
 pub same-received : (M : Limits) (F G : Floor) (n k : ℕ) (l r : Report) → answer M F (start n k) ≡ accepted l → answer M G (start n k) ≡ accepted r
-    → (es ds : List Event)
+    → (es ds : List Event) → retiresNone M (step M F (start n k)) es ≡ true → retiresNone M (step M G (start n k)) ds ≡ true
     → ((u : ℕ) → sendingsOf M (step M F (start n k)) es u ≡ sendingsOf M (step M G (start n k)) ds u)
     → ((m : ℕ) → m < M .held → isHeld (floorAfter M (step M F (start n k)) es) m ≡ false)
     → ((m : ℕ) → m < M .held → isHeld (floorAfter M (step M G (start n k)) ds) m ≡ false)
     → (s c : ℕ) → c < k
     → listsAfter M (step M F (start n k)) bothEmpty es .received s c ≡ listsAfter M (step M G (start n k)) bothEmpty ds .received s c
-same-received M F G n k l r a b es ds same none-es none-ds s c lc =
+same-received M F G n k l r a b es ds stay-es stay-ds same none-es none-ds s c lc =
     let X = step M F (start n k) in
     let Y = step M G (start n k) in
     sym (two-list-rule M F n k l a es s c lc .equal (none-owed M (floorAfter M X es) none-es s c))
-    ∙ sent-is M X bothEmpty es s c ∙ ap (λ (x : List Sending). listed c 0 x) (same s) ∙ sym (sent-is M Y bothEmpty ds s c)
+    ∙ sent-from-start M F n k l a es stay-es s c ∙ ap (λ (x : List Sending). listed c 0 x) (same s) ∙ sym (sent-from-start M G n k r b ds stay-ds s c)
     ∙ two-list-rule M G n k r b ds s c lc .equal (none-owed M (floorAfter M Y ds) none-ds s c)
+
+-- A CART GOES BACK TO THE FACTORY
+
+-- "retires it: the number becomes outside, leaves every group", and its next numbers are 0
+pub retired-is-outside : (M : Limits) (F : Floor) (c : ℕ) (l : Report) → answer M F (retire c) ≡ accepted l
+    → (step M F (retire c) .place c ≡ outside)
+    × (((s : ℕ) → step M F (retire c) .next c s ≡ 0) × ((g : ℕ) → has (step M F (retire c) .groups g) c ≡ false))
+unfolding step accept
+retired-is-outside M F c l a = rw (accepted-passes M F (retire c) l a) (retired-out F c)
+
+-- no other cart's place, next numbers and groups change, and nothing else does
+pub retire-touches-no-other : (M : Limits) (F : Floor) (c d : ℕ) → (d ≡ c → ⊥)
+    → (step M F (retire c) .place d ≡ F .place d)
+    × (((s : ℕ) → step M F (retire c) .next d s ≡ F .next d s) × ((g : ℕ) → has (step M F (retire c) .groups g) d ≡ has (F .groups g) d))
+unfolding step accept
+retire-touches-no-other M F c d ne =
+    on-cond (λ (X : Floor). (X .place d ≡ F .place d) × (((s : ℕ) → X .next d s ≡ F .next d s) ×
+    ((g : ℕ) → has (X .groups g) d ≡ has (F .groups g) d)))
+    (eqb (refusal M F (retire c)) 0) (λ b. others-stay F c d ne) (λ b. (refl, ((λ s. refl), λ g. refl)))
+
+pub retire-touches-carts-alone : (M : Limits) (F : Floor) (c : ℕ)
+    → step M F (retire c) ≡ setGroups (setNext (setPlace F (step M F (retire c) .place)) (step M F (retire c) .next)) (step M F (retire c) .groups)
+unfolding step accept
+retire-touches-carts-alone M F c =
+    on-cond (λ (X : Floor). X ≡ setGroups (setNext (setPlace F (X .place)) (X .next)) (X .groups)) (eqb (refusal M F (retire c)) 0)
+    (λ b. retire-alone F c) (λ b. refl)
+
+-- "a group that this empties is undefined": one whose only member it was
+pub emptied-group-undefined : (M : Limits) (F : Floor) (c g : ℕ) (l : Report) → answer M F (retire c) ≡ accepted l
+    → ((d : ℕ) → has (F .groups g) d ≡ true → d ≡ c) → undefined (step M F (retire c)) g ≡ true
+unfolding step accept
+emptied-group-undefined M F c g l a only = rw (accepted-passes M F (retire c) l a) (emptied-by-retiring F c g only)
+
+-- "It prints the cart, 0, p = 0, w = 0, q = 0", under kind 10
+pub retire-prints : (M : Limits) (F : Floor) (c : ℕ) (l : Report) → answer M F (retire c) ≡ accepted l
+    → l ≡ record { kind = 10; a = c; b = 0; p = 0; w = 0; q = 0; text = [] }
+unfolding accept onRetire
+retire-prints M F c l a = sym (accepted-report M F (retire c) l a)
+
+-- "It may enter again", at every station of the floor
+pub retired-may-enter : (M : Limits) (F : Floor) (t c : ℕ) (l : Report) → BlankBeyond M F → passesForm M F ≡ true → answer M F (retire c) ≡ accepted l
+    → t < F .stations → refusal M (step M F (retire c)) (enter t c) ≡ 0
+unfolding refusal refusalIf
+retired-may-enter M F t c l B h a lt =
+    let X = step M F (retire c) in
+    let may = may-retire M F (not (passesForm M F)) c (accepted-passes M F (retire c) l a) in
+    let same = step-size M F (clauses-of M F h .floor .0) (retire c) in
+    let stations : noStation X t ≡ false = lt-leb (X .stations) t (rw (same .stations) lt) in
+    let carts : noCart X c ≡ false = lt-leb (X .carts) c (rw (same .carts) (may .cart)) in
+    rw (form-kept M F (retire c) B h .1, stations, carts, retired-is-outside M F c l a .0)
+
+-- an entry changes no group
+entered-groups : (M : Limits) (F : Floor) (t c : ℕ) (l : Report) → answer M F (enter t c) ≡ accepted l → step M F (enter t c) .groups ≡ F .groups
+unfolding step accept
+entered-groups M F t c l a = rw (accepted-passes M F (enter t c) l a) (enter-keeps-groups M F t c)
+
+-- it returns "steady", and in no group
+pub returns-as-new : (M : Limits) (F : Floor) (t c : ℕ) (l r : Report) → answer M F (retire c) ≡ accepted l
+    → answer M (step M F (retire c)) (enter t c) ≡ accepted r
+    → (step M (step M F (retire c)) (enter t c) .steady c ≡ true) × ((g : ℕ) → has (step M (step M F (retire c)) (enter t c) .groups g) c ≡ false)
+returns-as-new M F t c l r a b =
+    let X = step M F (retire c) in (
+      ap (λ (f : ℕ → Bool). f c) (steady-from-entry M X t c r b) ∙ rw (eqb-self c),
+      λ g. ap (λ (f : ℕ → ℕ). has (f g) c) (entered-groups M X t c r b) ∙ retired-is-outside M F c l a .1 .1 g,
+    )
+
+-- no held message has the retired cart in a copy: 29 has it in no set, and a copy has only carts of the set
+retired-unwaited : (M : Limits) (F : Floor) (t c : ℕ) (l : Report) → passesForm M F ≡ true → answer M F (retire c) ≡ accepted l → t < F .stations
+    → (m : ℕ) → Held M (F .waiting) m → has (F .copy m t) c ≡ true → ⊥
+unfolding refusal
+retired-unwaited M F t c l h a lt m held e =
+    let may = may-retire M F (not (passesForm M F)) c (accepted-passes M F (retire c) l a) in
+    may .unnamed m (held .slot) (held .some) (clauses-of M F h .copy m (held .slot) (ap not (held .some)) t lt .0 c (may .cart) e)
+
+-- "with all next numbers 0": those it enters with, like a cart that enters for the first time. So it passes over all that its station expects, and then
+-- has the expected numbers: nothing stops it on the way
+pub returns-from-zero : (M : Limits) (F : Floor) (t c : ℕ) (l r : Report) → passesForm M F ≡ true → answer M F (retire c) ≡ accepted l → t < F .stations
+    → answer M (step M F (retire c)) (enter t c) ≡ accepted r
+    → (r .p ≡ sum (F .stations) (λ s. F .expected t s))
+    × ((s : ℕ) → s < F .stations → step M (step M F (retire c)) (enter t c) .next c s ≡ F .expected t s)
+unfolding step accept onEnter onRetire
+returns-from-zero M F t c l r h a lt b =
+    let X = onRetire F c .floor in
+    let gone : step M F (retire c) ≡ X = rw (accepted-passes M F (retire c) l a) in
+    let enters : answer M X (enter t c) ≡ accepted r = rw gone at b in
+    let over = unwaited-over-all M X t c (retired-unwaited M F t c l h a lt) in (
+      ap (λ (x : Report). x .p) (sym (accepted-report M X (enter t c) r enters)) ∙ over .0,
+      λ s ls. rw (accepted-passes M F (retire c) l a, accepted-passes M X (enter t c) r enters) (over .1 s ls),
+    )
+
+-- "for kind 10, after 9, 18, then 19, then 29 a held message names the cart": on a floor that passes; 29 by the set as sent
+pub retire-of-no-cart : (M : Limits) (F : Floor) (c : ℕ) → passesForm M F ≡ true → noCart F c ≡ true → answer M F (retire c) ≡ refused 9
+retire-of-no-cart M F c h a9 = refused-with M F (retire c) 9 (omega arith) h (no-such-cart-is-9 M F c a9)
+
+pub retire-not-entered : (M : Limits) (F : Floor) (c : ℕ) → passesForm M F ≡ true → noCart F c ≡ false → entered (F .place c) ≡ false
+    → answer M F (retire c) ≡ refused 18
+retire-not-entered M F c h a9 a18 = refused-with M F (retire c) 18 (omega arith) h (outside-is-18 M F c a9 a18)
+
+pub retire-moving : (M : Limits) (F : Floor) (c : ℕ) → passesForm M F ≡ true → noCart F c ≡ false → entered (F .place c) ≡ true
+    → moving (F .place c) ≡ true → answer M F (retire c) ≡ refused 19
+retire-moving M F c h a9 a18 a19 = refused-with M F (retire c) 19 (omega arith) h (moving-is-19 M F c a9 a18 a19)
+
+pub retire-named : (M : Limits) (F : Floor) (c m : ℕ) → passesForm M F ≡ true → noCart F c ≡ false → entered (F .place c) ≡ true
+    → moving (F .place c) ≡ false → m < M .held → isHeld F m ≡ true → has (F .named m) c ≡ true → answer M F (retire c) ≡ refused 29
+retire-named M F c m h a9 a18 a19 l held n =
+    refused-with M F (retire c) 29 (omega arith) h (named-is-29 M F c m a9 a18 a19 l held n)
+
+-- and no other check: whoever has received what, and whatever stands on the lines
+pub retire-unnamed : (M : Limits) (F : Floor) (c : ℕ) → passesForm M F ≡ true → noCart F c ≡ false → entered (F .place c) ≡ true
+    → moving (F .place c) ≡ false → ((m : ℕ) → m < M .held → isHeld F m ≡ true → has (F .named m) c ≡ false) → refusal M F (retire c) ≡ 0
+unfolding refusal
+retire-unnamed M F c h a9 a18 a19 unnamed = rw (h, unnamed-is-none M F c a9 a18 a19 unnamed)
+
+-- "Kind 10 carries a cart": a field that is not listed is 3; refusal 2 is left for kinds 11 to 15
+pub retire-frame-stray : (M : Limits) (f : Fields) (behind : ℕ) → f .kind ≡ 10 → 0 < f .station + f .other + f .length + f .zero + f .set
+    → fieldsRefusal M f behind ≡ 3
+retire-frame-stray M f behind k l = stray-at-10-is-3 M f behind k l
+
+pub kind-above-10 : (M : Limits) (f : Fields) (behind : ℕ) → 10 < f .kind → fieldsRefusal M f behind ≡ 2
+kind-above-10 M f behind l = above-10-is-2 M f behind l
+
+-- "From then on the sent and received lists of a cart begin at its latest entry": both are empty after it, and those of the others, and by which count a
+-- station's sends are numbered, go on
+pub lists-begin-at-entry : (M : Limits) (F : Floor) (L : Lists) (t c s : ℕ) (l : Report) → answer M F (enter t c) ≡ accepted l
+    → (listsAfter M F L (enter t c ∷ []) .sent s c ≡ []) × (listsAfter M F L (enter t c ∷ []) .received s c ≡ [])
+unfolding listsAfter
+lists-begin-at-entry M F L t c s l a = rw (a, eqb-self c) (refl, refl)
+
+pub other-lists-go-on : (M : Limits) (F : Floor) (L : Lists) (t c d s : ℕ) → (d ≡ c → ⊥)
+    → (listsAfter M F L (enter t c ∷ []) .sent s d ≡ L .sent s d)
+    × ((listsAfter M F L (enter t c ∷ []) .received s d ≡ L .received s d) × (listsAfter M F L (enter t c ∷ []) .count s ≡ L .count s))
+unfolding listsAfter
+other-lists-go-on M F L t c d s ne = entry-leaves-others (answer M F (enter t c)) L t c d s ne
+
+-- and not at its retirement, which leaves all lists
+pub lists-stay-at-retirement : (M : Limits) (F : Floor) (L : Lists) (c : ℕ) → listsAfter M F L (retire c ∷ []) ≡ L
+unfolding listsAfter
+lists-stay-at-retirement M F L c = refl
+
+-- "Request 13 covers runs without retirement": these two runs make the same accepted sends and end with no message held; the second has a retirement, and
+-- the cart that went back has received nothing since its latest entry
+pub retirement-begins-anew : ((u : ℕ) → sendingsOf smallest unstarted stoodStill u ≡ sendingsOf smallest unstarted wentBack u)
+    × ((heldOn smallest (floorAfter smallest unstarted stoodStill) ≡ 0) × ((heldOn smallest (floorAfter smallest unstarted wentBack) ≡ 0)
+    × ((retiresNone smallest unstarted stoodStill ≡ true) × ((retiresNone smallest unstarted wentBack ≡ false)
+    × ((listsAfter smallest unstarted bothEmpty stoodStill .received 0 0 ≡ item 0 (0xa1 ∷ []) ∷ [])
+    × (listsAfter smallest unstarted bothEmpty wentBack .received 0 0 ≡ []))))))
+retirement-begins-anew = went-back
 
 -- THE EXAMPLES: "The starred examples are gathered as rows of a single proved table over the written steps", each row within its own limits
 pub examples-hold : map (λ r. outcome (r .within) (r .given)) examples ≡ map (λ r. r .shown) examples

@@ -5,7 +5,7 @@ use mathlib.Core.List.{List, [], _∷_}
 use Prim.Native.Nat.{ℕ, suc}
 use lib.Dec.{eqb, ltb}
 use Rattle.protocol.specs.Floor.{Floor, setTexts}
-use Rattle.protocol.specs.Events.{Event, start, enter, send, wire, radio, move, flag, group, sendGroup, sendLong, Report, Answer, refused, accepted, Done}
+use Rattle.protocol.specs.Events.{Event, start, enter, send, wire, radio, move, flag, group, sendGroup, sendLong, retire, Report, Answer, refused, accepted, Done}
 use Rattle.protocol.specs.Frames.{Reading, end, refusedFrame, taken}
 
 -- a text
@@ -29,6 +29,7 @@ blurEvent (flag c b) = flag c b
 blurEvent (group g set) = group g set
 blurEvent (sendGroup s g text) = sendGroup s g (blurText text)
 blurEvent (sendLong s set text) = sendLong s set (blurText text)
+blurEvent (retire c) = retire c
 
 -- what is reported, and the answer
 abbrev pub blurReport : Report → Report

@@ -1,14 +1,15 @@
--- THE STARRED EXAMPLES K1 to K10, and further ones of a message with no text, of places in rising order, of groups, of tables and of the
--- demonstration kit, as rows of one table.
+-- THE STARRED EXAMPLES K1 to K10, and further ones of a message with no text, of places in rising order, of groups, of tables, of a retired
+-- cart and of the demonstration kit, as rows of one table.
 use mathlib.Core.Bool.{Bool, true, false, cond, _&&_}
 use mathlib.Core.List.{List, [], _∷_, _++_}
 use Prim.Native.Nat.{ℕ, zero, suc, _/_, _%_}
 use Prim.Native.Char.{code}
 use Prim.Native.String.{String, [] as endOfText, _∷_ as _then_}
+use native.Mathlib.Omega.{arith}
 use lib.Dec.{eqb, ltb}
 use lib.ListN.{length, drop, replicate}
 use Rattle.protocol.specs.Floor.{Limits, limitsOf, limits, kit, outside, at, Floor, justStarted, onStations, unstarted}
-use Rattle.protocol.specs.Events.{Event, start, enter, send, wire, radio, move, sendLong, Answer, refused, accepted}
+use Rattle.protocol.specs.Events.{Event, start, enter, send, wire, radio, move, sendLong, retire, Answer, refused, accepted}
 use Rattle.protocol.specs.Form.{passesForm}
 use Rattle.protocol.specs.Step.{floorAfter, answers}
 use Rattle.protocol.specs.Printed.{linesFrom, printedRun}
@@ -278,6 +279,21 @@ storeIsFree =
     ask (tables ++ times 8 (wire 0 0) ++ (radio 0 0 512 ∷ wire 0 0 ∷ wire 0 0 ∷ sendLong 0 1 (replicate 33 7) ∷ [])) 20
     (yes 3 3 0 0 0 0 [] ∷ yes 9 0 8 0 1 0 [] ∷ [])
 
+-- A CART GOES BACK TO THE FACTORY: one station and cart, alone in group 3. While a held message names it, it is not retired (29), also once it has
+-- received the message; after the last delete it is. Then the group is undefined (26), and a radio step is 16; it enters again, and passes over all
+-- that was sent
+abbrev pub retiredAndBack : Row
+retiredAndBack =
+    record {
+      within = limits;
+      given = frames
+          (frame 0x00 0x00 0x00 0 ++ frame 0x10 0x00 0x00 0 ++ frame 0x70 0x00 0xc0 1 ++ frame 0x20 0x00 0x01 1 ++ (0xa1 ∷ [])
+          ++ frame 0x30 0x00 0x00 0 ++ frame 0x40 0x00 0x00 0 ++ frame 0xa0 0x00 0x00 0 ++ frame 0x30 0x00 0x00 0 ++ frame 0x30 0x00 0x00 0 ++ frame 0xa0 0x00 0x00 0
+          ++ frame 0x80 0x00 0xc1 0 ++ (0xa2 ∷ []) ++ frame 0x40 0x00 0x00 0 ++ frame 0x10 0x00 0x00 0);
+      shown = printed
+          (octetsOf "0 0 1 1 0 0 0\n1 1 0 0 0 0 0\n2 7 3 1 0 0 0\n3 2 0 0 0 1 0\n4 3 1 0 0 0 1\n5 4 0 0 0 1 0 a1\n6 no 29\n7 3 2 0 0 1 0\n8 3 3 0 0 0 0\n9 10 0 0 0 0 0\n10 no 26\n11 no 16\n12 1 0 0 1 0 0\n");
+    }
+
 -- THE DEMONSTRATION KIT: "at most 4 stations, 8 carts and 8 held messages"; "Refusals 5 (form rule ..), 7 and 14 use the caller's limits"
 
 -- 4 stations and 8 carts are accepted
@@ -306,7 +322,7 @@ abbrev pub examples : List Row
 examples =
     K1 ∷ K2 ∷ K3 ∷ K4 (wire 0 0) (wire 1 0) ∷ K4 (wire 1 0) (wire 0 0) ∷ K5
     ∷ K6form (limitsOf kit) 65534 ∷ K6 (limitsOf kit) 65534 ∷ K6form limits 4294967294 ∷ K6 limits 4294967294 ∷ K7 ∷ K8 ∷ K9 ∷ K10
-    ∷ noTextForm ∷ noText ∷ noTextHeld ∷ noTextGone ∷ rising ∷ groupChanged ∷ tableSent ∷ storeIsFull ∷ storeIsFree
+    ∷ noTextForm ∷ noText ∷ noTextHeld ∷ noTextGone ∷ rising ∷ groupChanged ∷ tableSent ∷ storeIsFull ∷ storeIsFree ∷ retiredAndBack
     ∷ kitLargest ∷ kitTooLarge ∷ kitFull ∷ startedWithin (limitsOf kit) false ∷ startedWithin limits true ∷ []
 
 -- A RUN OF WHICH A THEOREM SPEAKS: "Two carts are local and named. One receives; the other rolls away before it does." Its deregister sends the
@@ -315,3 +331,14 @@ abbrev pub rollsAway : List Event
 rollsAway =
     start 2 2 ∷ enter 0 0 ∷ enter 0 1 ∷ send 0 3 (0xa1 ∷ []) ∷ wire 0 0 ∷ wire 0 1 ∷ radio 0 0 512 ∷ move 1 1 ∷ wire 1 0 ∷ wire 0 0 ∷ wire 0 1
     ∷ radio 1 1 512 ∷ wire 1 0 ∷ wire 0 0 ∷ wire 0 1 ∷ []
+
+-- AND TWO MORE: "Request 13 covers runs without retirement". A cart receives a message, and all is deleted; then it goes back to the factory and
+-- enters again. One station, cart and held message are enough for it
+abbrev pub smallest : Limits
+smallest = record { stations = 1; carts = 1; held = 1; last = 1; text = 1; long = 2; store = 2; columns = 1; fits = omega arith }
+
+abbrev pub stoodStill : List Event
+stoodStill = start 1 1 ∷ enter 0 0 ∷ send0 ∷ wire 0 0 ∷ radio 0 0 2 ∷ wire 0 0 ∷ wire 0 0 ∷ []
+
+abbrev pub wentBack : List Event
+wentBack = stoodStill ++ (retire 0 ∷ enter 0 0 ∷ [])

@@ -370,7 +370,7 @@ isAt (at s) t = eqb s t
 isAt (leaving s u) t = false
 isAt (travelling s u) t = false
 
--- "already entered"
+-- "now entered": a cart that was retired is not, until it enters again
 abbrev pub entered : Place → Bool
 entered outside = false
 entered (at s) = true

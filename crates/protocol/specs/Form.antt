@@ -134,8 +134,8 @@ module _ (M : Limits) (F : Floor) where
   placeInside (leaving s u) = both (lt s (F .stations)) (lt u (F .stations))
   placeInside (travelling s u) = both (lt s (F .stations)) (lt u (F .stations))
 
-  -- EACH CART c: its place is on the floor; if it has entered, so is the cart, and if not its next numbers are 0; no next number is above
-  -- what was sent
+  -- EACH CART c: its place is on the floor; if it is entered, so is the cart, and if not, also one that was retired, its next numbers are 0; no next
+  -- number is above what was sent
   abbrev pub cartRule : ℕ → Claim
   cartRule c =
       both (placeInside (F .place c))
@@ -147,7 +147,8 @@ module _ (M : Limits) (F : Floor) where
   abbrev pub cartsOnly : ℕ → Claim
   cartsOnly x = lt x (2 ^ F .carts)
 
-  -- EACH GROUP g: its members are carts of the floor that have entered, as kind 7 asked, and kind 8 does not ask again
+  -- EACH GROUP g: its members are carts of the floor that are entered, as kind 7 asked, and kind 8 does not ask again: a retired
+  -- cart "leaves every group"
   abbrev pub groupRule : ℕ → Claim
   groupRule g = both (cartsOnly (F .groups g)) (all (F .carts) (λ c. when (is (has (F .groups g) c)) (is (entered (F .place c)))))
 

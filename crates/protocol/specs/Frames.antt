@@ -6,7 +6,7 @@ use lib.Dec.{eqb, ltb}
 use lib.ListN.{length, take, drop}
 use Rattle.protocol.specs.Folds.{isEmpty}
 use Rattle.protocol.specs.Floor.{Limits, mostText}
-use Rattle.protocol.specs.Events.{Event, start, enter, send, wire, radio, move, flag, group, sendGroup, sendLong}
+use Rattle.protocol.specs.Events.{Event, start, enter, send, wire, radio, move, flag, group, sendGroup, sendLong, retire}
 use Rattle.protocol.specs.Store.{notLong}
 use Rattle.protocol.specs.Refusals.{check}
 
@@ -43,7 +43,8 @@ fieldsOf l =
 -- 4 radio (station, cart), 5 move (cart, other = to). Fields not listed for a kind must be zero": the sum of those. "New frame kind 6 carries a
 -- cart and, in the other field, 1 for steady or 0 for not; 2 to 15 there is refusal 3": of that field all but the lowest bit must be zero.
 -- "Kind 7 carries a group number in the other field and the set", "Kind 8 carries station, group (other field) and length". "Kind 9 is a send ..; the
--- last sixteen of the forty zero bits hold that length, and the six-bit length stays zero": of the forty the upper twenty-four must be zero
+-- last sixteen of the forty zero bits hold that length, and the six-bit length stays zero": of the forty the upper twenty-four must be zero.
+-- "Kind 10 carries a cart"
 unfoldable pub unlisted : Fields → ℕ
 unlisted f =
     cond (eqb (f .kind) 2) (f .cart + f .other + f .zero)
@@ -53,7 +54,8 @@ unlisted f =
     (cond (eqb (f .kind) 7) (f .station + f .cart + f .length + f .zero)
     (cond (eqb (f .kind) 8) (f .cart + f .zero + f .set)
     (cond (eqb (f .kind) 9) (f .cart + f .other + f .length + f .zero / 65536)
-    (f .other + f .length + f .zero + f .set)))))))
+    (cond (eqb (f .kind) 10) (f .station + f .other + f .length + f .zero + f .set)
+    (f .other + f .length + f .zero + f .set))))))))
 
 -- how many octets of text follow
 abbrev pub textLength : Fields → ℕ
@@ -75,7 +77,8 @@ eventOf M f text =
     (cond (eqb (f .kind) 6) (flag (f .cart) (eqb (f .other) 1))
     (cond (eqb (f .kind) 7) (group (f .other) (f .set))
     (cond (eqb (f .kind) 8) (sendGroup (f .station) (f .other) text)
-    (sendLong (f .station) (f .set) text)))))))))
+    (cond (eqb (f .kind) 9) (sendLong (f .station) (f .set) text)
+    (retire (f .cart)))))))))))
 
 -- what the reader says: "end"; a refusal; or an event, and how many octets it took
 pub data Reading : Type 0 where
@@ -85,7 +88,7 @@ pub data Reading : Type 0 where
 
 -- "refusal 2 no longer covers a kind once a request defines it": the last that is defined
 abbrev pub lastKind : ℕ
-lastKind = 9
+lastKind = 10
 
 -- the refusal of a frame with these fields and so many octets behind it, 0 if it is taken apart
 unfoldable pub fieldsRefusal : Limits → Fields → ℕ → ℕ

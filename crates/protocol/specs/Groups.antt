@@ -4,7 +4,7 @@ use Prim.Native.Nat.{ℕ}
 use Rattle.protocol.specs.Folds.{count, update}
 use Rattle.protocol.specs.CartSets.{has}
 use Rattle.protocol.specs.Floor.{Floor, setGroups}
-use Rattle.protocol.specs.Events.{Event, start, enter, send, wire, radio, move, flag, group, sendGroup, sendLong, Done, done}
+use Rattle.protocol.specs.Events.{Event, start, enter, send, wire, radio, move, flag, group, sendGroup, sendLong, retire, Done, done}
 
 -- "Sixteen groups", of every caller
 abbrev pub groupCount : ℕ
@@ -33,3 +33,4 @@ asSent F (flag c b) = flag c b
 asSent F (group g set) = group g set
 asSent F (sendGroup s g text) = send s (F .groups g) text
 asSent F (sendLong s set text) = send s set text
+asSent F (retire c) = retire c

@@ -7,7 +7,7 @@ use lib.Dec.{eqb, ltb}
 use lib.ListN.{getD}
 use Rattle.protocol.specs.Folds.{sum, first, listOf, update, update2, byOption}
 use Rattle.protocol.specs.CartSets.{has, with, without}
-use Rattle.protocol.specs.Floor.{Limits, at, leaving, deregister, Floor, setPlace, setNext, setSteady, setCopy, setQueue, between, push, stationOf, isBuffered, isMessage}
+use Rattle.protocol.specs.Floor.{Limits, outside, at, leaving, deregister, Floor, setPlace, setNext, setSteady, setCopy, setQueue, setGroups, between, push, stationOf, isBuffered, isMessage}
 use Rattle.protocol.specs.Events.{Done, done}
 use Rattle.protocol.specs.Order.{placeIn}
 
@@ -25,6 +25,18 @@ onMove F c to =
 -- cart c is told steady, or not: "It prints cart and flag with p = 0 and w = 0"
 unfoldable pub onFlag : Floor → ℕ → Bool → Done
 onFlag F c b = done (setSteady F (update (F .steady) c b)) 6 c (cond b 1 0) 0 0 0 []
+
+-- A CART GOES BACK TO THE FACTORY: it "leaves every group, and a group that this empties is undefined", since one without members is
+abbrev pub leaveGroups : Floor → ℕ → Floor
+leaveGroups F c = setGroups F (λ g. without (F .groups g) c)
+
+-- "It may enter again, with all next numbers 0": cart c has those
+abbrev pub noNumbers : Floor → ℕ → Floor
+noNumbers F c = setNext F (λ d s. cond (eqb d c) 0 (F .next d s))
+
+-- "Kind 10 carries a cart and retires it: the number becomes outside, leaves every group"; "It prints the cart, 0, p = 0, w = 0, q = 0"
+unfoldable pub onRetire : Floor → ℕ → Done
+onRetire F c = done (leaveGroups (noNumbers (setPlace F (update (F .place) c outside)) c) c) 10 c 0 0 0 0 []
 
 -- the cart's next numbers become those of the row
 abbrev pub withRow : Floor → ℕ → (ℕ → ℕ) → Floor

@@ -9,7 +9,7 @@ use lib.ListN.{length, drop}
 use Rattle.protocol.specs.Folds.{count, sum, update, update2, byOption, isEmpty}
 use Rattle.protocol.specs.CartSets.{has}
 use Rattle.protocol.specs.Floor.{Limits, Floor, mostText, unstarted}
-use Rattle.protocol.specs.Events.{Event, start, enter, send, wire, radio, move, flag, group, sendGroup, sendLong, Answer, refused, accepted}
+use Rattle.protocol.specs.Events.{Event, start, enter, send, wire, radio, move, flag, group, sendGroup, sendLong, retire, Answer, refused, accepted}
 use Rattle.protocol.specs.Groups.{asSent}
 use Rattle.protocol.specs.Claims.{Claim, is, le, lt, both, all, test}
 use Rattle.protocol.specs.Refusals.{check, wrongSize}
@@ -181,6 +181,7 @@ fedBy (flag c b) a = none
 fedBy (group g set) a = none
 fedBy (sendGroup s g text) a = none
 fedBy (sendLong s set text) a = none
+fedBy (retire c) a = none
 
 -- the call that event e makes on floor F
 abbrev pub callOf : Limits → Floor → Event → Option PlainCall
@@ -267,6 +268,7 @@ receiptLine index (flag c b) a = []
 receiptLine index (group g set) a = []
 receiptLine index (sendGroup s g text) a = []
 receiptLine index (sendLong s set text) a = []
+receiptLine index (retire c) a = []
 
 -- of the frames in these octets, at most so many, from a floor and an index
 unfoldable pub receiptLinesFrom : Limits → ℕ → Floor → ℕ → List ℕ → List ℕ

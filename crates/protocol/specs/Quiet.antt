@@ -9,7 +9,7 @@ use lib.Dec.{eqb, ltb}
 use lib.ListN.{length}
 use Rattle.protocol.specs.Folds.{first, byOption, isNone, isEmpty}
 use Rattle.protocol.specs.Floor.{Limits, Floor, mostText, entered}
-use Rattle.protocol.specs.Events.{Event, start, enter, send, wire, radio, move, flag, group, sendGroup, sendLong, Answer, bufferAfter}
+use Rattle.protocol.specs.Events.{Event, start, enter, send, wire, radio, move, flag, group, sendGroup, sendLong, retire, Answer, bufferAfter}
 use Rattle.protocol.specs.Form.{passesForm}
 use Rattle.protocol.specs.Refusals.{check, refusal}
 use Rattle.protocol.specs.Step.{step, floorAfter, answers}
@@ -122,6 +122,7 @@ IsWork (flag c b) = ⊥
 IsWork (group g set) = ⊥
 IsWork (sendGroup s g text) = ⊥
 IsWork (sendLong s set text) = ⊥
+IsWork (retire c) = ⊥
 
 -- each event of a list is one, and is accepted on the floor that those before it leave
 abbrev pub Works : Limits → Floor → List Event → Type 0

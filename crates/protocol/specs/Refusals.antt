@@ -6,8 +6,8 @@ use lib.Dec.{eqb, ltb, leb}
 use lib.ListN.{length}
 use Rattle.protocol.specs.Folds.{every, byOption, isNone, isEmpty}
 use Rattle.protocol.specs.CartSets.{has}
-use Rattle.protocol.specs.Floor.{Limits, Floor, isAt, entered, moving}
-use Rattle.protocol.specs.Events.{Event, start, enter, send, wire, radio, move, flag, group, sendGroup, sendLong}
+use Rattle.protocol.specs.Floor.{Limits, Floor, isAt, entered, moving, isHeld}
+use Rattle.protocol.specs.Events.{Event, start, enter, send, wire, radio, move, flag, group, sendGroup, sendLong, retire}
 use Rattle.protocol.specs.Groups.{groupCount}
 use Rattle.protocol.specs.Store.{notLong, storeUsed}
 use Rattle.protocol.specs.Wired.{freeRoom}
@@ -34,9 +34,9 @@ noCart F c = leb (F .carts) c
 abbrev pub strangers : Floor → ℕ → Bool
 strangers F set = leb (2 ^ F .carts) set
 
--- 12: "a named cart never entered"
-unfoldable pub neverEntered : Floor → ℕ → Bool
-neverEntered F set = not (every (F .carts) (λ c. not (has set c) || entered (F .place c)))
+-- 12: a named cart is "not now entered". So the "Never entered" of 01 "in 12 and 18 reads", since a cart may be retired, "and 10 reads" "now entered"
+unfoldable pub notEntered : Floor → ℕ → Bool
+notEntered F set = not (every (F .carts) (λ c. not (has set c) || entered (F .place c)))
 
 -- 26: "a library group above 15"; a frame's other field has no such number
 abbrev pub noGroup : ℕ → Bool
@@ -59,6 +59,10 @@ module _ (M : Limits) (F : Floor) where
   abbrev pub storeFull : List ℕ → Bool
   storeFull text = ltb (M .store) (storeUsed M (F .waiting) (F .text) + length text)
 
+  -- 29: "a held message names the cart", by the set as sent: until its last delete, whoever has received it
+  unfoldable pub isNamed : ℕ → Bool
+  isNamed c = not (every (M .held) (λ m. not (isHeld F m && has (F .named m) c)))
+
   -- the first checks of a send to a set, behind 4, and what follows them
   abbrev pub firstOfSend : Bool → ℕ → ℕ → ℕ → ℕ
   firstOfSend broken s set rest =
@@ -66,7 +70,7 @@ module _ (M : Limits) (F : Floor) where
       (check 8 (noStation F s)
       (check 9 (strangers F set)
       (check 11 (eqb set 0)
-      (check 12 (neverEntered F set)
+      (check 12 (notEntered F set)
       rest))))
 
   -- has the station a number, and the floor a room, for one more message? "13 now speaks of the caller's last number; its place is unchanged"
@@ -82,9 +86,9 @@ module _ (M : Limits) (F : Floor) where
 
   -- the refusal of an event, 0 if it is accepted; `broken`: "not started, or the lent floor breaks the written form rule". "Start skips 8
   -- and 9, and of 5 it keeps only this: a lent part of the floor has the wrong length, met before 6". A number above 21 came later, with its
-  -- place: "24 empty text, after 12 and before 13"; "for radio, 25 not steady, after 16 and before 17". For a flag: "18 if never entered, after 9";
+  -- place: "24 empty text, after 12 and before 13"; "for radio, 25 not steady, after 16 and before 17". For a flag 18, "after 9";
   -- for a group "12 after 9, then 26 for a library group above 15"; for a group send "26 group not defined or above 15, after 8, then 24, 13, 14";
-  -- for kind 9 "4 for other lengths; 27 .., after 14", and 24 cannot be
+  -- for kind 9 "4 for other lengths; 27 .., after 14", and 24 cannot be; "for kind 10, after 9, 18, then 19, then 29"
   unfoldable pub refusalIf : Bool → Event → ℕ
   refusalIf broken (start n k) = check 5 (not (F .lengthsRight)) (check 6 (F .started) (check 7 (wrongSize M n k) 0))
   refusalIf broken (enter t c) =
@@ -121,7 +125,7 @@ module _ (M : Limits) (F : Floor) where
   refusalIf broken (group g members) =
       check 5 broken
       (check 9 (strangers F members)
-      (check 12 (neverEntered F members)
+      (check 12 (notEntered F members)
       (check 26 (noGroup g) 0)))
   refusalIf broken (sendGroup s g text) =
       check 4 (ltb (M .text) (length text))
@@ -132,6 +136,11 @@ module _ (M : Limits) (F : Floor) where
   refusalIf broken (sendLong s set text) =
       check 4 (notLong M (length text))
       (firstOfSend broken s set (numberAndRoom s (check 27 (storeFull text) 0)))
+  refusalIf broken (retire c) =
+      check 5 broken
+      (check 9 (noCart F c)
+      (check 18 (not (entered (F .place c)))
+      (check 19 (moving (F .place c)) (check 29 (isNamed c) 0))))
 
   -- the refusal of an event, 0 if it is accepted
   unfoldable pub refusal : Event → ℕ
