@@ -10,7 +10,7 @@ use lib.Seq.{getD-set-same}
 use borrow.Author.Tests.{eqb-true, lt-ltb}
 use Rattle.protocol.specs.Folds.{every, listOf, update}
 use Rattle.protocol.specs.Floor.{outside, at, leaving, travelling, Carts}
-use Rattle.protocol.proofs.Tests.{by-test, by-lt, and-left, and-right, every-at, every-all, on-update, length-listOf, listOf-at}
+use Rattle.protocol.proofs.Tests.{by-test, by-lt, and-left, and-right, every-at, every-all, on-update, length-listOf, listOf-at, listOf-past}
 use Rattle.protocol.specs.Floor as floor
 use Rattle.ids.specs.declared.Station.{Station}
 use Rattle.ids.specs.declared.MessageNumber.{MessageNumber}
@@ -18,8 +18,8 @@ use Rattle.carts.specs.declared.Place.{Place}
 use Rattle.carts.specs.declared.Place.the-variants.{Outside, At, Leaving, Travelling}
 use Rattle.carts.specs.declared.Cart.{Cart}
 use Rattle.carts.specs.Words.{placeIn, canonical}
-use Rattle.carts.specs.Records.{seen, greetedPlace, greeted, departedPlace, departed, arrived, numberAfter, received, told}
-use Rattle.carts.specs.View.{withPlace, withSteady, withRow, withCart, IsCart}
+use Rattle.carts.specs.Records.{seen, greetedPlace, greeted, departedPlace, departed, arrived, numberAfter, received, told, allZero, retired}
+use Rattle.carts.specs.View.{withPlace, withSteady, withRow, withOutside, withCart, IsCart}
 
 -- a list has nothing to change behind its end
 pub set-beyond : (l : List ℕ) (i v : ℕ) → length l ≤ i → l ≡ set l i v
@@ -74,6 +74,10 @@ one-more-canonical K c e =
     every-all (c + 1) (update K c true) (λ d l. on-update (λ b. b ≡ true) K c true d (λ q. refl) (λ q. every-at c K e d (omega arith)))
 
 -- THE STEPS
+
+-- "all next numbers 0"
+pub zeros : (s : ℕ) → getD allZero s 0 ≡ 0
+zeros s = let none : ℕ → ℕ = λ _. 0 in by-lt s 16 (λ l. listOf-at 16 none 0 s l) (λ l. listOf-past 16 none 0 s l)
 
 -- beyond sixteen initiators there are no next numbers
 abbrev pub Sixteen : Carts → Type 0
@@ -146,6 +150,16 @@ module _ (C : Carts) (sixteen : Sixteen C) (c : ℕ) (k : Cart) (is : IsCart C c
     where
       place-same : (d : ℕ) → update (C .place) c (seen (k .place)) d ≡ C .place d
       place-same d = by-test (eqb d c) (λ q. rw q (is .place ∙ ap (C .place) (sym (eqb-true d c q)))) (λ q. rw q)
+
+  -- a cart that goes back keeps only its flag
+  pub retire-step : (k′ : Cart) → k′ ≡ retired k → withCart C c k′ ≡ withOutside C c
+  retire-step k′ g =
+      ap (λ x. withCart C c x) g
+      ∙ (λ i. record {
+        place = update (C .place) c outside;
+        next = λ d s. cond (eqb d c) (zeros s i) (C .next d s);
+        steady = λ d. flag-same (C .steady) c (k .steady) (is .steady) d i;
+      })
 
   -- "its next number rises": that of the record received
   pub receive-entry : (s : Station) (n : MessageNumber) (k′ : Cart) → s .0 < 16 → n .0 < 18446744073709551615 → k′ ≡ received k s n → getD (k′ .next) (s .0) 0 ≡ n .0 + 1

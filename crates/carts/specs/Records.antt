@@ -4,6 +4,7 @@ use mathlib.Core.List.{List}
 use Prim.Native.Nat.{ℕ, _+_}
 use lib.Dec.{ltb}
 use lib.ListN.{set}
+use Rattle.protocol.specs.Folds.{listOf}
 use Rattle.protocol.specs.Floor.{outside, at, leaving, travelling}
 use Rattle.protocol.specs.Floor as floor
 use Rattle.ids.specs.declared.Station.{Station}
@@ -57,3 +58,12 @@ received k initiator n = record { place = k .place; next = set (k .next) (initia
 -- a cart's record when it is told steady, or not
 abbrev pub told : Cart → Bool → Cart
 told k steady = record { place = k .place; next = k .next; steady = steady }
+
+-- "all next numbers 0"
+abbrev pub allZero : List ℕ
+allZero = listOf 16 (λ s. 0)
+
+-- a cart's record when it goes back to the factory: "the number becomes outside", and "may enter again, with all next numbers 0". Nobody reads the flag of
+-- a cart that is outside
+abbrev pub retired : Cart → Cart
+retired k = record { place = Outside; next = allZero; steady = k .steady }

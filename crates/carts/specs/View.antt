@@ -45,6 +45,10 @@ withNext C c s n = record { place = C .place; next = update2 (C .next) c s n; st
 abbrev pub withRow : Carts → ℕ → List ℕ → Carts
 withRow C c row = record { place = C .place; next = λ d s. cond (eqb d c) (entryOf row s) (C .next d s); steady = C .steady }
 
+-- cart c outside, with all next numbers 0
+abbrev pub withOutside : Carts → ℕ → Carts
+withOutside C c = record { place = update (C .place) c outside; next = λ d s. cond (eqb d c) 0 (C .next d s); steady = C .steady }
+
 -- another record of cart c
 abbrev pub withCart : Carts → ℕ → Cart → Carts
 withCart C c k = withRow (withSteady (withPlace C c (seen (k .place))) c (k .steady)) c (k .next)

@@ -8,7 +8,7 @@ ghost use Prim.Native.Nat.{_<_};
 ghost use lib.ListN.{length};
 ghost use Rattle.protocol.specs.Folds.{listOf, update};
 ghost use Rattle.carts.specs.Words.{HasRow, firstWord, placeIn, canonical, canonicalFirst};
-ghost use Rattle.carts.specs.Records.{seen, greeted, departed, arrived, numberAfter, received, told};
+ghost use Rattle.carts.specs.Records.{seen, greeted, departed, arrived, numberAfter, received, told, retired};
 ghost use Rattle.carts.specs.View.{cartsIn, canonicalIn, noCarts, withPlace, withSteady, withNext, withRow, withCart, IsCart};
 
 // "A cart is outside, at a station, leaving (it has greeted a new station, the old one has not heard), or travelling (its register is on
@@ -91,6 +91,19 @@ impl Cart {
     {
         self.steady = steady;
         self
+    }
+
+    // The cart goes back to the factory: it is outside, with all next numbers 0.
+    pub fn retire(self) -> Cart
+        ensures { λ r. ⌜ r ≡ retired self ⌝ }
+    {
+        let next = [0u64; 16];
+        let steady = self.steady;
+        Cart {
+            place: Place::Outside,
+            next,
+            steady,
+        }
     }
 }
 

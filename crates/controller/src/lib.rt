@@ -1,4 +1,4 @@
-// THE CONTROLLER: the ten events over a floor in lent memory. Each takes any numbers and any lent parts, refuses first, "Checks run down the
+// THE CONTROLLER: the eleven events over a floor in lent memory. Each takes any numbers and any lent parts, refuses first, "Checks run down the
 // table; the first that applies is the answer", and leaves exactly the written floor. A contract `Met L L′ e a` says of the lent parts
 // before and after: the answer is the written one, the floor that they say is the written step's, and a refusal changed no word of them.
 use dispatcher::Quiet;
@@ -10,7 +10,7 @@ use products::Bounds;
 ghost use mathlib.Core.Path.{_≡_};
 ghost use mathlib.Core.List.{[]};
 ghost use Rattle.protocol.specs.Floor.{wholeFloor, limitsOf};
-ghost use Rattle.protocol.specs.Events.{start, enter, send, wire, move, flag, sendGroup, sendLong};
+ghost use Rattle.protocol.specs.Events.{start, enter, send, wire, move, flag, sendGroup, sendLong, retire};
 ghost use Rattle.protocol.specs.Events as events;
 ghost use Rattle.protocol.specs.ReadText.{readRefusal};
 ghost use Rattle.products.specs.Numbers.{Fits, NumbersOf};
@@ -293,6 +293,30 @@ pub fn send_long(
         station,
         set,
         text,
+        own_bounds(),
+    )
+}
+
+// "Kind 10 carries a cart and retires it: the number becomes outside, leaves every group". "It may enter again, with all next numbers 0 and steady."
+pub fn retire(
+    stations: &mut [u64],
+    carts: &mut [u64],
+    messages: &[u64],
+    lines: &[u64],
+    texts: &[u8],
+    store: &[u8],
+    cart: CartNumber,
+) -> Answer
+    ensures { λ a. ⌜ Met (lent wholeFloor (now (stations .entry)) (now (carts .entry)) (now (messages .entry)) (now (lines .entry)) (now (texts .entry)) (now (store .entry))) (lent wholeFloor (now (stations .exit)) (now (carts .exit)) (now (messages .entry)) (now (lines .entry)) (now (texts .entry)) (now (store .entry))) (retire (cart .0)) (answerIn a []) ⌝ }
+{
+    tested_events::retire(
+        stations,
+        carts,
+        messages,
+        lines,
+        texts,
+        store,
+        cart,
         own_bounds(),
     )
 }

@@ -35,7 +35,7 @@ use Rattle.view.specs.View.{Lent, floorIn}
 use Rattle.view.proofs.Lengths.{lengths-right, nothing-beyond}
 use Rattle.view.proofs.Standing.{Standing, standing, few-stations}
 use Rattle.event_answers.specs.declared.Outcome.{Outcome}
-use Rattle.event_answers.specs.declared.Outcome.the-variants.{Started, Entered, Sent, Buffered, Acknowledged, Deleted, Deregistered, Registered, Received, Moved, Flagged, Grouped, SentToGroup, SentLong}
+use Rattle.event_answers.specs.declared.Outcome.the-variants.{Started, Entered, Sent, Buffered, Acknowledged, Deleted, Deregistered, Registered, Received, Moved, Flagged, Grouped, SentToGroup, SentLong, Retired}
 use Rattle.event_answers.specs.declared.Answer.{Answer}
 use Rattle.event_answers.specs.declared.Answer.the-variants.{Refused, Accepted}
 use Rattle.event_answers.specs.Answers.{reportOf, answerIn}
@@ -68,6 +68,7 @@ effect-reported (Flagged c b) f = refl
 effect-reported (Grouped g members) f = refl
 effect-reported (SentToGroup s n) f = refl
 effect-reported (SentLong s n) f = refl
+effect-reported (Retired c) f = refl
 
 records-told : (a : Answer) (octets : List ℕ) → recordsIn a ≡ recordsPut (answerIn a octets)
 records-told (Refused r) octets = refl

@@ -8,7 +8,7 @@ use native.Mathlib.Omega.{arith}
 use lib.ListN.{length}
 use borrow.Author.Tests.{lt-ltb, le-ltb, lt-leb, le-leb}
 use Rattle.protocol.specs.Floor.{limitsOf}
-use Rattle.protocol.specs.Events.{Event, enter, send, wire, radio, move, flag, group, sendGroup, sendLong, refused}
+use Rattle.protocol.specs.Events.{Event, enter, send, wire, radio, move, flag, group, sendGroup, sendLong, retire, refused}
 use Rattle.protocol.specs.Form.{passesForm}
 use Rattle.protocol.specs.Refusals.{refusal, refusalIf}
 use Rattle.view.specs.View.{Lent, floorIn}
@@ -44,6 +44,10 @@ module _ (L : Lent) (tested : Bool) (test-is : tested ≡ passesForm (limitsOf (
   pub broken-group : (g set : ℕ) → Met L L (group g set) (refused 5)
   unfolding refusalIf
   broken-group g set = meets-broken L (group g set) tested test-is no refl
+
+  pub broken-retire : (c : ℕ) → Met L L (retire c) (refused 5)
+  unfolding refusalIf
+  broken-retire c = meets-broken L (retire c) tested test-is no refl
 
   -- a text within the limit
   pub broken-send : (s set : ℕ) (text : List ℕ) → length text ≤ 32 → Met L L (send s set text) (refused 5)

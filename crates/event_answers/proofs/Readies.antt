@@ -6,7 +6,7 @@ use lib.Dec.{eqb, ltb}
 use lib.ListN.{length}
 use borrow.Author.Tests.{eqb-true, not-true, not-false}
 use Rattle.protocol.specs.Floor.{Limits, Floor, Product, limitsOf}
-use Rattle.protocol.specs.Events.{Event, Answer, start, enter, send, wire, radio, move, flag, group, sendGroup, sendLong}
+use Rattle.protocol.specs.Events.{Event, Answer, start, enter, send, wire, radio, move, flag, group, sendGroup, sendLong, retire}
 use Rattle.protocol.specs.Store.{notLong}
 use Rattle.protocol.specs.Form.{passesForm}
 use Rattle.protocol.specs.Blank.{BlankBeyond}
@@ -54,6 +54,7 @@ first-lengths M F b t (flag c on) r = clash b t (passed-check 5 b _ (omega arith
 first-lengths M F b t (group g set) r = clash b t (passed-check 5 b _ (omega arith) r .0)
 first-lengths M F b t (sendGroup s g text) r = clash b t (passed-check 5 b _ (omega arith) (passed-check 4 (ltb (M .text) (length text)) _ (omega arith) r .1) .0)
 first-lengths M F b t (sendLong s set text) r = clash b t (passed-check 5 b _ (omega arith) (passed-check 4 (notLong M (length text)) _ (omega arith) r .1) .0)
+first-lengths M F b t (retire c) r = clash b t (passed-check 5 b _ (omega arith) r .0)
 
 lengths-stay : (M : Limits) (F : Floor) (e : Event) → F .lengthsRight ≡ true → step M F e .lengthsRight ≡ true
 unfolding step refusal

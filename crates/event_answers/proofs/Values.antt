@@ -9,7 +9,7 @@ use denote.Enum.Declared.{tagOf}
 use types.Run.{OneOf, miss}
 use mir.Val.{boolByte}
 use Rattle.event_answers.specs.declared.Outcome.{Outcome}
-use Rattle.event_answers.specs.declared.Outcome.the-variants.{Started, Entered, Sent, Buffered, Acknowledged, Deleted, Deregistered, Registered, Received, Moved, Flagged, Grouped, SentToGroup, SentLong}
+use Rattle.event_answers.specs.declared.Outcome.the-variants.{Started, Entered, Sent, Buffered, Acknowledged, Deleted, Deregistered, Registered, Received, Moved, Flagged, Grouped, SentToGroup, SentLong, Retired}
 use Rattle.event_answers.specs.Answers.{firstApplying, textSize}
 use Rattle.event_answers.proofs.Outcome.{the-type as outcome-type}
 
@@ -23,7 +23,7 @@ module _ (r next : ℕ) where
 
 -- every case but that of a radio step
 abbrev pub textless : List ℕ
-textless = 0 ∷ 1 ∷ 2 ∷ 3 ∷ 4 ∷ 5 ∷ 6 ∷ 7 ∷ 9 ∷ 10 ∷ 11 ∷ 12 ∷ 13 ∷ []
+textless = 0 ∷ 1 ∷ 2 ∷ 3 ∷ 4 ∷ 5 ∷ 6 ∷ 7 ∷ 9 ∷ 10 ∷ 11 ∷ 12 ∷ 13 ∷ 14 ∷ []
 
 pub no-octets : (o : Outcome) → OneOf textless (tagOf outcome-type o) → 0 ≡ textSize o
 no-octets (Started n k) h = refl
@@ -40,6 +40,7 @@ no-octets (Flagged c b) h = refl
 no-octets (Grouped g members) h = refl
 no-octets (SentToGroup s n) h = refl
 no-octets (SentLong s n) h = refl
+no-octets (Retired c) h = refl
 
 -- a flag as a number, in the way of the code's cast
 pub flag-cast : (b : Bool) → boolByte b ≡ cond b 1 0

@@ -10,7 +10,7 @@ use Rattle.reports.specs.declared.Effect.{Effect}
 use Rattle.reports.specs.declared.Report.{Report}
 use Rattle.reports.specs.Effects.{nothing, acceptedIn}
 use Rattle.event_answers.specs.declared.Outcome.{Outcome}
-use Rattle.event_answers.specs.declared.Outcome.the-variants.{Started, Entered, Sent, Buffered, Acknowledged, Deleted, Deregistered, Registered, Received, Moved, Flagged, Grouped, SentToGroup, SentLong}
+use Rattle.event_answers.specs.declared.Outcome.the-variants.{Started, Entered, Sent, Buffered, Acknowledged, Deleted, Deregistered, Registered, Received, Moved, Flagged, Grouped, SentToGroup, SentLong, Retired}
 use Rattle.event_answers.specs.declared.Answer.{Answer}
 use Rattle.event_answers.specs.declared.Answer.the-variants.{Refused, Accepted}
 use Rattle.event_answers.specs.declared.Told.{Told}
@@ -29,7 +29,7 @@ flagNumber steady = cond steady 1 0
 
 -- "a, b: start, stations and carts; enter, station and cart; send, station and number; wire, record kind and message number (cart for 4 and
 -- 5); radio, initiator and number; move, cart and to"; of a flag "It prints cart and flag". "Kind 7 prints group and number of members; kind 8 prints
--- as a send, under its own kind", and so does kind 9
+-- as a send, under its own kind", and so does kind 9. Kind 10 "prints the cart, 0"
 abbrev pub reportOf : Outcome → Effect → Report
 reportOf (Started n k) f = values 0 n k f
 reportOf (Entered t c) f = values 1 (t .0) (c .0) f
@@ -45,6 +45,7 @@ reportOf (Flagged c b) f = values 6 (c .0) (flagNumber b) f
 reportOf (Grouped g members) f = values 7 g members f
 reportOf (SentToGroup s n) f = values 8 (s .0) (n .0) f
 reportOf (SentLong s n) f = values 9 (s .0) (n .0) f
+reportOf (Retired c) f = values 10 (c .0) 0 f
 
 -- "Radio adds the text": how many octets; the others add none
 abbrev pub textSize : Outcome → ℕ
@@ -62,6 +63,7 @@ textSize (Flagged c b) = 0
 textSize (Grouped g members) = 0
 textSize (SentToGroup s n) = 0
 textSize (SentLong s n) = 0
+textSize (Retired c) = 0
 
 -- the same in numbers; what a refusal would report is not looked at
 abbrev pub toldOf : Answer → Told

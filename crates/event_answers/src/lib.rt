@@ -37,6 +37,8 @@ pub enum Outcome {
     SentToGroup(Station, MessageNumber),
     // The station, the number of the message that has a long text.
     SentLong(Station, MessageNumber),
+    // The cart that went back.
+    Retired(CartNumber),
 }
 
 // The answer to an event.
@@ -87,6 +89,7 @@ fn report_of(outcome: Outcome, effect: Effect) -> Report
         Outcome::Grouped(group, members) => report(7, group, members, effect),
         Outcome::SentToGroup(station, number) => report(8, station.0, number.0, effect),
         Outcome::SentLong(station, number) => report(9, station.0, number.0, effect),
+        Outcome::Retired(cart) => report(10, cart.0, 0, effect),
     }
 }
 

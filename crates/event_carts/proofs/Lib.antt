@@ -4,3 +4,5 @@ pub mod EnterChecks
 pub mod EnterMeets
 pub mod FlagChecks
 pub mod FlagMeets
+pub mod RetireChecks
+pub mod RetireMeets

@@ -6,7 +6,7 @@ use borrow.Author.Tests.{le-leb, lt-leb}
 use Rattle.protocol.specs.Floor.{Product, limitsOf, Floor}
 use Rattle.protocol.specs.Groups.{groupCount}
 use Rattle.protocol.specs.Events.{group}
-use Rattle.protocol.specs.Refusals.{check, strangers, neverEntered, noGroup, refusalIf}
+use Rattle.protocol.specs.Refusals.{check, strangers, notEntered, noGroup, refusalIf}
 use Rattle.event_answers.specs.Answers.{firstApplying}
 use Rattle.event_send.specs.Checks.{namedChecks}
 
@@ -26,4 +26,4 @@ in-turn false false next = refl
 pub group-checks : (P : Product) (F : Floor) (g set a b r : ℕ) → a ≡ namedChecks F set → b ≡ check 26 (noGroup g) 0 → r ≡ firstApplying a b
     → r ≡ refusalIf (limitsOf P) F false (group g set)
 unfolding refusalIf
-group-checks P F g set a b r p q e = rw (e, p, q) (in-turn (strangers F set) (neverEntered F set) (check 26 (noGroup g) 0))
+group-checks P F g set a b r p q e = rw (e, p, q) (in-turn (strangers F set) (notEntered F set) (check 26 (noGroup g) 0))

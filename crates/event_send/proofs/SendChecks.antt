@@ -14,7 +14,7 @@ use Rattle.protocol.specs.Events.{send, sendGroup, sendLong}
 use Rattle.protocol.specs.Store.{storeUsed}
 use Rattle.protocol.specs.Wired.{freeRoom}
 use Rattle.protocol.specs.Claims.{True}
-use Rattle.protocol.specs.Refusals.{check, strangers, neverEntered, undefined, lastOfSend, storeFull, refusalIf}
+use Rattle.protocol.specs.Refusals.{check, strangers, notEntered, undefined, lastOfSend, storeFull, refusalIf}
 use Rattle.protocol.proofs.Tests.{by-test}
 use Rattle.stations.specs.View.{stationsIn}
 use Rattle.messages.specs.View.{roomsIn}
@@ -108,7 +108,7 @@ module _ (P : Product) (F : Floor) (s set : ℕ) (text : List ℕ) (short : leng
       → firstApplying a b ≡ refusalIf (limitsOf P) F false (send s set text)
   unfolding refusalIf
   send-checks l a b p q =
-      rw (p, q, le-ltb 32 (length text) short, lt-leb (F .stations) s l) (in-turn (strangers F set) (eqb set 0) (neverEntered F set) (lastOfSend (limitsOf P) F s text))
+      rw (p, q, le-ltb 32 (length text) short, lt-leb (F .stations) s l) (in-turn (strangers F set) (eqb set 0) (notEntered F set) (lastOfSend (limitsOf P) F s text))
 
 -- of a long one
 module _ (P : Product) (F : Floor) (s set : ℕ) (text : List ℕ) (above : 32 < length text) (below : length text ≤ 512) where
@@ -121,7 +121,7 @@ module _ (P : Product) (F : Floor) (s set : ℕ) (text : List ℕ) (above : 32 <
   unfolding refusalIf
   send-long-checks l a b p q =
       rw (p, q, lt-leb (length text) 32 above, le-ltb 512 (length text) below, lt-leb (F .stations) s l)
-      (in-turn (strangers F set) (eqb set 0) (neverEntered F set) (lastOfLong (limitsOf P) F s text))
+      (in-turn (strangers F set) (eqb set 0) (notEntered F set) (lastOfLong (limitsOf P) F s text))
 
 -- THE SAME OF A SEND TO A GROUP
 module _ (P : Product) (F : Floor) (s g : ℕ) (text : List ℕ) (short : length text ≤ 32) where

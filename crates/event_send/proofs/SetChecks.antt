@@ -8,7 +8,7 @@ use borrow.Author.Tests.{le-leb, lt-leb, eq-eqb, ne-eqb}
 use Rattle.protocol.specs.Floor.{Product, Floor}
 use Rattle.protocol.specs.CartSets.{setOf}
 use Rattle.protocol.specs.Claims.{test}
-use Rattle.protocol.specs.Refusals.{check, strangers, neverEntered}
+use Rattle.protocol.specs.Refusals.{check, strangers, notEntered}
 use Rattle.protocol.proofs.SetLaws.{zero-below}
 use Rattle.stations.specs.View.{headIn}
 use Rattle.carts.specs.View.{cartsIn}
@@ -28,15 +28,15 @@ module _ (S C : List ℕ) (set most : ℕ) (P : Product) (M W T O : List ℕ) (e
     inside : set < 2 ^ headIn S .carts
     inside = within-all (headIn S .carts) set most e l
 
-    never : neverEntered F set ≡ not r
-    unfolding neverEntered test
-    never = ap not (sym (found ∙ entered-wider (cartsIn C .place) (headIn S .carts) set few inside))
+    outside : notEntered F set ≡ not r
+    unfolding notEntered test
+    outside = ap not (sym (found ∙ entered-wider (cartsIn C .place) (headIn S .carts) set few inside))
 
     pub named-outside : r ≡ false → 12 ≡ namedChecks F set
-    named-outside q = rw (lt-leb (2 ^ headIn S .carts) set inside, never, q) refl
+    named-outside q = rw (lt-leb (2 ^ headIn S .carts) set inside, outside, q) refl
 
     pub named-passes : r ≡ true → 0 ≡ namedChecks F set
-    named-passes q = rw (lt-leb (2 ^ headIn S .carts) set inside, never, q) refl
+    named-passes q = rw (lt-leb (2 ^ headIn S .carts) set inside, outside, q) refl
 
 -- A SEND'S SET: an empty one has no cart off the floor, and of another one the test between the two is passed
 module _ (F : Floor) (set : ℕ) where
@@ -44,4 +44,4 @@ module _ (F : Floor) (set : ℕ) where
   set-empty z = rw (lt-leb (2 ^ F .carts) set (rw z (zero-below (F .carts))), eq-eqb set 0 z) refl
 
   pub set-named : (set ≡ 0 → ⊥) → (r : ℕ) → r ≡ namedChecks F set → r ≡ setChecks F set
-  set-named n r e = e ∙ ap (λ (b : Bool). check 9 (strangers F set) (check 11 b (check 12 (neverEntered F set) 0))) (sym (ne-eqb set 0 n))
+  set-named n r e = e ∙ ap (λ (b : Bool). check 9 (strangers F set) (check 11 b (check 12 (notEntered F set) 0))) (sym (ne-eqb set 0 n))

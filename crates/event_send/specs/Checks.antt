@@ -5,17 +5,17 @@ use lib.Dec.{eqb, ltb}
 use lib.ListN.{length}
 use Rattle.protocol.specs.Folds.{isEmpty}
 use Rattle.protocol.specs.Floor.{Limits, Floor}
-use Rattle.protocol.specs.Refusals.{check, strangers, neverEntered, numberAndRoom, storeFull}
+use Rattle.protocol.specs.Refusals.{check, strangers, notEntered, numberAndRoom, storeFull}
 use Rattle.messages.specs.View.{roomsIn}
 use Rattle.store.specs.Layout.{size, usedIn}
 
--- those of the carts that an event names, a send or a group: "a cart in the set, not on the floor", "a named cart never entered"
+-- those of the carts that an event names, a send or a group: "a cart in the set, not on the floor", a named cart "not now entered"
 abbrev pub namedChecks : Floor → ℕ → ℕ
-namedChecks F set = check 9 (strangers F set) (check 12 (neverEntered F set) 0)
+namedChecks F set = check 9 (strangers F set) (check 12 (notEntered F set) 0)
 
 -- those of a send's set: between the two, "empty set"
 abbrev pub setChecks : Floor → ℕ → ℕ
-setChecks F set = check 9 (strangers F set) (check 11 (eqb set 0) (check 12 (neverEntered F set) 0))
+setChecks F set = check 9 (strangers F set) (check 11 (eqb set 0) (check 12 (notEntered F set) 0))
 
 -- that of its text: "24 empty text, after 12 and before 13"
 abbrev pub textChecks : List ℕ → ℕ

@@ -27,7 +27,7 @@ ghost use Rattle.event_answers.specs.Met.{ReadyWith, MetWith};
 ghost use Rattle.event_send.specs.Checks.{namedChecks, setChecks, textChecks, roomChecks, storeChecks, lastOfLong};
 ghost use Rattle.event_send.specs.Posted.{CanPost, CanPostLong, WasPosted};
 
-// "a cart in the set, not on the floor", 9, "a named cart never entered", 12, or 0. A set has only carts of the floor when it is no greater than the
+// "a cart in the set, not on the floor", 9, a named cart "not now entered", 12, or 0. A set has only carts of the floor when it is no greater than the
 // set of all of them.
 pub fn named_refusal(stations: &[u64], carts: &[u64], set: u64) -> u64
     requires { ⌜ HasHead (now stations) × (headIn (now stations) .carts * 19 ≤ length (now carts)) × (headIn (now stations) .carts ≤ 64) ⌝ }

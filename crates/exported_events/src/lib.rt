@@ -14,7 +14,7 @@ ghost use Prim.Native.Nat.{_≤_, _<_};
 ghost use lib.Dec.{eqb};
 ghost use lib.ListN.{length, set};
 ghost use Rattle.protocol.specs.Floor.{wholeFloor, limits};
-ghost use Rattle.protocol.specs.Events.{start, enter, send, wire, move, flag, sendGroup, sendLong};
+ghost use Rattle.protocol.specs.Events.{start, enter, send, wire, move, flag, sendGroup, sendLong, retire};
 ghost use Rattle.protocol.specs.Events as events;
 ghost use Rattle.protocol.specs.ReadText.{readRefusal};
 ghost use Rattle.view.specs.View.{lent, floorIn};
@@ -394,6 +394,33 @@ pub extern "C" fn mekhturia_send_long(
     put_answer_words(out, answer);
 }
 
+// "Kind 10 carries a cart and retires it".
+#[no_mangle]
+pub extern "C" fn mekhturia_retire(
+    stations: &mut [u64],
+    carts: &mut [u64],
+    messages: &[u64],
+    lines: &[u64],
+    texts: &[u8],
+    store: &[u8],
+    cart: u64,
+    out: &mut [u64],
+)
+    requires { ⌜ 8 ≤ length (now out) ⌝ }
+    ensures { λ _. ⌜ Answered (lent wholeFloor (now (stations .entry)) (now (carts .entry)) (now (messages .entry)) (now (lines .entry)) (now (texts .entry)) (now (store .entry))) (lent wholeFloor (now (stations .exit)) (now (carts .exit)) (now (messages .entry)) (now (lines .entry)) (now (texts .entry)) (now (store .entry))) (retire cart) [] (now (out .entry)) (now (out .exit)) ⌝ }
+{
+    let answer = controller::retire(
+        stations,
+        carts,
+        messages,
+        lines,
+        texts,
+        store,
+        CartNumber(cart),
+    );
+    put_answer_words(out, answer);
+}
+
 // "Run the floor until it is quiet", with a lent text buffer. Two words are enough for its answer.
 #[no_mangle]
 pub extern "C" fn mekhturia_quiet(
@@ -751,6 +778,34 @@ pub extern "C" fn mekhturia_step_send_long(
         set,
         text,
         products::floor_bounds(),
+    );
+    put_answer_words(out, answer);
+}
+
+// "Kind 10 carries a cart and retires it", on a floor that events can go on with.
+#[no_mangle]
+pub extern "C" fn mekhturia_step_retire(
+    stations: &mut [u64],
+    carts: &mut [u64],
+    messages: &[u64],
+    lines: &[u64],
+    texts: &[u8],
+    store: &[u8],
+    cart: u64,
+    out: &mut [u64],
+)
+    requires { ⌜ Ready (lent wholeFloor (now stations) (now carts) (now messages) (now lines) (now texts) (now store)) ⌝ }
+    requires { ⌜ 8 ≤ length (now out) ⌝ }
+    ensures { λ _. ⌜ Answered (lent wholeFloor (now (stations .entry)) (now (carts .entry)) (now (messages .entry)) (now (lines .entry)) (now (texts .entry)) (now (store .entry))) (lent wholeFloor (now (stations .exit)) (now (carts .exit)) (now (messages .entry)) (now (lines .entry)) (now (texts .entry)) (now (store .entry))) (retire cart) [] (now (out .entry)) (now (out .exit)) ⌝ }
+{
+    let answer = event_carts::retire(
+        stations,
+        carts,
+        messages,
+        lines,
+        texts,
+        store,
+        CartNumber(cart),
     );
     put_answer_words(out, answer);
 }

@@ -18,7 +18,7 @@ ghost use Rattle.carts.specs.View.{cartsIn};
 ghost use Rattle.form_tables.specs.Tables.{tables};
 ghost use Rattle.form_tables.specs.Parts.{Collects};
 
-// "never entered": a cart that is leaving or travelling has entered.
+// "not now entered": one that never was, or went back to the factory. A cart that is leaving or travelling is entered.
 fn is_outside(carts: &[u64], number: CartNumber) -> bool
     requires { ⌜ HasRow (now carts) (number .0) ⌝ }
     ensures { λ r. ⌜ r ≡ not (entered (cartsIn (now (carts .entry)) .place (number .0))) ⌝ }

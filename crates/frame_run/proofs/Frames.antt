@@ -1,13 +1,13 @@
 -- THE RULES OVER A RUN OF FRAMES: the events that the frames are, behind the start that was accepted.
 use mathlib.Core.Path.{_≡_, refl, sym, ap, _∙_, subst}
 use mathlib.Core.List.{List, [], _∷_, _++_}
-use Prim.Native.Nat.{ℕ, zero, suc, _<_}
+use Prim.Native.Nat.{ℕ, zero, suc, _+_, _<_}
 use lib.ListN.{drop}
 use Rattle.protocol.specs.Floor.{Product, Floor, limits, limitsOf, justStarted}
 use Rattle.protocol.specs.Events.{Event, Report, start, accepted}
 use Rattle.protocol.specs.Step.{step, answer, floorAfter}
 use Rattle.protocol.specs.Frames.{Reading, end, refusedFrame, taken, frameOf}
-use Rattle.protocol.specs.SumRule.{total, gains}
+use Rattle.protocol.specs.SumRule.{total, gains, takenAway}
 use Rattle.protocol.specs.TwoLists.{bothEmpty, listsAfter, owes, TwoListRule}
 use Rattle.protocol.proofs.Theorems.{start-afresh, two-list-rule, sum-rule}
 use Rattle.frame_run.specs.Piece.{runFrom, eventsFrom}
@@ -52,8 +52,9 @@ module _ (P : Product) (count : ℕ) (F : Floor) (index : ℕ) (l : List ℕ) (b
       (subst (λ (X : Floor). TwoListRule (owes (limitsOf P) (floorAfter (limitsOf P) X behind) s c) (listsAfter (limitsOf P) X bothEmpty behind .sent s c) (listsAfter (limitsOf P) X bothEmpty behind .received s c)) started
       (two-list-rule (limitsOf P) (floorAfter (limitsOf P) F before) n k report begun behind s c lc))
 
-  -- THE SUM RULE over a run of frames
-  pub sums-of-frames : total (runFrom P count F index l .floor) ≡ gains (limitsOf P) (justStarted n k) behind
+  -- THE SUM RULE over a run of frames: with "the next numbers that retired carts took with them"
+  pub sums-of-frames : total (runFrom P count F index l .floor) + takenAway (limitsOf P) (justStarted n k) behind ≡ gains (limitsOf P) (justStarted n k) behind
   sums-of-frames =
-      ap total floor-behind
-      ∙ subst (λ (X : Floor). total (floorAfter (limitsOf P) X behind) ≡ gains (limitsOf P) X behind) started (sum-rule (limitsOf P) (floorAfter (limitsOf P) F before) n k report begun behind)
+      ap (λ (X : Floor). total X + takenAway (limitsOf P) (justStarted n k) behind) floor-behind
+      ∙ subst (λ (X : Floor). total (floorAfter (limitsOf P) X behind) + takenAway (limitsOf P) X behind ≡ gains (limitsOf P) X behind) started
+      (sum-rule (limitsOf P) (floorAfter (limitsOf P) F before) n k report begun behind)

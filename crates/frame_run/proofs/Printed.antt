@@ -11,7 +11,7 @@ use lib.ListN.{length, take, drop}
 use lib.Seq.{take-append-seam}
 use borrow.Author.Tests.{eq-eqb, ne-eqb}
 use Rattle.protocol.specs.Floor.{Limits, Product, Floor, limits, limitsOf, unstarted}
-use Rattle.protocol.specs.Events.{Event, start, enter, send, wire, radio, move, flag, group, sendGroup, sendLong, Answer, refused, accepted}
+use Rattle.protocol.specs.Events.{Event, start, enter, send, wire, radio, move, flag, group, sendGroup, sendLong, retire, Answer, refused, accepted}
 use Rattle.protocol.specs.Store.{notLong}
 use Rattle.protocol.specs.Form.{passesForm}
 use Rattle.protocol.specs.Refusals.{check, wrongSize, refusal, refusalIf}
@@ -45,6 +45,7 @@ first-refusal M (flag c b) = 5
 first-refusal M (group g set) = 5
 first-refusal M (sendGroup s g text) = check 4 (ltb (M .text) (length text)) 5
 first-refusal M (sendLong s set text) = check 4 (notLong M (length text)) 5
+first-refusal M (retire c) = 5
 
 first-is : (M : Limits) (F : Floor) → Unstarted F → (e : Event) → refusal M F e ≡ first-refusal M e
 unfolding refusal refusalIf
@@ -58,6 +59,7 @@ first-is M F U (flag c b) = five (not (passesForm M F)) _ (ap not (form-unstarte
 first-is M F U (group g set) = five (not (passesForm M F)) _ (ap not (form-unstarted M F (U .fresh)))
 first-is M F U (sendGroup s g text) = ap (check 4 (ltb (M .text) (length text))) (five (not (passesForm M F)) _ (ap not (form-unstarted M F (U .fresh))))
 first-is M F U (sendLong s set text) = ap (check 4 (notLong M (length text))) (five (not (passesForm M F)) _ (ap not (form-unstarted M F (U .fresh))))
+first-is M F U (retire c) = five (not (passesForm M F)) _ (ap not (form-unstarted M F (U .fresh)))
 
 -- so only a start is accepted
 four-or-five : (b : Bool) → check 4 b 5 ≡ 0 → ⊥
@@ -75,6 +77,7 @@ only-starts M (flag c b) z = absurd (omega arith)
 only-starts M (group g set) z = absurd (omega arith)
 only-starts M (sendGroup s g text) z = absurd (four-or-five (ltb (M .text) (length text)) z)
 only-starts M (sendLong s set text) z = absurd (four-or-five (notLong M (length text)) z)
+only-starts M (retire c) z = absurd (omega arith)
 
 module _ (M : Limits) (F G : Floor) (U : Unstarted F) (U′ : Unstarted G) where
   same-refusal : (e : Event) → refusal M F e ≡ refusal M G e

@@ -25,7 +25,7 @@ use Rattle.frame_lines.proofs.Octets.{written-length, written-then}
 use Rattle.event_answers.specs.Met.{Ready, Met}
 use Rattle.event_answers.proofs.Readies.{stays-ready}
 use Rattle.frames.specs.declared.Event.{Event}
-use Rattle.frames.specs.declared.Event.the-variants.{Start, Enter, Send, Wire, Radio, Move, Flag, Group, SendGroup, SendLong}
+use Rattle.frames.specs.declared.Event.the-variants.{Start, Enter, Send, Wire, Radio, Move, Flag, Group, SendGroup, SendLong, Retire}
 use Rattle.frames.specs.declared.Reading as decoder
 use Rattle.frames.specs.declared.Reading.the-variants.{End, Refused, Taken}
 use Rattle.frames.specs.Decoded.{eventIn, sizeOf, readingIn, refusalNumber, refusalOf}
@@ -254,3 +254,4 @@ least-size (Flag c b) = omega arith
 least-size (Group g set) = omega arith
 least-size (SendGroup s g n) = omega arith
 least-size (SendLong s set n) = omega arith
+least-size (Retire c) = omega arith

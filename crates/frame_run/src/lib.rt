@@ -49,8 +49,7 @@ fn without_text(next: usize, taken: usize, answer: Answer) -> Dispatched
 }
 
 // An event of the run, of the frame at a place: a send is followed by its text. Its line begins at another place of the output, with the index. That
-// waits for nothing, so it is written first, while the processor still looks up what the event needs; and each kind does it for itself, so that
-// a frame's kind is asked for once.
+// waits for nothing, so it is written first, while the processor still looks up what the event needs.
 pub fn dispatch(
     stations: &mut [u64],
     carts: &mut [u64],
@@ -73,9 +72,9 @@ pub fn dispatch(
     ensures { λ r. ⌜ Within (now (messages .exit)) (now (texts .exit)) (now (store .exit)) r × MetWith bounds (λ P. lent P (now (stations .entry)) (now (carts .entry)) (now (messages .entry)) (now (lines .entry)) (now (texts .entry)) (now (store .entry))) (λ P. lent P (now (stations .exit)) (now (carts .exit)) (now (messages .exit)) (now (lines .exit)) (now (texts .exit)) (now (store .exit))) (eventIn (drop at (now (input .entry))) e) (dispatchedIn (now (messages .exit)) (now (texts .exit)) (now (store .exit)) r) ⌝ }
     ensures { λ r. ⌜ Began 3 longestNumber (decimal index) (now (output .entry)) (now (output .exit)) line (r .next) × (r .taken ≡ sizeOf e) ⌝ }
 {
+    let next = frame_lines::put_index(output, line, numbers, index);
     match e {
         Event::Start(n, k) => {
-            let next = frame_lines::put_index(output, line, numbers, index);
             let answer = event_start::start(
                 stations,
                 carts,
@@ -90,7 +89,6 @@ pub fn dispatch(
             without_text(next, FRAME, answer)
         }
         Event::Enter(station, cart) => {
-            let next = frame_lines::put_index(output, line, numbers, index);
             let answer = event_carts::enter(
                 stations,
                 carts,
@@ -104,7 +102,6 @@ pub fn dispatch(
             without_text(next, FRAME, answer)
         }
         Event::Send(station, set, size) => {
-            let next = frame_lines::put_index(output, line, numbers, index);
             let from = at + FRAME;
             let text = &input[from..from + size];
             let answer = event_send::send(
@@ -122,12 +119,10 @@ pub fn dispatch(
             without_text(next, FRAME + size, answer)
         }
         Event::Wire(from, to) => {
-            let next = frame_lines::put_index(output, line, numbers, index);
             let answer = event_wire::wire(stations, carts, messages, lines, texts, store, from, to);
             without_text(next, FRAME, answer)
         }
         Event::Radio(station, cart) => {
-            let next = frame_lines::put_index(output, line, numbers, index);
             let handed = event_radio::radio(
                 stations,
                 carts,
@@ -150,7 +145,6 @@ pub fn dispatch(
             }
         }
         Event::Move(cart, to) => {
-            let next = frame_lines::put_index(output, line, numbers, index);
             let answer = event_carts::move_cart(
                 stations,
                 carts,
@@ -164,7 +158,6 @@ pub fn dispatch(
             without_text(next, FRAME, answer)
         }
         Event::Flag(cart, steady) => {
-            let next = frame_lines::put_index(output, line, numbers, index);
             let answer = event_carts::flag_cart(
                 stations,
                 carts,
@@ -178,7 +171,6 @@ pub fn dispatch(
             without_text(next, FRAME, answer)
         }
         Event::Group(group, set) => {
-            let next = frame_lines::put_index(output, line, numbers, index);
             let answer = event_groups::define_group(
                 stations,
                 carts,
@@ -192,7 +184,6 @@ pub fn dispatch(
             without_text(next, FRAME, answer)
         }
         Event::SendGroup(station, group, size) => {
-            let next = frame_lines::put_index(output, line, numbers, index);
             let from = at + FRAME;
             let text = &input[from..from + size];
             let answer = event_send::send_group(
@@ -210,7 +201,6 @@ pub fn dispatch(
             without_text(next, FRAME + size, answer)
         }
         Event::SendLong(station, set, size) => {
-            let next = frame_lines::put_index(output, line, numbers, index);
             let from = at + FRAME;
             let text = &input[from..from + size];
             let answer = event_send::send_long(
@@ -226,6 +216,10 @@ pub fn dispatch(
                 bounds,
             );
             without_text(next, FRAME + size, answer)
+        }
+        Event::Retire(cart) => {
+            let answer = event_carts::retire(stations, carts, messages, lines, texts, store, cart);
+            without_text(next, FRAME, answer)
         }
     }
 }

@@ -14,7 +14,7 @@ use Rattle.protocol.proofs.Tests.{by-test, by-lt, by-eq}
 use Rattle.protocol.proofs.Accepted.{is-long}
 use Rattle.protocol.specs.Floor.{limits, mostText}
 use Rattle.protocol.specs.Folds.{isEmpty}
-use Rattle.protocol.specs.Events.{start, enter, send, wire, radio, move, flag, group, sendGroup, sendLong}
+use Rattle.protocol.specs.Events.{start, enter, send, wire, radio, move, flag, group, sendGroup, sendLong, retire}
 use Rattle.protocol.specs.Store.{notLong}
 use Rattle.protocol.specs.Frames.{Fields, Reading, bigEndian, fieldsOf, unlisted, textLength, wrongLength, eventOf, lastKind, fieldsRefusal, frameRefusal, frameOf, readAt, end, refusedFrame, taken}
 use Rattle.frames.specs.declared.Halves.{Halves}
@@ -217,6 +217,10 @@ module _ (f : Fields) where
   unfolding unlisted
   unlisted-send-long k = rw k refl
 
+  pub unlisted-retire : f .kind ≡ 10 → unlisted f ≡ f .station + f .other + f .length + f .zero + f .set
+  unfolding unlisted
+  unlisted-retire k = rw k refl
+
 -- TEXTS
 
 module _ (f : Fields) where
@@ -341,6 +345,10 @@ module _ (f : Fields) (text : List ℕ) where
   pub send-long-event : f .kind ≡ 9 → sendLong (f .station) (f .set) text ≡ eventOf limits f text
   unfolding eventOf
   send-long-event k = rw k refl
+
+  pub retire-event : f .kind ≡ 10 → retire (f .cart) ≡ eventOf limits f text
+  unfolding eventOf
+  retire-event k = rw k refl
 
 -- READINGS
 

@@ -17,13 +17,13 @@ use Rattle.protocol.specs.Frames as frames
 use Rattle.protocol.specs.Frames.{fieldsOf, unlisted, textLength, wrongLength, eventOf, lastKind, fieldsRefusal, readAt, refusedFrame, taken}
 use Rattle.protocol.specs.Events as events
 use Rattle.frames.specs.declared.Event.{Event}
-use Rattle.frames.specs.declared.Event.the-variants.{Start, Enter, Send, Wire, Radio, Move, Flag, Group, SendGroup, SendLong}
+use Rattle.frames.specs.declared.Event.the-variants.{Start, Enter, Send, Wire, Radio, Move, Flag, Group, SendGroup, SendLong, Retire}
 use Rattle.frames.specs.declared.Reading.{Reading}
 use Rattle.frames.specs.declared.Reading.the-variants.{Taken, End, Refused}
 use Rattle.frames.specs.declared.Halves.{Halves}
 use Rattle.frames.specs.Decoded.{fieldsIn, ifListed, ifWhole, frameIn, eventIn, takenIn, readingIn, sizeOf, longestFrame, TextFits, refusalNumber, refusalOf}
 use Rattle.frames.proofs.Event.{the-type as event-type}
-use Rattle.frames.proofs.Laws.{low-fields, send-fields, long-fields, low-sixteen, unlisted-send, unlisted-wire, unlisted-move, unlisted-flag, unlisted-group, unlisted-send-group, unlisted-send-long}
+use Rattle.frames.proofs.Laws.{low-fields, send-fields, long-fields, low-sixteen, unlisted-send, unlisted-wire, unlisted-move, unlisted-flag, unlisted-group, unlisted-send-group, unlisted-send-long, unlisted-retire}
 use Rattle.frames.proofs.Laws.{long-length, long-wrong, short-length, short-wrong, long-text, short-text, text-at-most}
 use Rattle.frames.proofs.Laws.{no-kind, stray-field, wrong-text, cut-text, no-refusal, kind-known, text-right, text-there}
 use Rattle.frames.proofs.Laws.{send-long-event, frameWith, nothing-left, cut-frame, refused-frame, taken-frame}
@@ -78,6 +78,15 @@ module _ (f : frames.Fields) (behind : ℕ) (l : List ℕ) where
         (λ t. let u = only (eqb-true stray 0 t) in alone-read e u short (alone u) g s)
         (λ n. stray-read stray all (eqb-false stray 0 n))
 
+-- a station above the low bits that are not listed
+retire-sums : (station low other length zeros set : ℕ) → (low + 0 + set ≡ 0 → other + length + zeros + set ≡ 0)
+    → low + station + set ≡ 0 → station + other + length + zeros + set ≡ 0
+retire-sums station low other length zeros set only z = let y = only (omega arith) in omega arith
+
+retire-back : (station low other length zeros set : ℕ) → (other + length + zeros + set ≡ 0 → low + 0 + set ≡ 0)
+    → station + other + length + zeros + set ≡ 0 → low + station + set ≡ 0
+retire-back station low other length zeros set all z = let y = all (omega arith) in omega arith
+
 module _ (f : Halves) (behind : ℕ) (l : List ℕ) where
   abbrev fields : frames.Fields
   fields = fieldsIn f
@@ -115,6 +124,17 @@ module _ (f : Halves) (behind : ℕ) (l : List ℕ) where
     pub group-read : fields .kind ≡ 7 → r ≡ ifListed (f .head % 2 ^ 46 + (fields .station + fields .cart) + 0) e → sizeOf e ≡ 16
         → eventIn l e ≡ eventAt fields l → readingIn l r ≡ frameIn l fields behind
     group-read k = let u = unlisted-group fields k in other-read (fields .station + fields .cart) 0 (omega arith) (omega (arith, u))
+
+    -- retire: of the head the cart alone is listed, and the low bits are those below it
+    pub retire-read : fields .kind ≡ 10 → r ≡ ifListed (f .head % 2 ^ 50 + fields .station + f .set) e → sizeOf e ≡ 16
+        → eventIn l e ≡ eventAt fields l → readingIn l r ≡ frameIn l fields behind
+    retire-read k q s g =
+        let u = unlisted-retire fields k in
+        let low = low-fields (f .head) (f .set) in
+        listed-read fields behind l (omega arith) (λ y. omega arith) (f .head % 2 ^ 50 + fields .station + f .set)
+        (λ z. u ∙ retire-sums (fields .station) (f .head % 2 ^ 50) (fields .other) (fields .length) (fields .zero) (f .set) (low .0) z)
+        (λ z. retire-back (fields .station) (f .head % 2 ^ 50) (fields .other) (fields .length) (fields .zero) (f .set) (low .1) (sym u ∙ z))
+        (λ z. omega (arith, u, z)) e r q s g
 
     -- send, to a set or to a group, with no stray field: the low bits are those below the length
     short-read : fields .kind < 9 → unlisted fields ≡ 0 → r ≡ ifWhole (ltb 32 (fields .length)) (fields .length) behind e
@@ -163,17 +183,18 @@ frame-read l at f h e =
 -- EVENTS
 
 -- an event without a text has the size of a frame
-pub other-size : (e : Event) → OneOf (0 ∷ 1 ∷ 3 ∷ 4 ∷ 5 ∷ 6 ∷ 7 ∷ []) (tagOf event-type e) → 16 ≡ sizeOf e
+pub other-size : (e : Event) → OneOf (0 ∷ 1 ∷ 3 ∷ 4 ∷ 5 ∷ 6 ∷ 7 ∷ 10 ∷ []) (tagOf event-type e) → 16 ≡ sizeOf e
 other-size (Start n k) h = refl
 other-size (Enter t c) h = refl
-other-size (Send s set n) h = absurd (miss (0 ∷ 1 ∷ 3 ∷ 4 ∷ 5 ∷ 6 ∷ 7 ∷ []) 2 tt h)
+other-size (Send s set n) h = absurd (miss (0 ∷ 1 ∷ 3 ∷ 4 ∷ 5 ∷ 6 ∷ 7 ∷ 10 ∷ []) 2 tt h)
 other-size (Wire i j) h = refl
 other-size (Radio t c) h = refl
 other-size (Move c to) h = refl
 other-size (Flag c b) h = refl
 other-size (Group g set) h = refl
-other-size (SendGroup s g n) h = absurd (miss (0 ∷ 1 ∷ 3 ∷ 4 ∷ 5 ∷ 6 ∷ 7 ∷ []) 8 tt h)
-other-size (SendLong s set n) h = absurd (miss (0 ∷ 1 ∷ 3 ∷ 4 ∷ 5 ∷ 6 ∷ 7 ∷ []) 9 tt h)
+other-size (SendGroup s g n) h = absurd (miss (0 ∷ 1 ∷ 3 ∷ 4 ∷ 5 ∷ 6 ∷ 7 ∷ 10 ∷ []) 8 tt h)
+other-size (SendLong s set n) h = absurd (miss (0 ∷ 1 ∷ 3 ∷ 4 ∷ 5 ∷ 6 ∷ 7 ∷ 10 ∷ []) 9 tt h)
+other-size (Retire c) h = refl
 
 -- the frame of an event that was taken: its fields are not refused, and its octets are there
 taken-fields : (l : List ℕ) (at : ℕ) (e : events.Event) (n : ℕ) → readAt limits l at ≡ taken e n
@@ -214,6 +235,7 @@ isLong (events.flag c b) = false
 isLong (events.group g set) = false
 isLong (events.sendGroup s g text) = false
 isLong (events.sendLong s set text) = true
+isLong (events.retire c) = false
 
 module _ (f : frames.Fields) (text : List ℕ) where
   abbrev Short : Type 0
@@ -222,11 +244,15 @@ module _ (f : frames.Fields) (text : List ℕ) where
   at-most : (n : ℕ) → (f .kind ≡ n → Short) → (f .kind < n → Short) → f .kind < suc n → Short
   at-most n here below h = by-lt (f .kind) n below (λ m. here (omega arith))
 
-  not-long : f .kind < 9 → Short
+  short-below : f .kind < 9 → Short
   unfolding eventOf
-  not-long =
+  short-below =
       at-most 8 (λ z. rw z refl) (at-most 7 (λ z. rw z refl) (at-most 6 (λ z. rw z refl) (at-most 5 (λ z. rw z refl) (at-most 4 (λ z. rw z refl)
       (at-most 3 (λ z. rw z refl) (at-most 2 (λ z. rw z refl) (at-most 1 (λ z. rw z refl) (at-most 0 (λ z. rw z refl) (λ none. absurd (omega arith))))))))))
+
+  not-long : (f .kind ≡ 9 → ⊥) → f .kind ≤ lastKind → Short
+  unfolding eventOf
+  not-long other k = by-eq (f .kind) 10 (λ z. rw z refl) (λ z. short-below (by-lt (f .kind) 9 (λ l. l) (λ l. absurd (other (omega arith)))))
 
 module _ (l : List ℕ) (f : frames.Fields) (text : List ℕ) (k : f .kind ≤ lastKind) (w : wrongLength limits f ≡ false) where
   short-fits : (e : Event) (n : ℕ) → isLong (eventIn l e) ≡ false → eventIn l e ≡ eventOf limits f text → 16 + n ≡ 16 + textLength f → n ≤ 32
@@ -246,10 +272,11 @@ module _ (l : List ℕ) (f : frames.Fields) (text : List ℕ) (k : f .kind ≤ l
   event-fits (Flag c b) g s = tt
   event-fits (Group x set) g s = tt
   event-fits (SendGroup u x n) g s = short-fits (SendGroup u x n) n refl g s
+  event-fits (Retire c) g s = tt
   event-fits (SendLong u set n) g s =
       by-eq (f .kind) 9
       (λ nine. let z = long-text f w nine in let a = z .0 in let b = z .1 in (omega arith, omega arith))
-      (λ other. clash true refl (ap isLong g ∙ not-long f text (omega arith)))
+      (λ other. clash true refl (ap isLong g ∙ not-long f text other k))
 
 module _ (l : List ℕ) (at : ℕ) (r : Reading) (read : readingIn (drop at l) r ≡ readAt limits l at) where
   -- the same for the decoder's event

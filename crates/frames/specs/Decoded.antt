@@ -6,12 +6,12 @@ use Prim.Native.Nat.{ℕ, zero, suc, _+_, _/_, _%_, _^_, _≤_, _<_}
 use lib.Dec.{eqb, ltb}
 use lib.ListN.{take, drop}
 use Rattle.protocol.specs.Floor.{limits, mostText}
-use Rattle.protocol.specs.Events.{start, enter, send, wire, radio, move, flag, group, sendGroup, sendLong}
+use Rattle.protocol.specs.Events.{start, enter, send, wire, radio, move, flag, group, sendGroup, sendLong, retire}
 use Rattle.protocol.specs.Events as events
 use Rattle.protocol.specs.Frames.{Fields, textLength, eventOf, fieldsRefusal, end, refusedFrame, taken}
 use Rattle.protocol.specs.Frames as frames
 use Rattle.frames.specs.declared.Event.{Event}
-use Rattle.frames.specs.declared.Event.the-variants.{Start, Enter, Send, Wire, Radio, Move, Flag, Group, SendGroup, SendLong}
+use Rattle.frames.specs.declared.Event.the-variants.{Start, Enter, Send, Wire, Radio, Move, Flag, Group, SendGroup, SendLong, Retire}
 use Rattle.frames.specs.declared.Reading.{Reading}
 use Rattle.frames.specs.declared.Reading.the-variants.{End, Refused, Taken}
 use Rattle.frames.specs.declared.Halves.{Halves}
@@ -29,6 +29,7 @@ eventIn l (Flag c b) = flag (c .0) b
 eventIn l (Group g set) = group g set
 eventIn l (SendGroup s g n) = sendGroup (s .0) g (take n (drop 16 l))
 eventIn l (SendLong s set n) = sendLong (s .0) set (take n (drop 16 l))
+eventIn l (Retire c) = retire (c .0)
 
 -- how many octets it took: "Sixteen octets", and the text of a send of any kind
 abbrev pub sizeOf : Event → ℕ
@@ -42,6 +43,7 @@ sizeOf (Flag c b) = 16
 sizeOf (Group g set) = 16
 sizeOf (SendGroup s g n) = 16 + n
 sizeOf (SendLong s set n) = 16 + n
+sizeOf (Retire c) = 16
 
 -- how many it takes at most
 abbrev pub longestFrame : ℕ
@@ -59,6 +61,7 @@ TextFits (Flag c b) = Unit
 TextFits (Group g set) = Unit
 TextFits (SendGroup s g n) = n ≤ limits .text
 TextFits (SendLong s set n) = (limits .text < n) × (n ≤ limits .long)
+TextFits (Retire c) = Unit
 
 -- an event that was taken
 abbrev pub takenIn : List ℕ → Event → frames.Reading

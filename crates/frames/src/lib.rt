@@ -32,6 +32,8 @@ pub enum Event {
     SendGroup(Station, u64, usize),
     // A send of a long text: the set, and how long the text is.
     SendLong(Station, u64, usize),
+    // The cart that goes back.
+    Retire(CartNumber),
 }
 
 // What stands at a place: nothing, a frame that is refused, or an event.
@@ -239,6 +241,16 @@ fn send_long_of(f: Halves, behind: usize) -> Reading
     if_whole_long(length, behind, e)
 }
 
+// "Kind 10 carries a cart": the low bits are those below it.
+fn retire_of(f: Halves) -> Reading
+    requires { ⌜ fieldsIn f .kind ≡ 10 ⌝ }
+    ensures { λ r. ⌜ ((l : List ℕ) (behind : ℕ) → readingIn l r ≡ frameIn l (fieldsIn f) behind) ⌝ }
+{
+    let stray = f.head / STATION_BIT % 16;
+    let e = Event::Retire(CartNumber(f.head / CART_BIT % 64));
+    if_listed(f.head % CART_BIT, stray, f.set, e)
+}
+
 // A frame of a kind above 7, with so many octets behind it: "refusal 2 no longer covers a kind once a request defines it".
 fn latest_of(f: Halves, behind: usize) -> Reading
     requires { ⌜ 7 < fieldsIn f .kind ⌝ }
@@ -250,6 +262,9 @@ fn latest_of(f: Halves, behind: usize) -> Reading
     }
     if kind == 9 {
         return send_long_of(f, behind);
+    }
+    if kind == 10 {
+        return retire_of(f);
     }
     Reading::Refused(2)
 }

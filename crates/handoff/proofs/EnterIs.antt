@@ -4,17 +4,17 @@ use mathlib.Core.Path.{_≡_, refl, sym, ap, _∙_}
 use mathlib.Core.List.{List, []}
 use Prim.Native.Nat.{ℕ, _<_, _≤_}
 use native.Mathlib.Omega.{arith}
-use lib.ListN.{getD}
 use Rattle.protocol.specs.Floor.{Floor, Place, Carts, outside, localTo, limitsOf, Product, setSteady}
 use Rattle.protocol.specs.Folds.{update}
 use Rattle.protocol.specs.Handoff.{arrive, onEnter}
-use Rattle.protocol.proofs.Tests.{by-lt, listOf-at, listOf-past}
 use Rattle.protocol.proofs.FloorLaws.{outside-is}
 use Rattle.protocol.proofs.Accepted.{MayEnter}
 use Rattle.protocol.specs.CartSets.{has}
 use Rattle.stations.specs.View.{HasStation, headIn, stationsIn, namingIn}
 use Rattle.carts.specs.Words.{HasRow}
+use Rattle.carts.specs.Records.{allZero}
 use Rattle.carts.specs.View.{cartsIn}
+use Rattle.carts.proofs.StepLaws.{zeros}
 use Rattle.messages.specs.View.{roomsIn}
 use Rattle.store.specs.Texts.{textOf}
 use Rattle.view.specs.Records.{linesIn}
@@ -23,7 +23,7 @@ use Rattle.view.proofs.Lengths.{Lengths, lengths-right}
 use Rattle.view.proofs.Laid.{Laid, words-right, laid-flags}
 use Rattle.view.proofs.Standing.{Standing, few-stations, few-carts}
 use Rattle.queue.specs.Rooms.{roomCount, HasRooms}
-use Rattle.handoff.specs.Arrived.{allZero, Arrived, Entered}
+use Rattle.handoff.specs.Arrived.{Arrived, Entered}
 use Rattle.handoff.proofs.ArriveIs.{expected-fits, parts-ready, none-beyond, rooms-there, expects-none, arrived-is, passed-is, deepest-is, all-rooms, laid-there}
 
 -- WHAT THE ENTER REQUIRES of the parts
@@ -88,9 +88,6 @@ module _ {P : Product} (S S′ C C′ M W T O : List ℕ) (t c p q : ℕ) (X : S
   laid =
       laid-flags S′ A M W T O (laid-there S S′ C A M W T O (X .laid) t c lt′ lc allZero p q (λ u. ap (λ (q : Place). localTo q u) out) there)
       C′ c (entered .steady .canonical) (ap (λ (K : Carts). K .place) (entered .steady .carts))
-
-  zeros : (s : ℕ) → getD allZero s 0 ≡ 0
-  zeros s = let none : ℕ → ℕ = λ _. 0 in by-lt s 16 (λ l. listOf-at 16 none 0 s l) (λ l. listOf-past 16 none 0 s l)
 
   -- "Enter (station, cart): as a register with all next numbers 0, handled at once"
   pub enter-is : floorIn L′ ≡ onEnter (limitsOf (L .product)) F t c .floor

@@ -8,5 +8,6 @@ pub mod MoveIs
 pub mod FlagIs
 pub mod DeregisterIs
 pub mod ArriveIs
+pub mod RetireIs
 pub mod EnterIs
 pub mod RegisterIs

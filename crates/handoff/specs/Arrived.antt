@@ -8,16 +8,13 @@ use Rattle.protocol.specs.Folds.{listOf, update}
 use Rattle.protocol.specs.CartSets.{with}
 use Rattle.protocol.specs.Floor.{at}
 use Rattle.stations.specs.View.{Stations, stationsIn, headIn, withLocal}
+use Rattle.carts.specs.Records.{allZero}
 use Rattle.carts.specs.View.{cartsIn, canonicalIn, withPlace, withRow}
 use Rattle.messages.specs.View.{roomsIn}
 use Rattle.queue.specs.Rooms.{tablesFloor, roomCount}
 use Rattle.catchup.specs.Arrival.{nearestRow, stopIn, risen, occurs, queuedFor, deepestTo}
 use Rattle.handoff.specs.Flagged.{Flagged}
 use Rattle.handoff.specs.Struck.{struckFrom}
-
--- "all next numbers 0"
-abbrev pub allZero : List ℕ
-allZero = listOf 16 (λ s. 0)
 
 -- cart c is on the local list of station t
 abbrev pub settled : Stations → ℕ → ℕ → Stations

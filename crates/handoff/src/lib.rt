@@ -1,4 +1,4 @@
-// THE HAND-OFF MODULE over the lent parts: move, deregister, register, enter; and a cart's flag.
+// THE HAND-OFF MODULE over the lent parts: move, deregister, register, enter; a cart's flag; and a cart that goes back to the factory.
 use ids::CartNumber;
 use ids::Station;
 use reports::Effect;
@@ -22,6 +22,7 @@ ghost use Rattle.catchup.specs.Naming.{Covers};
 ghost use Rattle.catchup.specs.Arrival.{RoomsBelow, Marks, deepestTo};
 ghost use Rattle.handoff.specs.Moved.{Moved};
 ghost use Rattle.handoff.specs.Flagged.{Flagged};
+ghost use Rattle.handoff.specs.Retired.{Retired};
 ghost use Rattle.handoff.specs.Forwarded.{HeldRooms, goes, orderedRooms, ListsGone};
 ghost use Rattle.handoff.specs.Left.{unqueued, left, listsGoing, Left};
 ghost use Rattle.handoff.specs.Struck.{isBelow, struckIn, struckFrom};
@@ -375,6 +376,26 @@ pub fn on_flag(carts: &mut [u64], number: CartNumber, steady: bool) -> Effect
     ensures { λ r. ⌜ r ≡ nothing ⌝ }
 {
     tell(carts, number, steady);
+    reports::nothing()
+}
+
+// A cart, which is at the station, goes back to the factory: "the number becomes outside, leaves every group". It leaves the local list; by 29 it stands in
+// no queue entry, and in no copy or ack list of a held message.
+pub fn on_retire(
+    stations: &mut [u64],
+    carts: &mut [u64],
+    number: CartNumber,
+    station: Station,
+) -> Effect
+    requires { ⌜ HasStation (now stations) (station .0) × HasRow (now carts) (number .0) × (number .0 < 64) ⌝ }
+    ensures { λ _. ⌜ Retired (now (stations .entry)) (now (stations .exit)) (now (carts .entry)) (now (carts .exit)) (number .0) (station .0) ⌝ }
+    ensures { λ r. ⌜ r ≡ nothing ⌝ }
+{
+    let cart = carts::cart_at(carts, number);
+    carts::put_cart(carts, number, cart.retire());
+    let local = sets::without_member(stations::local_of(stations, station), number.0);
+    stations::put_local(stations, station, local);
+    stations::leave_groups(stations, number);
     reports::nothing()
 }
 

@@ -11,11 +11,11 @@ use lib.ListN.{length}
 use borrow.Author.Tests.{ne-eqb, le-ltb, lt-ltb, not-false}
 use Rattle.protocol.specs.Folds.{isNone, isEmpty}
 use Rattle.protocol.specs.Floor.{Limits, limitsOf, kit, Floor, mostText, isAt, entered, moving}
-use Rattle.protocol.specs.Events.{Event, start, enter, send, wire, radio, move, flag, group, sendGroup, sendLong, accepted, refused}
+use Rattle.protocol.specs.Events.{Event, start, enter, send, wire, radio, move, flag, group, sendGroup, sendLong, retire, accepted, refused}
 use Rattle.protocol.specs.Store.{notLong, storedOf, storeUsed}
 use Rattle.protocol.specs.Wired.{freeRoom}
 use Rattle.protocol.specs.Form.{passesForm}
-use Rattle.protocol.specs.Refusals.{check, refusal, refusalIf, wrongSize, noStation, noCart, strangers, neverEntered, noGroup, undefined, headLacks, bufferShort, storeFull, firstOfSend, numberAndRoom, lastOfSend}
+use Rattle.protocol.specs.Refusals.{check, refusal, refusalIf, wrongSize, noStation, noCart, strangers, notEntered, noGroup, undefined, headLacks, bufferShort, storeFull, isNamed, firstOfSend, numberAndRoom, lastOfSend}
 use Rattle.protocol.specs.Step.{answer, accept}
 use Rattle.protocol.proofs.Tests.{by-test, by-lt, by-eq, by-option, clash, eqb-self, first-some}
 use Rattle.protocol.proofs.Counting.{sum-bump, sum-le}
@@ -71,7 +71,7 @@ module _ (M : Limits) (roomy : M .held * mostText M ≤ M .store) (F : Floor) wh
   past-first : (broken : Bool) (s set rest : ℕ) → (broken ≡ false → rest ≡ 27 → ⊥) → firstOfSend M F broken s set rest ≡ 27 → ⊥
   past-first broken s set rest behind =
       past 5 broken _ (λ z. omega arith) (λ b. past 8 (noStation F s) _ (λ z. omega arith) (λ _. past 9 (strangers F set) _ (λ z. omega arith)
-      (λ _. past 11 (eqb set 0) _ (λ z. omega arith) (λ _. past 12 (neverEntered F set) rest (λ z. omega arith) (λ _. behind b)))))
+      (λ _. past 11 (eqb set 0) _ (λ z. omega arith) (λ _. past 12 (notEntered F set) rest (λ z. omega arith) (λ _. behind b)))))
 
   past-room : (s rest : ℕ) → (isNone (freeRoom M F) ≡ false → rest ≡ 27 → ⊥) → numberAndRoom M F s rest ≡ 27 → ⊥
   past-room s rest behind =
@@ -112,12 +112,16 @@ module _ (M : Limits) (roomy : M .held * mostText M ≤ M .store) (F : Floor) wh
       past 5 (not (passesForm M F)) _ (λ z. omega arith) (λ _. past 9 (noCart F c) _ (λ z. omega arith)
       (λ _. past 18 (not (entered (F .place c))) 0 (λ z. omega arith) (λ _ z. omega arith)))
   never-27 (group g members) =
-      past 5 (not (passesForm M F)) _ (λ z. omega arith) (λ _. past 9 (strangers F members) _ (λ z. omega arith) (λ _. past 12 (neverEntered F members) _ (λ z. omega arith)
+      past 5 (not (passesForm M F)) _ (λ z. omega arith) (λ _. past 9 (strangers F members) _ (λ z. omega arith) (λ _. past 12 (notEntered F members) _ (λ z. omega arith)
       (λ _. past 26 (noGroup g) 0 (λ z. omega arith) (λ _ z. omega arith))))
   never-27 (sendGroup s g text) =
       past 4 (ltb (M .text) (length text)) _ (λ z. omega arith) (λ _. past 5 (not (passesForm M F)) _ (λ z. omega arith) (λ _. past 8 (noStation F s) _ (λ z. omega arith)
       (λ _. past 26 (undefined F g) _ (λ z. omega arith) (λ _. past-last s text))))
   never-27 (sendLong s set text) = long-never-27 s set text
+  never-27 (retire c) =
+      past 5 (not (passesForm M F)) _ (λ z. omega arith) (λ _. past 9 (noCart F c) _ (λ z. omega arith)
+      (λ _. past 18 (not (entered (F .place c))) _ (λ z. omega arith) (λ _. past 19 (moving (F .place c)) _ (λ z. omega arith)
+      (λ _. past 29 (isNamed M F c) 0 (λ z. omega arith) (λ _ z. omega arith)))))
 
 -- THE KIT: no event on any floor is answered with 27
 pub kit-never-27 : (F : Floor) (e : Event) → refusal (limitsOf kit) F e ≡ 27 → ⊥

@@ -1,4 +1,4 @@
-// THE DEMONSTRATION KIT: the ten events over a small floor in lent memory, "at most 4 stations, 8 carts and 8 held messages". Every step is the floor's own:
+// THE DEMONSTRATION KIT: the eleven events over a small floor in lent memory, "at most 4 stations, 8 carts and 8 held messages". Every step is the floor's own:
 // only the limits are others.
 use dispatcher::Quiet;
 use event_answers::Answer;
@@ -9,7 +9,7 @@ use products::Bounds;
 ghost use mathlib.Core.Path.{_≡_};
 ghost use mathlib.Core.List.{[]};
 ghost use Rattle.protocol.specs.Floor.{kit, limitsOf};
-ghost use Rattle.protocol.specs.Events.{start, enter, send, wire, move, flag, sendGroup, sendLong};
+ghost use Rattle.protocol.specs.Events.{start, enter, send, wire, move, flag, sendGroup, sendLong, retire};
 ghost use Rattle.protocol.specs.Events as events;
 ghost use Rattle.protocol.specs.ReadText.{readRefusal};
 ghost use Rattle.products.specs.Numbers.{Fits, NumbersOf};
@@ -292,6 +292,30 @@ pub fn send_long(
         station,
         set,
         text,
+        own_bounds(),
+    )
+}
+
+// "Kind 10 carries a cart and retires it: the number becomes outside, leaves every group". "It may enter again, with all next numbers 0 and steady."
+pub fn retire(
+    stations: &mut [u64],
+    carts: &mut [u64],
+    messages: &[u64],
+    lines: &[u64],
+    texts: &[u8],
+    store: &[u8],
+    cart: CartNumber,
+) -> Answer
+    ensures { λ a. ⌜ Met (lent kit (now (stations .entry)) (now (carts .entry)) (now (messages .entry)) (now (lines .entry)) (now (texts .entry)) (now (store .entry))) (lent kit (now (stations .exit)) (now (carts .exit)) (now (messages .entry)) (now (lines .entry)) (now (texts .entry)) (now (store .entry))) (retire (cart .0)) (answerIn a []) ⌝ }
+{
+    tested_events::retire(
+        stations,
+        carts,
+        messages,
+        lines,
+        texts,
+        store,
+        cart,
         own_bounds(),
     )
 }

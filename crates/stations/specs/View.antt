@@ -168,6 +168,10 @@ Leaves S S′ X = (stationsIn S′ ≡ X) × ((headIn S′ ≡ headIn S) × (len
 abbrev pub withGroup : Head → ℕ → ℕ → Head
 withGroup H g set = head (H .mark) (H .stations) (H .carts) (update (H .groups) g set)
 
+-- cart c in no group
+abbrev pub groupsWithout : Head → ℕ → Head
+groupsWithout H c = head (H .mark) (H .stations) (H .carts) (λ g. without (H .groups g) c)
+
 -- station t has sent n
 abbrev pub withSent : Stations → ℕ → ℕ → Stations
 withSent S t n =

@@ -9,7 +9,7 @@ ghost use lib.ListN.{length, getD};
 ghost use Rattle.protocol.specs.CartSets.{has, setOf};
 ghost use Rattle.protocol.specs.Folds.{update2};
 ghost use Rattle.protocol.specs.Groups.{groupCount};
-ghost use Rattle.stations.specs.View.{width, initiators, rooms, HasHead, HasStation, countedWith, entriesIn, wordNames, wordLists, namingIn, listingIn, someIn, stationWord, head, noGroups, headIn, withGroup, stationsIn, noStations, withSent, withExpected, withLocal, withCopy, withAcks, withRoom, withQueue, Leaves};
+ghost use Rattle.stations.specs.View.{width, initiators, rooms, HasHead, HasStation, countedWith, entriesIn, wordNames, wordLists, namingIn, listingIn, someIn, stationWord, head, noGroups, headIn, withGroup, groupsWithout, stationsIn, noStations, withSent, withExpected, withLocal, withCopy, withAcks, withRoom, withQueue, Leaves};
 
 // A row of the table has this many words. Row 0 is the floor's own, row 1 + t is station t's.
 const WIDTH: usize = 116;
@@ -133,6 +133,21 @@ pub fn put_group(stations: &mut [u64], group: u64, set: u64)
     ensures { λ _. ⌜ length (now (stations .exit)) ≡ length (now (stations .entry)) ⌝ }
 {
     rows::put_word(stations, WIDTH, 0, GROUP + group as usize, set);
+}
+
+// The cart "leaves every group, and a group that this empties is undefined", as one without members is; what the stations keep stays.
+pub fn leave_groups(stations: &mut [u64], cart: CartNumber)
+    requires { ⌜ HasHead (now stations) × (cart .0 < 64) ⌝ }
+    ensures { λ _. ⌜ headIn (now (stations .exit)) ≡ groupsWithout (headIn (now (stations .entry))) (cart .0) ⌝ }
+    ensures { λ _. ⌜ stationsIn (now (stations .exit)) ≡ stationsIn (now (stations .entry)) ⌝ }
+    ensures { λ _. ⌜ length (now (stations .exit)) ≡ length (now (stations .entry)) ⌝ }
+{
+    let mut group: u64 = 0;
+    while group < GROUPS {
+        let members = sets::without_member(group_of(stations, group), cart.0);
+        put_group(stations, group, members);
+        group += 1;
+    }
 }
 
 // How many messages the station has sent.

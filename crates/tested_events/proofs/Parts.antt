@@ -7,7 +7,7 @@ use Prim.Native.Nat.{ℕ, _+_, _*_, _≤_}
 use native.Mathlib.Omega.{arith}
 use lib.ListN.{length}
 use Rattle.protocol.specs.Floor.{Product, limitsOf, mostRecords, wholeFloor, kit}
-use Rattle.protocol.specs.Events.{Event, Answer, start, enter, send, wire, radio, move, flag, group, sendGroup, sendLong, refused}
+use Rattle.protocol.specs.Events.{Event, Answer, start, enter, send, wire, radio, move, flag, group, sendGroup, sendLong, retire, refused}
 use Rattle.protocol.specs.Form.{passesForm}
 use Rattle.protocol.specs.Quiet.{turnedAway}
 use Rattle.protocol.proofs.Tests.{by-test}
@@ -16,7 +16,7 @@ use Rattle.view.proofs.Lengths.{Lengths, lengths-of}
 use Rattle.form_test.proofs.Split.{fails-lengths}
 use Rattle.event_start.proofs.Starts.{start-lengths}
 use Rattle.event_answers.specs.Met.{Met}
-use Rattle.event_answers.proofs.Broken.{broken-enter, broken-send, broken-wire, broken-radio, broken-move, broken-flag, broken-group, broken-send-group, broken-send-long}
+use Rattle.event_answers.proofs.Broken.{broken-enter, broken-send, broken-wire, broken-radio, broken-move, broken-flag, broken-group, broken-send-group, broken-send-long, broken-retire}
 use Rattle.dispatcher.specs.declared.Quiet.{Quiet}
 use Rattle.dispatcher.specs.declared.Quiet.the-variants.{Refused, After}
 use Rattle.dispatcher.specs.Called.{quietIn, QuietMet}
@@ -66,6 +66,7 @@ module _ (L : Lent) (lengths : lengthsIn L ≡ false) where
   meets-5 (group g set) _ = broken-group L false breaks refl g set
   meets-5 (sendGroup s g text) short = broken-send-group L false breaks refl s g text short
   meets-5 (sendLong s set text) long = broken-send-long L false breaks refl s set text (long .0) (long .1)
+  meets-5 (retire c) _ = broken-retire L false breaks refl c
 
   -- 4 is met before it: a send with a text that is too long, or a long send with one of another length
   pub wrong-lengths-are-5 : (L′ : Lent) (e : Event) (a : Answer) → Met L L′ e a → FitText e → (a ≡ refused 5) × (L′ ≡ L)

@@ -1,6 +1,6 @@
 -- A RUN OF CALLS IS THE WRITTEN RUN over the same events, so demand 3 speaks of it.
 use mathlib.Core.Path.{_≡_, refl, sym, ap, ap₂, _∙_, subst}
-use mathlib.Core.Bool.{false}
+use mathlib.Core.Bool.{true, false}
 use mathlib.Core.List.{List, [], _∷_, map}
 use Prim.Native.Nat.{ℕ, _<_}
 use native.Mathlib.Omega.{arith}
@@ -12,7 +12,7 @@ use Rattle.protocol.specs.TwoLists.{Lists, bothEmpty, listsStep, listsAfter, ow
 use Rattle.protocol.specs.Quiet.{quietSteps, quietFloor, quietEvents, mostSteps}
 use Rattle.protocol.proofs.QuietCall.{call-ran}
 use Rattle.protocol.proofs.LiveRun.{floor-after-more}
-use Rattle.protocol.specs.Route.{sendingsOf}
+use Rattle.protocol.specs.Route.{sendingsOf, retiresNone}
 use Rattle.protocol.proofs.Theorems.{two-list-rule, same-received, form-reached, reached-quiet-bound, quiet-at-last, quiet-holds-none, quiet-lists-equal}
 use Rattle.view.specs.View.{Lent, floorIn}
 use Rattle.event_answers.specs.Met.{Met}
@@ -94,19 +94,20 @@ ends-quiet L₀ L n k l begun ks calls L′ buffer buffer′ steps met =
     subst (λ (P : Product). EndsQuiet (limitsOf P) (floorIn L) k (eventsOf ks) (floorIn L′) steps) (sym (begun .product))
     (subst (λ (X : Floor). EndsQuiet (limitsOf (L₀ .product)) X k (eventsOf ks) (floorIn L′) steps) (sym (begun .floor)) here)
 
--- THE ROUTE MUST NOT MATTER, of two runs of calls for one product, each behind an accepted start of n stations and k carts: where each station made the
--- same accepted sends in both, and no message is held on either floor that they left, every cart has received the same. Answers and floors are the
--- written ones (`run-is`), so what was accepted, sent to whom, and is held, is said by the written run over the calls' events
+-- THE ROUTE MUST NOT MATTER, of two runs of calls for one product, each behind an accepted start of n stations and k carts: where no cart was retired, each
+-- station made the same accepted sends in both, and no message is held on either floor that they left, every cart has received the same. Answers and
+-- floors are the written ones (`run-is`), so what was accepted, sent to whom, and is held, is said by the written run over the calls' events
 pub same-received-by-calls : (L₀ L K₀ K : Lent) (n k : ℕ) (l r : Report) → L₀ .product ≡ K₀ .product → Met L₀ L (start n k) (accepted l) → Met K₀ K (start n k) (accepted r)
     → (ks js : List Call) → Calls L ks → Calls K js
+    → retiresNone (limitsOf (L .product)) (floorIn L) (eventsOf ks) ≡ true → retiresNone (limitsOf (K .product)) (floorIn K) (eventsOf js) ≡ true
     → ((u : ℕ) → sendingsOf (limitsOf (L .product)) (floorIn L) (eventsOf ks) u ≡ sendingsOf (limitsOf (K .product)) (floorIn K) (eventsOf js) u)
     → ((m : ℕ) → m < L .product .held → isHeld (floorIn (leftBy L ks)) m ≡ false) → ((m : ℕ) → m < K .product .held → isHeld (floorIn (leftBy K js)) m ≡ false)
     → (s c : ℕ) → c < k
     → listsOf (limitsOf (L .product)) (floorIn L) bothEmpty ks .received s c ≡ listsOf (limitsOf (K .product)) (floorIn K) bothEmpty js .received s c
-same-received-by-calls L₀ L K₀ K n k l r one begun begun′ ks js calls calls′ same none none′ s c lc =
+same-received-by-calls L₀ L K₀ K n k l r one begun begun′ ks js calls calls′ stay stay′ same none none′ s c lc =
     ap (λ (x : Lists). x .received s c) (lists-of-calls L bothEmpty ks calls)
     ∙ written (begun .product) (begun .floor) (begun′ .product ∙ sym one) (begun′ .floor ∙ ap (λ (P : Product). step (limitsOf P) (floorIn K₀) (start n k)) (sym one))
-    (λ u. same u) (held-none L ks calls none) (held-none K js calls′ none′)
+    stay stay′ (λ u. same u) (held-none L ks calls none) (held-none K js calls′ none′)
     ∙ sym (ap (λ (x : Lists). x .received s c) (lists-of-calls K bothEmpty js calls′))
   where
     held-none : (X : Lent) (xs : List Call) → Calls X xs → ((m : ℕ) → m < X .product .held → isHeld (floorIn (leftBy X xs)) m ≡ false)
@@ -116,14 +117,17 @@ same-received-by-calls L₀ L K₀ K n k l r one begun begun′ ks js calls call
     -- in the numbers of the first start's product
     written : {P Q : Product} {F G : Floor} → P ≡ L₀ .product → F ≡ step (limitsOf (L₀ .product)) (floorIn L₀) (start n k)
         → Q ≡ L₀ .product → G ≡ step (limitsOf (L₀ .product)) (floorIn K₀) (start n k)
+        → retiresNone (limitsOf P) F (eventsOf ks) ≡ true → retiresNone (limitsOf Q) G (eventsOf js) ≡ true
         → ((u : ℕ) → sendingsOf (limitsOf P) F (eventsOf ks) u ≡ sendingsOf (limitsOf Q) G (eventsOf js) u)
         → ((m : ℕ) → m < P .held → isHeld (floorAfter (limitsOf P) F (eventsOf ks)) m ≡ false)
         → ((m : ℕ) → m < Q .held → isHeld (floorAfter (limitsOf Q) G (eventsOf js)) m ≡ false)
         → listsAfter (limitsOf P) F bothEmpty (eventsOf ks) .received s c ≡ listsAfter (limitsOf Q) G bothEmpty (eventsOf js) .received s c
-    written p f q g a b d =
+    written p f q g t t′ a b d =
+        let u = rw (p, f) at t in
+        let u′ = rw (q, g) at t′ in
         let a′ = rw (p, f, q, g) at a in
         let b′ = rw (p, f) at b in
         let d′ = rw (q, g) at d in
         rw (p, f, q, g)
         (same-received (limitsOf (L₀ .product)) (floorIn L₀) (floorIn K₀) n k l r (sym (begun .answers)) (sym (begun′ .answers ∙ ap (λ (P : Product). answer (limitsOf P) (floorIn K₀) (start n k)) (sym one)))
-        (eventsOf ks) (eventsOf js) a′ b′ d′ s c lc)
+        (eventsOf ks) (eventsOf js) u u′ a′ b′ d′ s c lc)

@@ -3,7 +3,7 @@ use mathlib.Core.Path.{_≡_}
 use mathlib.Core.Logic.{_⊎_}
 use Prim.Native.Nat.{_≤_, _<_}
 use lib.ListN.{length}
-use Rattle.protocol.specs.Events.{Event, start, enter, send, wire, radio, move, flag, group, sendGroup, sendLong}
+use Rattle.protocol.specs.Events.{Event, start, enter, send, wire, radio, move, flag, group, sendGroup, sendLong, retire}
 use Rattle.view.specs.View.{Lent}
 
 -- one of the parts of K is lent in L, whatever the others are. The store is of 4,096 octets in every product, so it is right for each
@@ -24,3 +24,4 @@ FitText (flag c b) = Unit {0}
 FitText (group g set) = Unit {0}
 FitText (sendGroup s g text) = length text ≤ 32
 FitText (sendLong s set text) = (32 < length text) × (length text ≤ 512)
+FitText (retire c) = Unit {0}

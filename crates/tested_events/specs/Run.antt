@@ -31,7 +31,7 @@ leftBy L (k ∷ ks) = leftBy (k .left) ks
 
 -- the two lists of demand 3, from the events and from what the calls answered. "The sent list counts group sends by their members at sending": a group
 -- send does not say them, so they are those that the group has by the written steps over the same events, from floor F on (`asSent`), and not by
--- the controller's own record
+-- the controller's own record. They "begin at its latest entry" (`listsStep`)
 unfoldable pub listsOf : Limits → Floor → Lists → List Call → Lists
 listsOf M F l [] = l
 listsOf M F l (k ∷ ks) = listsOf M (step M F (k .event)) (listsStep (asSent F (k .event)) (k .answered) l) ks

@@ -13,7 +13,7 @@ ghost use mathlib.Core.List.{[]};
 ghost use lib.Dec.{ltb};
 ghost use lib.ListN.{length};
 ghost use Rattle.protocol.specs.Floor.{Product, limits, limitsOf};
-ghost use Rattle.protocol.specs.Events.{enter, send, wire, move, flag, sendGroup, sendLong};
+ghost use Rattle.protocol.specs.Events.{enter, send, wire, move, flag, sendGroup, sendLong, retire};
 ghost use Rattle.protocol.specs.Events as events;
 ghost use Rattle.protocol.specs.Store.{notLong};
 ghost use Rattle.protocol.specs.ReadText.{readRefusal};
@@ -295,6 +295,26 @@ pub fn send_long(
         text,
         bounds,
     )
+}
+
+// "Kind 10 carries a cart and retires it: the number becomes outside, leaves every group".
+pub fn retire(
+    stations: &mut [u64],
+    carts: &mut [u64],
+    messages: &[u64],
+    lines: &[u64],
+    texts: &[u8],
+    store: &[u8],
+    cart: CartNumber,
+    bounds: Bounds,
+) -> Answer
+    requires { ⌜ Fits bounds ⌝ }
+    ensures { λ a. ⌜ ((P : Product) → NumbersOf P bounds → Met (lent P (now (stations .entry)) (now (carts .entry)) (now (messages .entry)) (now (lines .entry)) (now (texts .entry)) (now (store .entry))) (lent P (now (stations .exit)) (now (carts .exit)) (now (messages .entry)) (now (lines .entry)) (now (texts .entry)) (now (store .entry))) (retire (cart .0)) (answerIn a [])) ⌝ }
+{
+    if !form_test::passes(stations, carts, messages, lines, texts, store, bounds) {
+        return Answer::Refused(5);
+    }
+    event_carts::retire(stations, carts, messages, lines, texts, store, cart)
 }
 
 // "Run the floor until it is quiet", with a lent text buffer: 5, "21 if that buffer is shorter", now "below 512", "after 5, before the first step", and then

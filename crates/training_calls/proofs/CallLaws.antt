@@ -43,7 +43,7 @@ unfolding headIn
 no-group S g h = column-beyond 16 groupAt (λ r. headWord S) 0 g h
 
 -- and none of an event that is no send to a group
-pub no-members : (G : ℕ → ℕ) (e : Event) → OneOf (0 ∷ 1 ∷ 2 ∷ 3 ∷ 4 ∷ 5 ∷ 6 ∷ 7 ∷ 9 ∷ []) (tagOf event-type e) → 0 ≡ membersFor G e
+pub no-members : (G : ℕ → ℕ) (e : Event) → OneOf (0 ∷ 1 ∷ 2 ∷ 3 ∷ 4 ∷ 5 ∷ 6 ∷ 7 ∷ 9 ∷ 10 ∷ []) (tagOf event-type e) → 0 ≡ membersFor G e
 no-members G (event.Start n k) h = refl
 no-members G (event.Enter t c) h = refl
 no-members G (event.Send s set n) h = refl
@@ -52,8 +52,9 @@ no-members G (event.Radio t c) h = refl
 no-members G (event.Move c to) h = refl
 no-members G (event.Flag c b) h = refl
 no-members G (event.Group g set) h = refl
-no-members G (event.SendGroup s g n) h = absurd (miss (0 ∷ 1 ∷ 2 ∷ 3 ∷ 4 ∷ 5 ∷ 6 ∷ 7 ∷ 9 ∷ []) 8 tt h)
+no-members G (event.SendGroup s g n) h = absurd (miss (0 ∷ 1 ∷ 2 ∷ 3 ∷ 4 ∷ 5 ∷ 6 ∷ 7 ∷ 9 ∷ 10 ∷ []) 8 tt h)
 no-members G (event.SendLong s set n) h = refl
+no-members G (event.Retire c) h = refl
 
 -- THE CALL
 
@@ -69,6 +70,7 @@ not-fed F l (event.Flag c b) r = refl
 not-fed F l (event.Group g set) r = refl
 not-fed F l (event.SendGroup s g n) r = refl
 not-fed F l (event.SendLong s set n) r = refl
+not-fed F l (event.Retire c) r = refl
 
 -- of an accepted one: the text lies behind the frame
 same-text : (l : List ℕ) (at n s set : ℕ) → _≡_ {A = Option PlainCall} (some (plainSend s set (take n (drop (at + 16) l)))) (some (plainSend s set (take n (drop 16 (drop at l)))))
@@ -86,6 +88,7 @@ fed-so F l at (event.Flag c b) r = refl
 fed-so F l at (event.Group g set) r = refl
 fed-so F l at (event.SendGroup s g n) r = same-text l at n (s .0) (F .groups g)
 fed-so F l at (event.SendLong s set n) r = same-text l at n (s .0) set
+fed-so F l at (event.Retire c) r = refl
 
 call-so : (M : Limits) (F : Floor) (l : List ℕ) (at : ℕ) (e : Event) (told : Told) (text : List ℕ) (members : ℕ) → members ≡ membersFor (F .groups) e
     → toldIn told text ≡ answer M F (eventIn (drop at l) e) → madeIn l (callTold e members told at) ≡ callOf M F (eventIn (drop at l) e)
@@ -125,6 +128,7 @@ there n (event.Flag c b) members initiator at h = tt
 there n (event.Group g set) members initiator at h = tt
 there n (event.SendGroup s g size) members initiator at h = omega arith
 there n (event.SendLong s set size) members initiator at h = omega arith
+there n (event.Retire c) members initiator at h = tt
 
 pub text-there : (n : ℕ) (e : Event) (members : ℕ) (told : Told) (at : ℕ) (call : Call) → call ≡ callTold e members told at → at + sizeOf e ≤ n → TextIn n call
 text-there n e members told at call is h =

@@ -28,6 +28,7 @@ membersFor groups (event.Flag c b) = 0
 membersFor groups (event.Group g set) = 0
 membersFor groups (event.SendGroup s g n) = groups g
 membersFor groups (event.SendLong s set n) = 0
+membersFor groups (event.Retire c) = 0
 
 -- the call of an accepted event whose frame stands at a place; its text is behind the frame's sixteen octets
 abbrev pub callFor : Event → ℕ → ℕ → ℕ → Call
@@ -41,6 +42,7 @@ callFor (event.Flag c b) members initiator at = Nothing
 callFor (event.Group g set) members initiator at = Nothing
 callFor (event.SendGroup s g n) members initiator at = Send s members (at + 16) n
 callFor (event.SendLong s set n) members initiator at = Send s set (at + 16) n
+callFor (event.Retire c) members initiator at = Nothing
 
 -- by what was told of it
 abbrev pub callTold : Event → ℕ → Told → ℕ → Call

@@ -63,6 +63,7 @@ fn accepted_call(e: Event, members: u64, initiator: u64, at: usize) -> Call
         Event::Move(_, _) => Call::Nothing,
         Event::Flag(_, _) => Call::Nothing,
         Event::Group(_, _) => Call::Nothing,
+        Event::Retire(_) => Call::Nothing,
     }
 }
 

@@ -11,7 +11,7 @@ use lib.ListN.{length, drop, length-drop}
 use lib.Seq.{drop-append-le, drop-drop}
 use borrow.Author.Tests.{ne-eqb}
 use Rattle.protocol.specs.Floor.{Limits, Product, Floor, wholeFloor, limits, limitsOf}
-use Rattle.protocol.specs.Events.{Event, start, enter, send, wire, radio, move, flag, group, sendGroup, sendLong, Answer, refused, accepted}
+use Rattle.protocol.specs.Events.{Event, start, enter, send, wire, radio, move, flag, group, sendGroup, sendLong, retire, Answer, refused, accepted}
 use Rattle.protocol.specs.Groups.{asSent}
 use Rattle.protocol.specs.Form.{passesForm}
 use Rattle.protocol.specs.Refusals.{check, refusal, refusalIf}
@@ -189,6 +189,7 @@ same-fed F G (sendGroup s g text) a h =
     let w = h s g text refl in
     ap (fedBy (send s (F .groups g) text)) (w .1) ∙ sym (ap (fedBy (send s (G .groups g) text)) (w .1))
 same-fed F G (sendLong s set text) a h = refl
+same-fed F G (retire c) a h = refl
 
 past-5 : (a b : Bool) (rest : ℕ) → b ≡ true → check 4 a (check 5 b rest) ≡ 0 → ⊥
 past-5 true b rest e z = omega arith

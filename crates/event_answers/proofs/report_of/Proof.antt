@@ -94,6 +94,12 @@ enum-known-outcome-14 c = search needs
 report-requires-14 : tie.Need-report-requires-14
 report-requires-14 c κs = search needs
 
+enum-known-outcome-15 : tie.Need-enum-known-outcome-15
+enum-known-outcome-15 c = search needs
+
+report-requires-15 : tie.Need-report-requires-15
+report-requires-15 c κs = search needs
+
 returns : tie.Need-returns
 returns c = let f = c .before .before .before .before .args .effect in c .report .ensures ∙ sym (ap (λ (o : Outcome). reportOf o f) (c .before .before .outcome .given .1))
 
@@ -141,6 +147,9 @@ returns-13 c = let f = c .before .before .before .before .args .effect in c .rep
 returns-14 : tie.Need-returns-14
 returns-14 c = let f = c .before .before .before .before .args .effect in c .report14 .ensures ∙ sym (ap (λ (o : Outcome). reportOf o f) (c .before .before .outcome14 .given .1))
 
+returns-15 : tie.Need-returns-15
+returns-15 c = let f = c .before .before .before .before .args .effect in c .report15 .ensures ∙ sym (ap (λ (o : Outcome). reportOf o f) (c .before .before .outcome15 .given .1))
+
 pub report-of-spec : {M : Type 1} → statement M
 report-of-spec =
     tie.close
@@ -174,6 +183,8 @@ report-of-spec =
     report-requires-13
     enum-known-outcome-14
     report-requires-14
+    enum-known-outcome-15
+    report-requires-15
     returns
     returns-2
     returns-3
@@ -187,4 +198,5 @@ report-of-spec =
     returns-11
     returns-12
     returns-13
-    returns-14)
+    returns-14
+    returns-15)

@@ -45,6 +45,9 @@ enum-told-4 c = search needs
 enum-told-5 : tie.Need-enum-told-5
 enum-told-5 c = search needs
 
+enum-told-6 : tie.Need-enum-told-6
+enum-told-6 c = search needs
+
 returns : tie.Need-returns
 returns c = sym (ap (λ (e : Event). callFor e (c .before .before .before .args .members) (c .before .before .before .args .initiator) (c .before .before .before .args .at)) (c .before .e .given .1))
 
@@ -75,6 +78,9 @@ returns-9 c = search needs
 returns-10 : tie.Need-returns-10
 returns-10 c = search needs
 
+returns-11 : tie.Need-returns-11
+returns-11 c = search needs
+
 pub accepted-call-spec : {M : Type 1} → statement M
 accepted-call-spec =
     tie.close
@@ -92,6 +98,7 @@ accepted-call-spec =
     enum-told-3
     enum-told-4
     enum-told-5
+    enum-told-6
     returns
     returns-2
     returns-3
@@ -101,4 +108,5 @@ accepted-call-spec =
     returns-7
     returns-8
     returns-9
-    returns-10)
+    returns-10
+    returns-11)
