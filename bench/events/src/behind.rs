@@ -61,6 +61,7 @@ behind!(send_long, SendLong, |floor, s: u64, set: u64, text: *const u8, size: us
     let text = unsafe { std::slice::from_raw_parts(text, size) };
     said(9, floor.send_long(station(s), set, text).map(|step| (step, 0)))
 });
+behind!(retire, Retire, |floor, c: u64| { said(10, floor.retire(cart(c)).map(|step| (step, 0))) });
 
 /// A plain floor and its functions; they are not known where they are called.
 #[derive(Clone)]
@@ -75,6 +76,7 @@ pub struct Behind {
     set_group: SetGroup,
     send_group: SendGroup,
     send_long: SendLong,
+    retire: Retire,
 }
 
 macro_rules! call {
@@ -100,6 +102,7 @@ impl Behind {
             set_group: black_box(set_group),
             send_group: black_box(send_group),
             send_long: black_box(send_long),
+            retire: black_box(retire),
         }
     }
 
@@ -126,6 +129,7 @@ impl Behind {
             Event::SendLong(s, set, ref text) => {
                 call!((self.send_long), floor, out, s, set, text.as_ptr(), text.len())
             }
+            Event::Retire(c) => call!((self.retire), floor, out, c),
         }
         out
     }

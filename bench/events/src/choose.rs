@@ -93,17 +93,26 @@ fn receiver(numbers: &mut Numbers, floor: &Floor) -> Option<Event> {
     })
 }
 
+/// A cart at a station that no held message names, if the one that is looked at first or one behind it is such.
+fn leaver(numbers: &mut Numbers, floor: &Floor) -> Option<Event> {
+    let (k, free) = (floor.carts() as u64, floor.entered() & !floor.named());
+    let from = numbers.below(k);
+    let here = |c: u64| matches!(floor.place(CartNo(c as u8)), Place::At(_));
+    (0..k).map(|c| (from + c) % k).find(|&c| free >> c & 1 == 1 && here(c)).map(Event::Retire)
+}
+
 /// An event on a floor of so many stations and carts. One that passes the form rule is started less often than another.
 pub fn event(numbers: &mut Numbers, floor: Option<&Floor>, n: u64, k: u64) -> Event {
     let kind = match floor {
         None if numbers.below(5) == 0 => 0,
-        _ => [0, 1, 1, 2, 2, 2, 3, 3, 3, 3, 3, 4, 4, 4, 5, 5, 6, 7, 7, 8, 8, 9, 9, 9, 10]
-            [numbers.below(25) as usize],
+        _ => [0, 1, 1, 2, 2, 2, 3, 3, 3, 3, 3, 4, 4, 4, 5, 5, 6, 7, 7, 8, 8, 9, 9, 9, 10, 10, 11]
+            [numbers.below(27) as usize],
     };
     if let (Some(floor), true) = (floor, numbers.below(4) > 0) {
         let sensible = match kind {
             3 => line(numbers, floor),
             4 => receiver(numbers, floor),
+            10 => leaver(numbers, floor),
             _ => None,
         };
         if let Some(event) = sensible {
@@ -122,6 +131,7 @@ pub fn event(numbers: &mut Numbers, floor: Option<&Floor>, n: u64, k: u64) -> Ev
         7 => Event::Group(near(numbers, GROUPS as u64), set(numbers, floor, k)),
         8 => Event::SendGroup(near(numbers, n), group(numbers, floor), text(numbers)),
         9 => Event::SendLong(near(numbers, n), set(numbers, floor, k), table(numbers)),
+        10 => Event::Retire(near(numbers, k)),
         _ => Event::Quiet,
     }
 }

@@ -19,11 +19,12 @@ pub enum Event {
     Group(u64, u64),
     SendGroup(u64, u64, Vec<u8>),
     SendLong(u64, u64, Vec<u8>),
+    Retire(u64),
     Quiet,
 }
 
 /// The kinds in the order of their numbers. No frame has the last.
-pub const KINDS: [&str; 11] = [
+pub const KINDS: [&str; 12] = [
     "start",
     "enter",
     "send",
@@ -34,6 +35,7 @@ pub const KINDS: [&str; 11] = [
     "group",
     "send to group",
     "long send",
+    "retire",
     "quiet",
 ];
 
@@ -50,7 +52,8 @@ impl Event {
             Event::Group(..) => 7,
             Event::SendGroup(..) => 8,
             Event::SendLong(..) => 9,
-            Event::Quiet => 10,
+            Event::Retire(..) => 10,
+            Event::Quiet => 11,
         }
     }
 
@@ -127,6 +130,7 @@ pub fn apply(floor: &mut Floor, event: &Event, buffer: &mut [u8]) -> Said {
         Event::Group(g, set) => (7, floor.set_group(group(g), set)),
         Event::SendGroup(s, g, ref text) => (8, floor.send_to_group(station(s), group(g), text)),
         Event::SendLong(s, set, ref text) => (9, floor.send_long(station(s), set, text)),
+        Event::Retire(c) => (10, floor.retire(cart(c))),
         Event::Quiet => return quiet_said(floor.quiet(buffer)),
     };
     said(kind, answer.map(|step| (step, 0)))

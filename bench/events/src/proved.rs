@@ -41,6 +41,7 @@ linked! {
     mekhturia_group, mekhturia_step_group => (group: u64, set: u64);
     mekhturia_send_group, mekhturia_step_send_group => (station: u64, group: u64, text: *const u8, size: usize);
     mekhturia_send_long, mekhturia_step_send_long => (station: u64, set: u64, text: *const u8, size: usize);
+    mekhturia_retire, mekhturia_step_retire => (cart: u64);
     mekhturia_quiet => (buffer: *mut u8, size: usize);
     mekhturia_text => (initiator: u64, number: u64);
 }
@@ -66,7 +67,7 @@ macro_rules! call_one {
     (
         $w:expr, $event:expr, $buffer:expr, $out:expr,
         $start:ident, $enter:ident, $send:ident, $wire:ident, $radio:ident, $move:ident, $flag:ident, $group:ident, $send_group:ident,
-        $send_long:ident
+        $send_long:ident, $retire:ident
     ) => {{
         assert!($out.len() >= WORDS);
         match *$event {
@@ -88,6 +89,7 @@ macro_rules! call_one {
             Event::SendLong(s, set, ref text) => {
                 call!($send_long, $w, $out, s, set, text.as_ptr(), text.len())
             }
+            Event::Retire(c) => call!($retire, $w, $out, c),
             Event::Quiet => {
                 call!(mekhturia_quiet, $w, $out, $buffer.as_mut_ptr(), $buffer.len())
             }
@@ -103,7 +105,7 @@ pub fn call(w: &mut Words, event: &Event, buffer: &mut [u8], out: &mut [u64]) {
             w, event, buffer, out,
             mekhturia_start, mekhturia_enter, mekhturia_send,
             mekhturia_wire, mekhturia_radio, mekhturia_move, mekhturia_flag,
-            mekhturia_group, mekhturia_send_group, mekhturia_send_long
+            mekhturia_group, mekhturia_send_group, mekhturia_send_long, mekhturia_retire
         }
     }
 }
@@ -118,7 +120,8 @@ pub unsafe fn step(w: &mut Words, event: &Event, buffer: &mut [u8], out: &mut [u
         w, event, buffer, out,
         mekhturia_start, mekhturia_step_enter, mekhturia_step_send,
         mekhturia_step_wire, mekhturia_step_radio, mekhturia_step_move, mekhturia_step_flag,
-        mekhturia_step_group, mekhturia_step_send_group, mekhturia_step_send_long
+        mekhturia_step_group, mekhturia_step_send_group, mekhturia_step_send_long,
+        mekhturia_step_retire
     }
 }
 

@@ -14,11 +14,11 @@ fn size(numbers: &mut Numbers) -> (u64, u64) {
 }
 
 /// Which kinds come how often: a run may have few sends or many, and its lines may fill or stay short.
-fn weights(numbers: &mut Numbers) -> [u64; 9] {
-    std::array::from_fn(|kind| 1 + numbers.below([4, 4, 4, 12, 2, 2, 3, 4, 24][kind]))
+fn weights(numbers: &mut Numbers) -> [u64; 10] {
+    std::array::from_fn(|kind| 1 + numbers.below([4, 4, 4, 12, 2, 2, 3, 4, 3, 24][kind]))
 }
 
-fn step(numbers: &mut Numbers, floor: &mut Floor, weights: &[u64; 9], n: u64, k: u64) {
+fn step(numbers: &mut Numbers, floor: &mut Floor, weights: &[u64; 10], n: u64, k: u64) {
     let (s, t) = (StationNo(numbers.below(n) as u8), StationNo(numbers.below(n) as u8));
     let cart = CartNo(numbers.below(k) as u8);
     let mut at = numbers.below(weights.iter().sum());
@@ -53,6 +53,7 @@ fn step(numbers: &mut Numbers, floor: &mut Floor, weights: &[u64; 9], n: u64, k:
             let set = floor.entered() & numbers.next() & numbers.next();
             floor.send_long(s, set, &some_table(numbers))
         }
+        Some(8) => floor.retire(cart),
         _ => floor.wire(s, t),
     };
 }

@@ -221,7 +221,7 @@ fn refusals() -> Vec<Batch> {
     vec![Batch { name: "wire, refused", events }]
 }
 
-/// All carts enter, where STAY messages of other numbers have been.
+/// All carts but one enter, where STAY messages of other numbers have been, and go back: no held message names them.
 fn entries() -> (Floor, Vec<Batch>) {
     let mut floor = Floor::new();
     accept(&mut floor, &[Event::Start(16, 64), Event::Enter(BLOCKED, 63)]);
@@ -229,8 +229,11 @@ fn entries() -> (Floor, Vec<Batch>) {
         accept(&mut floor, &[Event::Send(m, 1 << 63, vec![7; 9])]);
     }
     wire_all(&mut floor);
-    let events = (0..63).map(|c| Event::Enter(c % 16, c)).collect();
-    (floor, vec![Batch { name: "enter", events }])
+    let enters = (0..63).map(|c| Event::Enter(c % 16, c)).collect();
+    let retires = (0..63).map(Event::Retire).collect();
+    let batches =
+        vec![Batch { name: "enter", events: enters }, Batch { name: "retire", events: retires }];
+    (floor, batches)
 }
 
 /// The least times of each batch.

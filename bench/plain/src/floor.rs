@@ -149,7 +149,7 @@ pub(crate) fn stations_of(mut set: u16) -> impl Iterator<Item = StationNo> {
 /// Where a cart is.
 #[derive(Clone, Copy, Debug, PartialEq, Eq)]
 pub enum Place {
-    /// Never entered.
+    /// Not now entered: it never was, or it has been retired.
     Outside,
     /// At a station.
     At(StationNo),
@@ -307,7 +307,7 @@ pub struct Floor {
     pub(crate) started: bool,
     pub(crate) stations: u8,
     pub(crate) carts: u8,
-    /// Carts that have entered.
+    /// Carts that are now entered.
     pub(crate) entered: u64,
     /// Carts that were told not to be steady. "A cart counts as steady from its entry until told",
     /// and as the flag is kept by cart, it "travels with the cart through hand-offs".
@@ -411,14 +411,15 @@ impl Floor {
         self.carts
     }
 
-    /// Carts that have entered.
+    /// Carts that are now entered.
     pub fn entered(&self) -> u64 {
         self.entered
     }
 
-    /// Carts that are not steady.
+    /// Carts on the floor that are not steady. The flag of one that retired is kept until it enters
+    /// again, but nobody asks for it.
     pub fn unsteady(&self) -> u64 {
-        self.unsteady
+        self.unsteady & self.entered
     }
 
     /// The members of a group, none if it is not defined or there is no such group.
@@ -438,6 +439,11 @@ impl Floor {
     /// Carts at a station or leaving it.
     pub fn local(&self, station: StationNo) -> u64 {
         self.station[station.at()].local
+    }
+
+    /// Carts that a held message names, by the set as sent.
+    pub fn named(&self) -> u64 {
+        rooms_of(self.rooms).fold(0, |named, room| named | self.held[room.at()].set)
     }
 
     /// How many messages are held.

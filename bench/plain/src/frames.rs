@@ -16,9 +16,10 @@ pub const STEADY: u8 = 6;
 pub const GROUP: u8 = 7;
 pub const GROUP_SEND: u8 = 8;
 pub const LONG_SEND: u8 = 9;
+pub const RETIRE: u8 = 10;
 
 /// How many kinds there are.
-pub const KINDS: usize = 10;
+pub const KINDS: usize = 11;
 
 // Where the fields stand in the first eight octets, read as one number.
 const KIND: u32 = 60;
@@ -49,6 +50,7 @@ const STRAY: [u64; KINDS] = [
     stray(OTHER_FIELD),
     stray(STATION_FIELD | OTHER_FIELD | LENGTH_FIELD),
     stray(STATION_FIELD | LONG_LENGTH_FIELD),
+    stray(CART_FIELD),
 ];
 
 /// A bit for each kind that a set is listed for.
@@ -71,6 +73,7 @@ pub enum Event<'a> {
     Group { group: GroupNo, set: u64 },
     GroupSend { station: StationNo, group: GroupNo, text: &'a [u8] },
     LongSend { station: StationNo, set: u64, text: &'a [u8] },
+    Retire { cart: CartNo },
 }
 
 /// What a reader answers.
@@ -148,7 +151,8 @@ fn event_of<'a>(head: u64, set: u64, rest: &mut &'a [u8]) -> Result<Event<'a>, R
         GROUP_SEND => {
             Event::GroupSend { station, group: GroupNo(other), text: text_of(head, rest)? }
         }
-        _ => Event::LongSend { station, set, text: long_text_of(head, rest)? },
+        LONG_SEND => Event::LongSend { station, set, text: long_text_of(head, rest)? },
+        _ => Event::Retire { cart },
     })
 }
 
@@ -211,6 +215,7 @@ fn fields_of<'a>(event: &Event<'a>) -> (u64, u64, &'a [u8]) {
         Event::LongSend { station, set, text } => {
             (kind(LONG_SEND) | at(station) | text.len() as u64, set, text)
         }
+        Event::Retire { cart } => (kind(RETIRE) | of(cart), 0, &[]),
     }
 }
 
@@ -264,6 +269,7 @@ mod tests {
             Event::GroupSend { station: StationNo(0), group: GroupNo(0), text: &[] },
             Event::LongSend { station: StationNo(15), set: u64::MAX, text: &[0xAB; LONG] },
             Event::LongSend { station: StationNo(0), set: 0, text: &[0xCD; TEXT + 1] },
+            Event::Retire { cart: CartNo(63) },
         ];
         let mut octets = Vec::new();
         events.iter().for_each(|event| put(event, &mut octets));
@@ -307,6 +313,7 @@ mod tests {
             (GROUP, [0, 0, 1, 0, 0, 1]),
             (GROUP_SEND, [1, 0, 1, 1, 0, 0]),
             (LONG_SEND, [1, 0, 0, 0, 1, 1]),
+            (RETIRE, [0, 1, 0, 0, 0, 0]),
         ];
         let widths = [4, 6, 4, 6, 40, 64];
         for (kind, fields) in listed {

@@ -4,7 +4,7 @@
 //!
 //! * [`floor`]: the records of stations, carts and held messages, and the wired lines.
 //! * [`steps`]: the events: start, enter, send, wire, radio, move, steady,
-//!   groups and sends to them, long sends.
+//!   groups and sends to them, long sends, retire.
 //! * [`quiet`]: the floor run until it is quiet.
 //! * [`frames`]: frames taken apart into events.
 //! * [`report`]: the printed run.

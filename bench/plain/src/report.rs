@@ -199,7 +199,11 @@ impl Line<'_> {
 
     #[inline(always)]
     fn step(&mut self, kind: u8, step: &Step) {
-        self.put(&[kind + b'0', b' ']);
+        if kind < 10 {
+            self.put(&[kind + b'0', b' ']);
+        } else {
+            self.number(kind as u64);
+        }
         self.number(step.a as u64);
         self.number(step.b as u64);
         self.number(step.p);
@@ -293,6 +297,13 @@ mod tests {
         assert!(report.is_full());
         report.clear();
         assert!(!report.is_full());
+    }
+
+    #[test]
+    fn a_kind_of_two_digits() {
+        let mut report = Report::new(0);
+        report.accepted(10, &Step { a: 63, b: 0, p: 0, w: 0, q: 0 });
+        assert_eq!(report.lines(), b"0 10 63 0 0 0 0\n");
     }
 
     #[test]

@@ -156,6 +156,9 @@ fn handle(floor: &mut Floor, event: &Event, report: &mut Report) {
         Event::LongSend { station, set, text } => {
             return print_rare(report, frames::LONG_SEND, floor.send_long(station, set, text));
         }
+        Event::Retire { cart } => {
+            return print_rare(report, frames::RETIRE, floor.retire(cart));
+        }
         Event::Radio { station, cart } => {
             let mut text = [0; TEXT];
             return match floor.radio(station, cart, &mut text) {
@@ -194,6 +197,7 @@ pub fn give(floor: &mut Floor, event: &Event, buffer: &mut [u8]) -> Result<(Step
         Event::Group { group, set } => floor.set_group(group, set),
         Event::GroupSend { station, group, text } => floor.send_to_group(station, group, text),
         Event::LongSend { station, set, text } => floor.send_long(station, set, text),
+        Event::Retire { cart } => floor.retire(cart),
     };
     answer.map(|step| (step, 0))
 }

@@ -2,8 +2,8 @@
 //! the answer, and changes nothing before the last check has passed.
 
 use crate::floor::{
-    carts_of, line, order, rooms_of, stations_of, CartNo, Floor, GroupNo, Held, MessageNo, Place,
-    Record, Room, StationNo, LONG, STATIONS, TEXT,
+    carts_of, line, order, rooms_of, stations_of, Cart, CartNo, Floor, GroupNo, Held, MessageNo,
+    Place, Record, Room, StationNo, LONG, STATIONS, TEXT,
 };
 
 /// What an accepted event answers.
@@ -34,13 +34,13 @@ pub enum Refusal {
     NoSuchCart = 9,
     AlreadyEntered = 10,
     EmptySet = 11,
-    NamedNeverEntered = 12,
+    NamedNotEntered = 12,
     NumbersUsedUp = 13,
     NoRoom = 14,
     LineEmpty = 15,
     NotAtStation = 16,
     NotAtHead = 17,
-    NeverEntered = 18,
+    NotEntered = 18,
     InHandOff = 19,
     AlreadyThere = 20,
     ShortBuffer = 21,
@@ -49,6 +49,7 @@ pub enum Refusal {
     NoSuchGroup = 26,
     StoreFull = 27,
     NotHeld = 28,
+    StillNamed = 29,
     ListsFull = 30,
     ListEmpty = 31,
 }
@@ -140,8 +141,8 @@ impl Floor {
     }
 
     /// A station initiates a message "to the members as they are at that send". The set is copied
-    /// with it, so "a later change of the group touches no message already sent". The members have
-    /// entered: that was asked when the group was defined.
+    /// with it, so "a later change of the group touches no message already sent". The members are
+    /// entered: that was asked when the group was defined, and a cart that retires leaves it.
     #[inline(never)]
     pub fn send_to_group(
         &mut self,
@@ -172,7 +173,7 @@ impl Floor {
             return Err(Refusal::NoSuchCart);
         }
         if set & !self.entered != 0 {
-            return Err(Refusal::NamedNeverEntered);
+            return Err(Refusal::NamedNotEntered);
         }
         // "12 after 9, then 26 for a library group above 15."
         let Some(members) = self.groups.get_mut(group.0 as usize) else {
@@ -285,7 +286,7 @@ impl Floor {
         self.check_station(to)?;
         self.check_cart(cart)?;
         let old = match self.cart[cart.at()].place {
-            Place::Outside => return Err(Refusal::NeverEntered),
+            Place::Outside => return Err(Refusal::NotEntered),
             Place::Leaving(_) | Place::Travelling => return Err(Refusal::InHandOff),
             Place::At(old) if old == to => return Err(Refusal::AlreadyThere),
             Place::At(old) => old,
@@ -301,7 +302,7 @@ impl Floor {
         self.check_started()?;
         self.check_cart(cart)?;
         if self.entered & cart.alone() == 0 {
-            return Err(Refusal::NeverEntered);
+            return Err(Refusal::NotEntered);
         }
         if steady {
             self.unsteady &= !cart.alone();
@@ -309,6 +310,28 @@ impl Floor {
             self.unsteady |= cart.alone();
         }
         Ok(Step { a: cart.0 as u16, b: steady as u32, p: 0, w: 0, q: 0 })
+    }
+
+    /// A cart goes back to the factory: "the number becomes outside, leaves every group, and a group
+    /// that this empties is undefined. It may enter again, with all next numbers 0 and steady." No
+    /// held message names it, so it is in no queue entry and in no ack list.
+    #[inline(never)]
+    pub fn retire(&mut self, cart: CartNo) -> Result<Step, Refusal> {
+        self.check_started()?;
+        self.check_cart(cart)?;
+        let station = match self.cart[cart.at()].place {
+            Place::Outside => return Err(Refusal::NotEntered),
+            Place::Leaving(_) | Place::Travelling => return Err(Refusal::InHandOff),
+            Place::At(station) => station,
+        };
+        if self.named() & cart.alone() != 0 {
+            return Err(Refusal::StillNamed);
+        }
+        self.cart[cart.at()] = Cart { next: [0; STATIONS], place: Place::Outside };
+        self.station[station.at()].local &= !cart.alone();
+        self.entered &= !cart.alone();
+        self.groups.iter_mut().for_each(|members| *members &= !cart.alone());
+        Ok(Step { a: cart.0 as u16, b: 0, p: 0, w: 0, q: 0 })
     }
 
     /// The text of a held message.
@@ -353,7 +376,7 @@ impl Floor {
             return Err(Refusal::EmptySet);
         }
         if set & !self.entered != 0 {
-            return Err(Refusal::NamedNeverEntered);
+            return Err(Refusal::NamedNotEntered);
         }
         Ok(())
     }

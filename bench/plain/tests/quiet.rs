@@ -31,6 +31,16 @@ struct Lists {
 }
 
 impl Lists {
+    /// "The sent and received lists of a cart begin at its latest entry."
+    fn enter(&mut self, floor: &mut Floor, station: StationNo, cart: CartNo) -> bool {
+        if floor.enter(station, cart).is_err() {
+            return false;
+        }
+        self.sent.retain(|(_, of), _| *of != cart.0);
+        self.received.retain(|(_, of), _| *of != cart.0);
+        true
+    }
+
     fn send(&mut self, floor: &mut Floor, station: StationNo, set: u64, text: &[u8]) -> bool {
         let Ok(step) = floor.send(station, set, text) else { return false };
         self.sent(station, set, step.b, text)
@@ -102,8 +112,8 @@ fn event(floor: &mut Floor, lists: &mut Lists, numbers: &mut Numbers, flags: boo
     let (n, k) = (floor.stations() as u64, floor.carts() as u64);
     let (s, t) = (StationNo(numbers.below(n) as u8), StationNo(numbers.below(n) as u8));
     let cart = CartNo(numbers.below(k) as u8);
-    let _ = match numbers.below(15) {
-        0 => floor.enter(s, cart).is_ok(),
+    let _ = match numbers.below(16) {
+        0 => lists.enter(floor, s, cart),
         1..=3 => {
             let text = vec![numbers.next() as u8; 1 + numbers.below(TEXT as u64) as usize];
             let set = floor.entered() & (numbers.next() ^ numbers.next() << 1);
@@ -127,6 +137,7 @@ fn event(floor: &mut Floor, lists: &mut Lists, numbers: &mut Numbers, flags: boo
             let text = vec![numbers.next() as u8; 33 + numbers.below(480) as usize];
             lists.send_long(floor, s, floor.entered() & numbers.next(), &text)
         }
+        11 => floor.retire(cart).is_ok(),
         7 if flags => floor.set_steady(cart, numbers.below(3) > 0).is_ok(),
         _ => floor.wire(s, t).is_ok(),
     };
@@ -204,7 +215,8 @@ fn on_floors_of_the_stored_runs() {
             let Taken::Event(event) = reader.take() else { break };
             let _ = match event {
                 Event::Start { stations, carts } => floor.start(stations, carts).is_ok(),
-                Event::Enter { station, cart } => floor.enter(station, cart).is_ok(),
+                Event::Enter { station, cart } => lists.enter(&mut floor, station, cart),
+                Event::Retire { cart } => floor.retire(cart).is_ok(),
                 Event::Send { station, set, text } => lists.send(&mut floor, station, set, text),
                 Event::LongSend { station, set, text } => {
                     lists.send_long(&mut floor, station, set, text)

@@ -23,12 +23,13 @@ fn on_many_floors(look: impl Fn(&Floor)) {
             let cart = CartNo(numbers.below(k) as u8);
             // A refused event is none.
             let group = GroupNo(numbers.below(16) as u8);
-            let _ = match numbers.below(10) {
+            let _ = match numbers.below(11) {
                 0 => floor.enter(s, cart),
                 1 => floor.send(s, floor.entered() & numbers.below(1 << 50), &[event as u8; 7]),
                 2 => floor.move_cart(cart, t),
                 3 => floor.radio(s, cart, &mut [0; 32]).map(|(step, _)| step),
                 4 => floor.set_group(group, floor.entered() & numbers.next()),
+                6 => floor.retire(cart),
                 5 => floor.send_to_group(s, group, &[event as u8; 9]),
                 _ => floor.wire(s, t),
             };

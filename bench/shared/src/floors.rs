@@ -134,7 +134,7 @@ pub fn random(seed: u64) -> Floor {
         let cart = CartNo(numbers.below(k) as u8);
         // A refused event is none.
         let group = GroupNo(numbers.below(GROUPS as u64) as u8);
-        let _ = match numbers.below(14) {
+        let _ = match numbers.below(15) {
             0 => floor.enter(s, cart),
             1 => {
                 let set = floor.entered() & numbers.next() & numbers.next();
@@ -145,6 +145,7 @@ pub fn random(seed: u64) -> Floor {
             6 if numbers.below(3) == 0 => floor.set_group(group, floor.entered() & numbers.next()),
             6 => floor.send_to_group(s, group, &some_text(&mut numbers)),
             7 => floor.send_long(s, floor.entered() & numbers.next(), &some_table(&mut numbers)),
+            8 => floor.retire(cart),
             _ => floor.wire(s, t),
         };
     }

@@ -59,6 +59,7 @@ fn busy(random: &mut Random, most: usize) -> Vec<u8> {
         bad: [0, 2, 20, 60][random.below(4)],
         groups: [0, 10, 60][random.below(3)],
         long: [0, 10, 60][random.below(3)],
+        retire: [0, 2, 20][random.below(3)],
         kit,
     };
     let count = 1 + random.below(most);
@@ -81,7 +82,7 @@ fn wild(random: &mut Random) -> Vec<u8> {
         let (text, long) =
             (&long[..random.below(TEXT + 1)], &long[..TEXT + 1 + random.below(LONG - TEXT)]);
         let group = GroupNo(random.below(if beyond { GROUPS } else { 3 }) as u8);
-        let event = match random.below(24) {
+        let event = match random.below(25) {
             _ if index == 0 && !late => Event::Start { stations, carts },
             0 if random.once_in(10) => Event::Start { stations: station.0 + 1, carts: one.0 + 1 },
             0 | 1 => Event::Enter { station, cart: one },
@@ -96,6 +97,7 @@ fn wild(random: &mut Random) -> Vec<u8> {
             13 => Event::Group { group, set: one.alone() | two.alone() },
             14 => Event::GroupSend { station, group, text },
             15 => Event::LongSend { station, set: one.alone() | two.alone(), text: long },
+            16 => Event::Retire { cart: one },
             _ => Event::Wire { from: station, to },
         };
         put(&event, &mut octets);

@@ -32,6 +32,8 @@ pub struct Wishes {
     pub groups: usize,
     /// Percent of sends whose text is long, as far as the store has room.
     pub long: usize,
+    /// Percent of choices behind a send where a cart retires, as far as one is free to.
+    pub retire: usize,
     /// Whether the floor is the demonstration kit's, with its limits.
     pub kit: bool,
 }
@@ -54,6 +56,7 @@ impl Default for Wishes {
             bad: 2,
             groups: 0,
             long: 0,
+            retire: 0,
             kit: false,
         }
     }
@@ -143,10 +146,8 @@ impl Generator {
         if let (Some(station), true) = (sender, self.random.once_in(2)) {
             return self.send(station, text);
         }
-        if self.random.once_in(8) {
-            if let Some(event) = self.move_cart() {
-                return event;
-            }
+        if let Some(event) = self.departure() {
+            return event;
         }
         if self.random.once_in(FLAGS) {
             return self.flag();
@@ -179,7 +180,13 @@ impl Generator {
             return None;
         }
         let early = 4 * outside > self.floor.carts() as usize;
-        let now = self.floor.entered() == 0 || self.random.once_in(if early { 2 } else { 400 });
+        // Those that retire come back before long.
+        let rarely = match (early, self.wishes.retire) {
+            (true, _) => 2,
+            (false, 0) => 400,
+            (false, _) => 20,
+        };
+        let now = self.floor.entered() == 0 || self.random.once_in(rarely);
         now.then(|| self.enter())
     }
 
@@ -232,7 +239,7 @@ impl Generator {
         (most > TEXT).then(|| TEXT + 1 + self.random.below(most - TEXT))
     }
 
-    /// Carts that have entered.
+    /// Carts that are entered.
     fn some_set(&mut self) -> u64 {
         let entered = self.floor.entered();
         match self.random.below(16) {
@@ -312,6 +319,27 @@ impl Generator {
         }
     }
 
+    /// Now and then a cart that retires or rolls away.
+    fn departure(&mut self) -> Option<Event<'static>> {
+        if self.wishes.retire > 0 && self.random.percent(self.wishes.retire) {
+            if let Some(event) = self.retire() {
+                return Some(event);
+            }
+        }
+        if self.random.once_in(8) {
+            return self.move_cart();
+        }
+        None
+    }
+
+    /// A cart at a station that no held message names.
+    fn retire(&mut self) -> Option<Event<'static>> {
+        let free = carts_of(self.floor.entered() & !self.floor.named())
+            .filter(|cart| matches!(self.floor.place(*cart), Place::At(_)))
+            .fold(0, |set, cart| set | cart.alone());
+        (free != 0).then(|| Event::Retire { cart: CartNo(self.random.bit_of(free)) })
+    }
+
     /// A cart that is at a station and leaves it.
     fn move_cart(&mut self) -> Option<Event<'static>> {
         let (entered, stations) = (self.floor.entered(), self.floor.stations() as usize);
@@ -335,6 +363,14 @@ impl Generator {
         if self.wishes.long > 0 && self.random.once_in(8) {
             return self.any_long(text);
         }
+        if self.wishes.retire > 0 && self.random.once_in(8) {
+            let carts = (self.floor.carts() as usize + 1).min(64);
+            return Event::Retire { cart: CartNo(self.random.below(carts) as u8) };
+        }
+        self.bad_of_kinds_to_6(text)
+    }
+
+    fn bad_of_kinds_to_6<'t>(&mut self, text: &'t mut [u8; LONG]) -> Event<'t> {
         let (stations, carts) = (self.floor.stations(), self.floor.carts());
         let (station, entered) = (self.station(), self.floor.entered());
         let some = match entered {
@@ -373,7 +409,7 @@ impl Generator {
         }
     }
 
-    /// A long text from any station, to carts that have entered or any others, whether the store has
+    /// A long text from any station, to carts that are entered or any others, whether the store has
     /// room or not.
     fn any_long<'t>(&mut self, text: &'t mut [u8; LONG]) -> Event<'t> {
         let set = match self.random.below(4) {

@@ -14,15 +14,15 @@ use plain::Limits;
 
 const USAGE: &str = "\
 frames gen SEED COUNT [--kit] [--stations N] [--carts N] [--held H] [--lines L] [--bad PERCENT]
-        [--groups PERCENT] [--long PERCENT]
+        [--groups PERCENT] [--long PERCENT] [--retire PERCENT]
     writes a random stream of COUNT frames that keeps a floor busy; --kit: one of the
     demonstration kit; --groups: so many of its sends have to do with groups;
-    --long: so many have a long text
+    --long: so many have a long text; --retire: carts retire and come back
 frames script [FILE] < TEXT > FRAMES
     writes the frames of a script, one event on a line: start STATIONS CARTS,
     enter STATION CART, send STATION CARTS TEXT, wire FROM TO, radio STATION CART,
     move CART TO, steady CART FLAG, group GROUP CARTS, gsend STATION GROUP TEXT,
-    long STATION CARTS TEXT,
+    long STATION CARTS TEXT, retire CART,
     octets HEXADECIMAL; CARTS as 0,3 or -, TEXT in hexadecimal or -, FLAG 1 or 0
 frames show [FILE] < FRAMES > TEXT
     writes the script of a stream
@@ -152,6 +152,7 @@ fn wishes_of(words: &[&str]) -> Result<Wishes, String> {
             ["--carts", n] => wishes.carts = number("--carts", n, 1, most(carts))? as u8,
             ["--held", n] => wishes.held = number("--held", n, 1, most(held))? as usize,
             ["--lines", n] => wishes.lines = number("--lines", n, 1, 3136)? as usize,
+            ["--retire", n] => wishes.retire = number("--retire", n, 0, 100)? as usize,
             ["--long", n] => wishes.long = number("--long", n, 0, 100)? as usize,
             ["--groups", n] => wishes.groups = number("--groups", n, 0, 100)? as usize,
             ["--bad", n] => wishes.bad = number("--bad", n, 0, 100)? as usize,

@@ -25,7 +25,8 @@ pub struct Receipt {
 #[derive(Clone, Debug, PartialEq, Eq)]
 pub struct Received {
     pub stations: u8,
-    /// For each cart of the floor its receipts, the earliest first.
+    /// For each cart of the floor its receipts, the earliest first. "The sent and received lists of
+    /// a cart begin at its latest entry."
     pub carts: Vec<Vec<Receipt>>,
     /// Messages that are held at the end.
     pub held: usize,
@@ -52,12 +53,14 @@ pub fn received(octets: &[u8], limits: Limits) -> Result<Received, BadFrame> {
 }
 
 fn note(moment: &Moment, carts: &mut [Vec<Receipt>]) {
-    if let (Event::Radio { cart, .. }, Ok(step)) = (&moment.event, &moment.answer) {
-        carts[cart.0 as usize].push(Receipt {
+    match (&moment.event, &moment.answer) {
+        (Event::Enter { cart, .. }, Ok(_)) => carts[cart.0 as usize].clear(),
+        (Event::Radio { cart, .. }, Ok(step)) => carts[cart.0 as usize].push(Receipt {
             initiator: StationNo(step.a as u8),
             number: step.b,
             text: moment.text.clone(),
-        });
+        }),
+        _ => (),
     }
 }
 

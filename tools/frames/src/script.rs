@@ -12,6 +12,7 @@
 //! group 3 0,1        group, carts (- undefines it)
 //! gsend 1 3 A1B2     station, group, text: a send to the members of the group
 //! long 1 0,3 A1B2..  station, carts, text of 33 to 512 octets
+//! retire 0           cart
 //! octets F0FF        octets as they stand, for what is no frame
 //! ```
 //!
@@ -77,6 +78,7 @@ fn one_line(words: &[&str], out: &mut Vec<u8>) -> Result<(), String> {
             text = long_text_of(octets)?;
             Event::LongSend { station: station(at)?, set: set(carts)?, text: &text }
         }
+        ["retire", which] => Event::Retire { cart: cart(which)? },
         ["octets", octets] => {
             out.extend(hexadecimal(octets)?);
             return Ok(());
@@ -99,6 +101,7 @@ fn wanted(word: &str) -> String {
         "move" => "move CART TO",
         "steady" => "steady CART FLAG",
         "long" => "long STATION CARTS TEXT",
+        "retire" => "retire CART",
         "octets" => "octets HEXADECIMAL",
         "group" => "group GROUP CARTS",
         "gsend" => "gsend STATION GROUP TEXT",
@@ -209,6 +212,7 @@ pub fn show_event(event: &Event) -> String {
         Event::LongSend { station, set, text } => {
             format!("long {} {} {}", station.0, show_set(set), show_octets(text))
         }
+        Event::Retire { cart } => format!("retire {}", cart.0),
     }
 }
 
@@ -284,6 +288,14 @@ mod tests {
             assert_eq!(mistake(&line), wanted);
         }
         assert_eq!(mistake("long 0 1"), "line 1: wanted: long STATION CARTS TEXT");
+    }
+
+    #[test]
+    fn retirements() {
+        let text = "retire 63\nretire 0\n";
+        assert_eq!(show(&script(text).unwrap()), text);
+        assert_eq!(script(text).unwrap()[..3], [0xA0, 0xFC, 0]);
+        assert_eq!(mistake("retire"), "line 1: wanted: retire CART");
     }
 
     #[test]

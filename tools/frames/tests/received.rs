@@ -65,6 +65,21 @@ fn the_order_between_stations_may_differ() {
     }
 }
 
+/// "The sent and received lists of a cart begin at its latest entry", and not at its retirement.
+#[test]
+fn a_cart_that_returns_begins_anew() {
+    let said = |text: &str| received(&script(text).unwrap(), Limits::FLOOR).unwrap().to_string();
+    let sent = "start 1 1\nenter 0 0\nsend 0 0 A1\nwire 0 0\nradio 0 0\nwire 0 0\nwire 0 0\n";
+    let first = "cart 0, station 0: 0 a1\nheld at the end: 0\n";
+    assert_eq!(said(sent), first);
+    let retired = format!("{sent}retire 0\n");
+    assert_eq!(said(&retired), first);
+    let back = format!("{retired}enter 0 0\n");
+    assert_eq!(said(&back), "cart 0: nothing\nheld at the end: 0\n");
+    let again = format!("{back}enter 0 0\nsend 0 0 A2\nwire 0 0\nradio 0 0\n");
+    assert_eq!(said(&again), "cart 0, station 0: 1 a2\nheld at the end: 1\n");
+}
+
 /// Gives an event to the floor and keeps its frame; whether it is accepted.
 fn keep(floor: &mut Floor, event: Event, octets: &mut Vec<u8>) -> bool {
     put(&event, octets);

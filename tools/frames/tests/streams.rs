@@ -93,7 +93,7 @@ fn show_then_script_is_the_identity_on_damaged_streams() {
 }
 
 /// The last refusal that an event can have.
-const LAST_REFUSAL: usize = 27;
+const LAST_REFUSAL: usize = 29;
 
 /// Gives a stream to a floor; answers the accepted and the refused events, the latter by number,
 /// and the most messages held in the last tenth.
@@ -181,11 +181,36 @@ fn streams_with_long_texts() {
 }
 
 #[test]
+fn streams_with_retirements() {
+    for (stations, carts) in [(16, 64), (2, 3), (1, 1)] {
+        let wishes =
+            Wishes { stations, carts, held: 3, groups: 20, retire: 5, bad: 0, ..Wishes::default() };
+        let (octets, _) = stream(15, 20_000, wishes);
+        assert_eq!(give_all(&octets, 20_000).0, 20_000);
+        let shown = show(&octets);
+        let count = |word| shown.lines().filter(|line| line.starts_with(word)).count();
+        let (retired, entered) = (count("retire "), count("enter "));
+        assert!(retired > 10 && entered >= retired, "{retired} retired, {entered} entered");
+        let (octets, _) = stream(15, 20_000, Wishes { bad: 10, ..wishes });
+        let refused = give_all(&octets, 20_000).1;
+        assert!(refused[29] > 0, "{stations} stations, {carts} carts: no 29");
+    }
+}
+
+#[test]
 fn the_head_of_the_plain_list_is_what_is_handed_over() {
     for (seed, (stations, carts)) in [(16, 64), (3, 5), (1, 2)].iter().enumerate() {
         let (stations, carts) = (*stations, *carts);
-        let wishes =
-            Wishes { stations, carts, held: 20, groups: 30, long: 30, bad: 5, ..Wishes::default() };
+        let wishes = Wishes {
+            stations,
+            carts,
+            held: 20,
+            groups: 30,
+            long: 30,
+            retire: 5,
+            bad: 5,
+            ..Wishes::default()
+        };
         let (octets, counts) = stream(seed as u64, 50_000, wishes);
         let (mut both, mut reader, mut handed) = (Both::new(), Reader::new(&octets), 0);
         while let Taken::Event(event) = reader.take() {

@@ -341,6 +341,7 @@ fn nothing_before_a_start() {
     assert_eq!(refusal(f.send_long(s(99), 0, &[0; 513])), 4);
     assert_eq!(refusal(f.send_long(s(99), 0, &[0; 33])), 5);
     assert_eq!(f.read_refusal(s(99), MessageNo(0)), 5);
+    assert_eq!(refusal(f.retire(c(99))), 5);
 }
 
 #[test]
@@ -609,6 +610,63 @@ fn texts_are_read_by_initiator_and_number() {
 }
 
 #[test]
+fn a_cart_retires_and_enters_again() {
+    let mut f = floor(1, 2);
+    f.enter(s(0), c(0)).unwrap();
+    f.enter(s(0), c(1)).unwrap();
+    f.send(s(0), 0b10, ONE).unwrap();
+    assert_eq!(answer(f.wire(s(0), s(0))), (1, 0, 1, 0));
+    f.set_steady(c(0), false).unwrap();
+    f.set_group(GroupNo(0), 0b11).unwrap();
+    f.set_group(GroupNo(1), 0b01).unwrap();
+    assert_eq!(answer(f.retire(c(0))), (0, 0, 0, 0));
+    // It is outside: in no group, not local, and without next numbers. Its flag, which nobody asks for while it is outside, stays until it enters.
+    assert_eq!((f.group(GroupNo(0)), f.group(GroupNo(1))), (0b10, 0));
+    assert_eq!(refusal(f.send_to_group(s(0), GroupNo(1), ONE)), 26);
+    assert_eq!((f.local(s(0)), f.entered(), f.unsteady(), f.unsteady), (0b10, 0b10, 0, 0b01));
+    assert_eq!((f.place(c(0)), f.next(c(0), s(0))), (Place::Outside, 0));
+    for refused in [f.retire(c(0)), f.move_cart(c(0), s(0)), f.set_steady(c(0), true)] {
+        assert_eq!(refusal(refused), 18);
+    }
+    assert_eq!(refusal(f.send(s(0), 0b01, ONE)), 12);
+    assert_eq!(refusal(f.set_group(GroupNo(2), 0b01)), 12);
+    assert_eq!(refusal(f.hand(0, 0)), 16);
+    // It passes over everything again, and is steady and in no group.
+    assert_eq!(answer(f.enter(s(0), c(0))), (0, 0, 1, 0));
+    assert_eq!(f.unsteady, 0);
+    assert_eq!(refusal(f.enter(s(0), c(0))), 10);
+    assert_eq!(refusal(f.hand(0, 0)), 17);
+    assert_eq!((f.group(GroupNo(0)), f.group(GroupNo(1))), (0b10, 0));
+}
+
+#[test]
+fn the_checks_of_a_retirement() {
+    let mut f = floor(2, 2);
+    assert_eq!(refusal(f.retire(c(2))), 9);
+    assert_eq!(refusal(f.retire(c(0))), 18);
+    f.enter(s(0), c(0)).unwrap();
+    f.enter(s(1), c(1)).unwrap();
+    f.send(s(0), 0b01, ONE).unwrap();
+    assert_eq!(refusal(f.retire(c(0))), 29);
+    f.move_cart(c(0), s(1)).unwrap();
+    assert_eq!(refusal(f.retire(c(0))), 19);
+    f.wire(s(0), s(0)).unwrap();
+    f.wire(s(1), s(0)).unwrap();
+    assert_eq!(refusal(f.retire(c(0))), 19);
+    f.wire(s(0), s(1)).unwrap();
+    f.wire(s(0), s(1)).unwrap();
+    f.hand(1, 0).unwrap();
+    // By the set as sent, until the last station has handled its delete.
+    for (from, to) in [(1, 0), (0, 0), (0, 1)] {
+        assert_eq!(refusal(f.retire(c(0))), 29);
+        f.wire(s(from), s(to)).unwrap();
+    }
+    assert_eq!(answer(f.retire(c(0))), (0, 0, 0, 0));
+    assert_eq!(answer(f.retire(c(1))), (1, 0, 0, 0));
+    assert_eq!(f.entered(), 0);
+}
+
+#[test]
 fn an_unsteady_cart_at_the_head_holds_back_the_entries_behind_it() {
     let mut f = floor(2, 3);
     for cart in 0..3 {
@@ -773,6 +831,8 @@ mod as_worded {
         held: Vec<(Message, Vec<u8>, Vec<u8>, usize)>,
         lines: Vec<Vec<Travelling>>,
         pub sum: u64,
+        /// The next numbers that retired carts took with them.
+        pub retired: u64,
     }
 
     impl Worded {
@@ -787,6 +847,7 @@ mod as_worded {
                 held: Vec::new(),
                 lines: vec![Vec::new(); 256],
                 sum: 0,
+                retired: 0,
             }
         }
 
@@ -1057,6 +1118,27 @@ mod as_worded {
             Ok([cart as u32, steady as u32, 0, 0, 0])
         }
 
+        pub fn retire(&mut self, cart: u8) -> Result<[u32; 5], u8> {
+            self.cart(cart)?;
+            let station = match self.places[cart as usize] {
+                (0, _) => return Err(18),
+                (2 | 3, _) => return Err(19),
+                (_, station) => station,
+            };
+            if self.held.iter().any(|(_, set, _, _)| set.contains(&cart)) {
+                return Err(29);
+            }
+            self.places[cart as usize] = (0, 0);
+            self.steady[cart as usize] = true;
+            let row = self.rows[cart as usize].take().unwrap();
+            self.retired += row.iter().map(|next| *next as u64).sum::<u64>();
+            self.posts[station as usize].local.retain(|c| *c != cart);
+            for group in &mut self.groups {
+                *group = group.map(|set| set & !(1 << cart)).filter(|set| *set != 0);
+            }
+            Ok([cart as u32, 0, 0, 0, 0])
+        }
+
         pub fn move_cart(&mut self, cart: u8, to: u8) -> Result<[u32; 5], u8> {
             self.station(to)?;
             self.cart(cart)?;
@@ -1093,7 +1175,7 @@ fn the_same_as_the_worded_steps() {
                 let station = below(stations as u64 + beyond) as u8;
                 let other = below(stations as u64 + beyond) as u8;
                 let cart = below(carts as u64 + beyond) as u8;
-                let (ours, theirs) = match below(24) {
+                let (ours, theirs) = match below(25) {
                     0 => (floor.enter(s(station), c(cart)), worded.enter(station, cart)),
                     1 | 2 => {
                         let mut half = || below(1 << 32);
@@ -1133,6 +1215,7 @@ fn the_same_as_the_worded_steps() {
                         let ours = floor.send_long(s(station), set, &text);
                         (ours, worded.send_long(station, set, &text))
                     }
+                    14 => (floor.retire(c(cart)), worded.retire(cart)),
                     _ => (floor.wire(s(station), s(other)), worded.wire(station, other)),
                 };
                 let ours = ours.map_err(Refusal::number);
@@ -1142,9 +1225,10 @@ fn the_same_as_the_worded_steps() {
                     worded.sum += p as u64;
                 }
             }
-            // The sum rule: next numbers are receipts and numbers passed over.
+            // The sum rule: next numbers, with those of retired carts, are receipts and numbers
+            // passed over.
             let next = floor.cart.iter().flat_map(|cart| cart.next).map(u64::from);
-            assert_eq!(next.sum::<u64>(), worded.sum);
+            assert_eq!(next.sum::<u64>() + worded.retired, worded.sum);
         }
     }
 }
