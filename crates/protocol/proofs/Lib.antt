@@ -56,4 +56,5 @@ pub mod BlurLaws
 pub mod BlurRun
 pub mod BlurPrint
 pub mod ReadLaws
+pub mod StoreRoom
 pub mod Theorems

@@ -72,6 +72,7 @@ use Rattle.protocol.proofs.Route.{listed}
 use Rattle.protocol.proofs.BlurRun.{answers-blurred, floor-blurred}
 use Rattle.protocol.proofs.BlurPrint.{blur-keeps-length, frames-enough, lines-blurred, lines-by-frames, linesOf}
 use Rattle.protocol.proofs.ReadLaws.{read-nothing, step-reads, step-send-reads, unheld-is-28}
+use Rattle.protocol.proofs.StoreRoom.{never-27}
 use Rattle.protocol.proofs.LinesSteps.{started-lines}
 use Rattle.protocol.proofs.ListsRun.{rule-after, sent-is}
 use Rattle.protocol.proofs.RetireStep.{enter-keeps-groups}
@@ -825,6 +826,14 @@ pub store-full-is-27 : (M : Limits) (F : Floor) (s set : ℕ) (text : List ℕ) 
     → refusal M F (sendLong s set text) ≡ cond (ltb (M .store) (storeUsed M (F .waiting) (F .text) + length text)) 27 0
 unfolding refusal
 store-full-is-27 M F s set text h a4 a8 a9 a11 a12 a13 a14 = rw h (full-is-27 M F s set text a4 a8 a9 a11 a12 a13 a14)
+
+-- a store with room for as many texts as may be held, each as long as a text may be, is never full: no event is 27, on any floor
+pub roomy-store-no-27 : (M : Limits) → M .held * mostText M ≤ M .store → (F : Floor) (e : Event) → refusal M F e ≡ 27 → ⊥
+roomy-store-no-27 M roomy F e = never-27 M roomy F e
+
+-- so it is for the kit: "8 × 512 = 4,096", and with eight held a send is 14 first
+pub kit-never-27 : (F : Floor) (e : Event) → refusal (limitsOf kit) F e ≡ 27 → ⊥
+kit-never-27 F e = roomy-store-no-27 (limitsOf kit) (omega arith) F e
 
 -- "one store of 4,096 octets" holds the long texts, on every floor that passes
 pub texts-in-store : (M : Limits) (F : Floor) → BlankBeyond M F → passesForm M F ≡ true → storeUsed M (F .waiting) (F .text) ≤ M .store
