@@ -17,16 +17,16 @@ use Rattle.frame_lines.specs.Lines.{lineRoom}
 use Rattle.frame_lines.proofs.Octets.{written-none}
 use Rattle.frame_run.specs.declared.Progress.{Progress}
 use Rattle.frame_run.specs.Piece.{runFrom}
-use Rattle.frame_run.specs.Went.{InRun, NoneWhole, EndsRun, Went, Turned}
+use Rattle.frame_run.specs.Went.{InRun, NoneWhole, EndsRun, WentOn, TurnedOn}
 
 -- the first progress
 abbrev pub none-yet : Progress
 none-yet = record { read = 0; written = 0; frames = 0; state = 0 }
 
 -- before each frame
-pub record Going (input : List ℕ) (index : ℕ) (last : Bool) (L₀ L : Lent) (out₀ out : List ℕ) (p : Progress) : Type 0 where
+pub record Going (Kept : Lent → Type 0) (input : List ℕ) (index : ℕ) (last : Bool) (L₀ L : Lent) (out₀ out : List ℕ) (p : Progress) : Type 0 where
   pub product : L .product ≡ L₀ .product
-  pub ready : Ready L
+  pub ready : Kept L
   pub run : InRun (runFrom (L₀ .product) (p .frames) (floorIn L₀) index input) L out₀ out p
   pub inside : p .read ≤ length input
   pub within : p .written ≤ length out
@@ -41,8 +41,8 @@ pub record Going (input : List ℕ) (index : ℕ) (last : Bool) (L₀ L : Lent) 
 abbrev pub left : List ℕ → Progress → ℕ
 left input p = length input - p .read + cond (eqb (p .state) 0) 1 0
 
-module _ (input : List ℕ) (index : ℕ) (last : Bool) (L₀ : Lent) (out₀ : List ℕ) where
-  pub going-first : Ready L₀ → Going input index last L₀ L₀ out₀ out₀ none-yet
+module _ (Kept : Lent → Type 0) (input : List ℕ) (index : ℕ) (last : Bool) (L₀ : Lent) (out₀ : List ℕ) where
+  pub going-first : Kept L₀ → Going Kept input index last L₀ L₀ out₀ out₀ none-yet
   unfolding runFrom
   going-first R =
       record {
@@ -59,8 +59,8 @@ module _ (input : List ℕ) (index : ℕ) (last : Bool) (L₀ : Lent) (out₀ : 
         ends = λ z. absurd (omega arith);
       }
 
-  module _ (L : Lent) (out : List ℕ) (p : Progress) (g : Going input index last L₀ L out₀ out p) where
-    pub going-next : (L′ : Lent) (out′ : List ℕ) (r : Progress) → Turned input (index + p .frames) last L L′ out out′ p r → Going input index last L₀ L′ out₀ out′ r
+  module _ (L : Lent) (out : List ℕ) (p : Progress) (g : Going Kept input index last L₀ L out₀ out p) where
+    pub going-next : (L′ : Lent) (out′ : List ℕ) (r : Progress) → TurnedOn Kept input (index + p .frames) last L L′ out out′ p r → Going Kept input index last L₀ L′ out₀ out′ r
     going-next L′ out′ r t =
         record {
           product = t .product ∙ g .product;
@@ -77,7 +77,7 @@ module _ (input : List ℕ) (index : ℕ) (last : Bool) (L₀ : Lent) (out₀ : 
           ends = t .ends;
         }
 
-    pub going-less : (L′ : Lent) (out′ : List ℕ) (r : Progress) → p .state ≡ 0 → Turned input (index + p .frames) last L L′ out out′ p r → left input r < left input p
+    pub going-less : (L′ : Lent) (out′ : List ℕ) (r : Progress) → p .state ≡ 0 → TurnedOn Kept input (index + p .frames) last L L′ out out′ p r → left input r < left input p
     going-less L′ out′ r e t =
         let a = g .inside in
         let b = t .inside in
@@ -93,7 +93,7 @@ module _ (input : List ℕ) (index : ℕ) (last : Bool) (L₀ : Lent) (out₀ : 
           let both : (eqb (p .state) 0 && leb (p .written + lineRoom) (length out)) ≡ true = sym test ∙ t in
           (eqb-true (p .state) 0 (and-left (eqb (p .state) 0) (leb (p .written + lineRoom) (length out)) both), leb-true (p .written + lineRoom) (length out) (and-right (eqb (p .state) 0) (leb (p .written + lineRoom) (length out)) both))
 
-      pub stops : b ≡ false → Went input index last L₀ L out₀ out p
+      pub stops : b ≡ false → WentOn Kept input index last L₀ L out₀ out p
       stops t =
           record {
             product = g .product;

@@ -34,7 +34,7 @@ use Rattle.frames.proofs.Values.{same-number}
 use Rattle.frames.proofs.Reading.{the-type as reading-type}
 use Rattle.frame_run.specs.declared.Progress.{Progress}
 use Rattle.frame_run.specs.Piece.{Ran, runFrom}
-use Rattle.frame_run.specs.Went.{InRun, NoneWhole, EndsRun, Took, Turned}
+use Rattle.frame_run.specs.Went.{InRun, NoneWhole, EndsRun, Took, TookOn, TurnedOn}
 use Rattle.frame_run.proofs.Pieces.{more, onward, one-more}
 
 -- the event that happened and the line that was printed
@@ -146,14 +146,14 @@ module _ (P : Product) (input : List ℕ) (first index : ℕ) (F : Floor) (L : L
       ∙ ap (λ (x : Reading). more P R index x) q
 
 -- THE THREE WAYS of a frame
-module _ (input : List ℕ) (index : ℕ) (last : Bool) (L : Lent) (out : List ℕ) (p : Progress) (ready : Ready L) (going : p .state ≡ 0) (inside : p .read ≤ length input)
+module _ (Kept : Lent → Type 0) (input : List ℕ) (index : ℕ) (last : Bool) (L : Lent) (out : List ℕ) (p : Progress) (ready : Kept L) (going : p .state ≡ 0) (inside : p .read ≤ length input)
     (room : p .written + lineRoom ≤ length out) (few : p .frames ≤ p .read) where
   -- none is whole
   pub turned-waits : (r : Progress) → r ≡ record { read = p .read; written = p .written; frames = p .frames; state = 1 } → NoneWhole last (readAt limits input (p .read))
-      → Turned input index last L L out out p r
-  turned-waits r e none = subst (λ (x : Progress). Turned input index last L L out out p x) (sym e) stands
+      → TurnedOn Kept input index last L L out out p r
+  turned-waits r e none = subst (λ (x : Progress). TurnedOn Kept input index last L L out out p x) (sym e) stands
     where
-      stands : Turned input index last L L out out p (record { read = p .read; written = p .written; frames = p .frames; state = 1 })
+      stands : TurnedOn Kept input index last L L out out p (record { read = p .read; written = p .written; frames = p .frames; state = 1 })
       stands =
           record {
             product = refl;
@@ -174,7 +174,7 @@ module _ (input : List ℕ) (index : ℕ) (last : Bool) (L : Lent) (out : List �
   -- one is refused, and ends the run
   pub turned-refused : (out′ : List ℕ) (r : Progress) (number : ℕ) → readAt limits input (p .read) ≡ refusedFrame number
       → Wrote longestRefusal (lineOf index (refused number)) out out′ (p .written) (r .written) → (r .read ≡ p .read) × (r .frames ≡ p .frames + 1) × (r .state ≡ 2)
-      → (number ≡ 1 → last ≡ true) → Turned input index last L L out out′ p r
+      → (number ≡ 1 → last ≡ true) → TurnedOn Kept input index last L L out out′ p r
   turned-refused out′ r number q wrote is cut-last =
       record {
         product = refl;
@@ -197,7 +197,7 @@ module _ (input : List ℕ) (index : ℕ) (last : Bool) (L : Lent) (out : List �
 
   -- one is an event
   pub turned-taken : (L′ : Lent) (out′ : List ℕ) (r : Progress) (e : events.Event) (size : ℕ) → readAt limits input (p .read) ≡ taken e size
-      → 16 ≤ size → p .read + size ≤ length input → Took index L L′ out out′ p r e size → Turned input index last L L′ out out′ p r
+      → 16 ≤ size → p .read + size ≤ length input → TookOn Kept index L L′ out out′ p r e size → TurnedOn Kept input index last L L′ out out′ p r
   turned-taken L′ out′ r e size q least there t =
       record {
         product = t .product;

@@ -351,7 +351,7 @@ fn take_event(
 }
 
 // The line of a frame that is refused, which ends the run.
-fn refuse(output: &mut [u8], index: u64, p: Progress, number: u64) -> Progress
+pub fn refuse(output: &mut [u8], index: u64, p: Progress, number: u64) -> Progress
     requires { ⌜ (p .written + lineRoom ≤ length (now output)) × (p .frames + 1 < 18446744073709551616) ⌝ }
     ensures { λ r. ⌜ Wrote longestRefusal (lineOf index (refused number)) (now (output .entry)) (now (output .exit)) (p .written) (r .written) ⌝ }
     ensures { λ r. ⌜ (r .read ≡ p .read) × (r .frames ≡ p .frames + 1) × (r .state ≡ 2) ⌝ }
@@ -413,7 +413,7 @@ fn take_frame(
 }
 
 // Nothing stopped the run yet, and the output has room for another line.
-fn goes_on(output: &[u8], p: Progress) -> bool
+pub fn goes_on(output: &[u8], p: Progress) -> bool
     requires { ⌜ p .written ≤ length (now output) ⌝ }
     ensures { λ r. ⌜ r ≡ (eqb (p .state) 0 && leb (p .written + lineRoom) (length (now (output .entry)))) ⌝ }
 {

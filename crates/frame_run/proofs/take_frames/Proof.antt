@@ -3,6 +3,7 @@ use mathlib.Core.Path.{refl}
 use native.Mathlib.Omega.{arith}
 use denote.Ref.{now}
 use Rattle.view.specs.View.{lent}
+use Rattle.event_answers.specs.Met.{Ready}
 use Rattle.frame_run.specs.CanRun.{ByEach}
 use Rattle.frame_run.proofs.Loop.{Going, left, going-first, going-next, going-less, goes, stops, same-stations, same-carts, same-messages, same-lines, same-texts, same-store}
 use Rattle.frame_run.proofs.take_frames.Statement.{statement}
@@ -10,7 +11,7 @@ use Rattle.frame_run.proofs.take_frames.Tie as tie
 
 abbrev Inv-loop : tie.InvT-loop
 Inv-loop input output₀ stations₀ carts₀ messages₀ lines₀ texts₀ store₀ bounds numbers index last p₀ output stations carts messages lines texts store p =
-    ByEach bounds (λ P. lent P stations₀ carts₀ messages₀ lines₀ texts₀ store₀) (λ P. lent P stations carts messages lines texts store) (λ L₀ L. Going input index last L₀ L output₀ output p)
+    ByEach bounds (λ P. lent P stations₀ carts₀ messages₀ lines₀ texts₀ store₀) (λ P. lent P stations carts messages lines texts store) (λ L₀ L. Going Ready input index last L₀ L output₀ output p)
 
 abbrev μ-loop : tie.MeasureT-loop
 μ-loop input output₀ stations₀ carts₀ messages₀ lines₀ texts₀ store₀ bounds numbers index last p₀ output stations carts messages lines texts store p =
@@ -20,7 +21,7 @@ loop-holds : tie.Need-loop-holds Inv-loop μ-loop
 loop-holds c =
     let s = c .before .before .before .before .before .before .before .before .before in
     let a = s .args in
-    λ P n R. going-first (now (a .input)) (a .index) (a .last) (lent P (now (a .stations)) (now (a .carts)) (now (a .messages)) (now (a .lines)) (now (a .texts)) (now (a .store))) (now (a .output)) R
+    λ P n R. going-first Ready (now (a .input)) (a .index) (a .last) (lent P (now (a .stations)) (now (a .carts)) (now (a .messages)) (now (a .lines)) (now (a .texts)) (now (a .store))) (now (a .output)) R
 
 goes-on-requires : tie.Need-goes-on-requires Inv-loop μ-loop
 goes-on-requires c κs =
@@ -36,7 +37,7 @@ add-take-frame c =
     let a = s .args in
     let w = s .pre .0 .0 .1 in
     let g = l .loop .inv (w .0) (w .1) (w .2) in
-    let t = goes (now (a .input)) (a .index) (a .last) (lent (w .0) (now (a .stations)) (now (a .carts)) (now (a .messages)) (now (a .lines)) (now (a .texts)) (now (a .store))) (now (a .output)) _ _ _ g _ (e .before .goes-on .ensures) (e .if1 .taken) in
+    let t = goes Ready (now (a .input)) (a .index) (a .last) (lent (w .0) (now (a .stations)) (now (a .carts)) (now (a .messages)) (now (a .lines)) (now (a .texts)) (now (a .store))) (now (a .output)) _ _ _ g _ (e .before .goes-on .ensures) (e .if1 .taken) in
     omega (arith, g .few (t .0), g .inside, s .pre .1)
 
 take-frame-requires : tie.Need-take-frame-requires Inv-loop μ-loop
@@ -47,7 +48,7 @@ take-frame-requires c κs =
     let a = s .args in
     let w = s .pre .0 .0 .1 in
     let g = l .loop .inv (w .0) (w .1) (w .2) in
-    let t = goes (now (a .input)) (a .index) (a .last) (lent (w .0) (now (a .stations)) (now (a .carts)) (now (a .messages)) (now (a .lines)) (now (a .texts)) (now (a .store))) (now (a .output)) _ _ _ g _ (e .before .goes-on .ensures) (e .if1 .taken) in
+    let t = goes Ready (now (a .input)) (a .index) (a .last) (lent (w .0) (now (a .stations)) (now (a .carts)) (now (a .messages)) (now (a .lines)) (now (a .texts)) (now (a .store))) (now (a .output)) _ _ _ g _ (e .before .goes-on .ensures) (e .if1 .taken) in
     ((s .pre .0 .0 .0, (w .0, w .1, g .ready)), ((t .0, g .inside, t .1), (g .few (t .0), omega (arith, s .pre .1), s .pre .0 .1)))
 
 loop-less : tie.Need-loop-less Inv-loop μ-loop
@@ -59,15 +60,15 @@ loop-less c =
     let a = s .args in
     let w = s .pre .0 .0 .1 in
     let g = l .loop .inv (w .0) (w .1) (w .2) in
-    let t = goes (now (a .input)) (a .index) (a .last) (lent (w .0) (now (a .stations)) (now (a .carts)) (now (a .messages)) (now (a .lines)) (now (a .texts)) (now (a .store))) (now (a .output)) _ _ _ g _ (e .before .goes-on .ensures) (e .if1 .taken) in
-    going-less (now (a .input)) (a .index) (a .last) (lent (w .0) (now (a .stations)) (now (a .carts)) (now (a .messages)) (now (a .lines)) (now (a .texts)) (now (a .store))) (now (a .output)) _ _ _ g _ _ _ (t .0) (f .take-frame .ensures (w .0) (w .1) (g .ready))
+    let t = goes Ready (now (a .input)) (a .index) (a .last) (lent (w .0) (now (a .stations)) (now (a .carts)) (now (a .messages)) (now (a .lines)) (now (a .texts)) (now (a .store))) (now (a .output)) _ _ _ g _ (e .before .goes-on .ensures) (e .if1 .taken) in
+    going-less Ready (now (a .input)) (a .index) (a .last) (lent (w .0) (now (a .stations)) (now (a .carts)) (now (a .messages)) (now (a .lines)) (now (a .texts)) (now (a .store))) (now (a .output)) _ _ _ g _ _ _ (t .0) (f .take-frame .ensures (w .0) (w .1) (g .ready))
 
 loop-again : tie.Need-loop-again Inv-loop μ-loop
 loop-again c =
     let f = c .before .before .before .before .before .before .before .before .before .before .before .before .before .before in
     let l = f .before .before .before .before .before .before .before .before .before .before .before .before in
     let a = l .before .before .before .before .before .before .before .before .before .before .args in
-    λ P n R. going-next (now (a .input)) (a .index) (a .last) (lent P (now (a .stations)) (now (a .carts)) (now (a .messages)) (now (a .lines)) (now (a .texts)) (now (a .store))) (now (a .output)) _ _ _ (l .loop .inv P n R) _ _ _ (f .take-frame .ensures P n (l .loop .inv P n R .ready))
+    λ P n R. going-next Ready (now (a .input)) (a .index) (a .last) (lent P (now (a .stations)) (now (a .carts)) (now (a .messages)) (now (a .lines)) (now (a .texts)) (now (a .store))) (now (a .output)) _ _ _ (l .loop .inv P n R) _ _ _ (f .take-frame .ensures P n (l .loop .inv P n R .ready))
 
 same-length : tie.Need-same-length Inv-loop μ-loop
 same-length c =
@@ -127,7 +128,7 @@ returns : tie.Need-returns Inv-loop μ-loop
 returns c =
     let l = c .before .before .before in
     let a = l .before .before .before .before .before .before .before .before .before .before .args in
-    λ P n R. stops (now (a .input)) (a .index) (a .last) (lent P (now (a .stations)) (now (a .carts)) (now (a .messages)) (now (a .lines)) (now (a .texts)) (now (a .store))) (now (a .output)) _ _ _ (l .loop .inv P n R) _ (c .before .goes-on .ensures) (c .if1 .left)
+    λ P n R. stops Ready (now (a .input)) (a .index) (a .last) (lent P (now (a .stations)) (now (a .carts)) (now (a .messages)) (now (a .lines)) (now (a .texts)) (now (a .store))) (now (a .output)) _ _ _ (l .loop .inv P n R) _ (c .before .goes-on .ensures) (c .if1 .left)
 
 pub take-frames-spec : {M : Type 1} → statement M
 take-frames-spec =
