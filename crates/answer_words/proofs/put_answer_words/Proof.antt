@@ -1,11 +1,11 @@
--- `exported_events::put_answer_words` meets its contract.
+-- `answer_words::put_answer_words` meets its contract.
 use mathlib.Core.Path.{ap, _∙_}
 use denote.Ref.{now}
 use Rattle.event_answers.specs.declared.Told.{Told}
-use Rattle.exported_events.specs.Words.{wordsOf}
+use Rattle.answer_words.specs.Words.{wordsOf}
 use borrow.Author.Needs.{needs}
-use Rattle.exported_events.proofs.put_answer_words.Statement.{statement}
-use Rattle.exported_events.proofs.put_answer_words.Tie as tie
+use Rattle.answer_words.proofs.put_answer_words.Statement.{statement}
+use Rattle.answer_words.proofs.put_answer_words.Tie as tie
 
 told-of-requires : tie.Need-told-of-requires
 told-of-requires c κs = search needs

@@ -1,10 +1,10 @@
--- `exported_events::put_two` meets its contract.
+-- `answer_words::put_two` meets its contract.
 use mathlib.Core.Path.{refl}
 use native.Mathlib.Omega.{arith}
 use lib.ListN.{length-set}
 use borrow.Author.Needs.{needs}
-use Rattle.exported_events.proofs.put_two.Statement.{statement}
-use Rattle.exported_events.proofs.put_two.Tie as tie
+use Rattle.answer_words.proofs.put_two.Statement.{statement}
+use Rattle.answer_words.proofs.put_two.Tie as tie
 
 slice-write-out : tie.Need-slice-write-out
 slice-write-out c = search needs

@@ -1,10 +1,10 @@
--- `exported_events::put_quiet_words` meets its contract.
+-- `answer_words::put_quiet_words` meets its contract.
 use mathlib.Core.Path.{sym, ap, _∙_}
 use borrow.Author.Needs.{needs}
 use denote.Ref.{now}
-use Rattle.exported_events.specs.Words.{quietWords}
-use Rattle.exported_events.proofs.put_quiet_words.Statement.{statement}
-use Rattle.exported_events.proofs.put_quiet_words.Tie as tie
+use Rattle.answer_words.specs.Words.{quietWords}
+use Rattle.answer_words.proofs.put_quiet_words.Statement.{statement}
+use Rattle.answer_words.proofs.put_quiet_words.Tie as tie
 
 enum-known-quiet : tie.Need-enum-known-quiet
 enum-known-quiet c = search needs

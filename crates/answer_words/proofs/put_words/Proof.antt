@@ -1,11 +1,11 @@
--- `exported_events::put_words` meets its contract.
+-- `answer_words::put_words` meets its contract.
 use mathlib.Core.Path.{refl}
 use native.Mathlib.Omega.{arith}
 use lib.ListN.{length-set}
-use Rattle.exported_events.specs.Words.{answerRow}
+use Rattle.answer_words.specs.Words.{answerRow}
 use borrow.Author.Needs.{needs}
-use Rattle.exported_events.proofs.put_words.Statement.{statement}
-use Rattle.exported_events.proofs.put_words.Tie as tie
+use Rattle.answer_words.proofs.put_words.Statement.{statement}
+use Rattle.answer_words.proofs.put_words.Tie as tie
 
 slice-write-out : tie.Need-slice-write-out
 slice-write-out c = search needs

@@ -1,4 +1,4 @@
--- `exported_events::put_read_words` meets its contract.
+-- `answer_words::put_read_words` meets its contract.
 use mathlib.Core.Path.{_≡_, refl, ap}
 use mathlib.Core.Bool.{Bool, true, false, cond}
 use Prim.Native.Nat.{ℕ}
@@ -7,8 +7,8 @@ use lib.ListN.{set, length-set}
 use mir.Val.{boolByte}
 use borrow.Author.Needs.{needs}
 use denote.Ref.{now}
-use Rattle.exported_events.proofs.put_read_words.Statement.{statement}
-use Rattle.exported_events.proofs.put_read_words.Tie as tie
+use Rattle.answer_words.proofs.put_read_words.Statement.{statement}
+use Rattle.answer_words.proofs.put_read_words.Tie as tie
 
 slice-write-out-2 : tie.Need-slice-write-out-2
 slice-write-out-2 c = simp length-set (omega arith)
