@@ -13,6 +13,8 @@ mod last_numbers;
 mod proved;
 mod reach;
 #[cfg(test)]
+mod statuses;
+#[cfg(test)]
 mod stored;
 mod timing;
 mod trials;

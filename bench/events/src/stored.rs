@@ -24,10 +24,10 @@ fn digits(octets: &[u8]) -> String {
 
 /// The line of a call that reads a text, as plain's tests say it of theirs.
 fn read(w: &mut Words, initiator: u64, number: u64) -> String {
-    let (before, mut out) = (w.clone(), [0; 4]);
+    let (before, mut out) = (w.clone(), [0; WORDS]);
     proved::text(w, initiator, number, &mut out);
     assert!(*w == before, "a reading call changed lent memory");
-    let [refusal, stored, at, octets] = out;
+    let [refusal, stored, at, octets, ..] = out;
     let from = if stored == 1 { &w.store } else { &w.texts };
     let text = digits(&from[at as usize..][..octets as usize]);
     format!("read {initiator} {number} = {refusal} {text}")
@@ -61,7 +61,7 @@ fn check(path: &Path, mut w: Words) {
 }
 
 /// Every stored call on the floor that its run leaves: those of plain's tests, or of the folder that QUIET_RUNS names. A name that begins with `kit.`
-/// is of the kit, which has no C names.
+/// is of the kit, whose parts plain does not make.
 #[test]
 fn the_stored_calls() {
     let data = Path::new(env!("CARGO_MANIFEST_DIR")).join(CALLS);

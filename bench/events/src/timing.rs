@@ -9,6 +9,7 @@ use plain::floor::LONG;
 use plain::words::Words;
 use plain::{Floor, StationNo};
 use shared::numbers::Numbers;
+use shared::progress::Progress;
 use std::hint::black_box;
 use std::time::Instant;
 
@@ -269,7 +270,9 @@ fn in_turns(base: &Floor, batches: &[Batch], afresh: bool, steps_alone: bool) ->
     let first = (StepOnly(words.clone()), Whole(words), plain, Behind::new(base.clone()));
     let (mut step, mut whole, mut plain, mut behind) = first.clone();
     let mut least = vec![Least::NONE; batches.len()];
-    for _ in 0..ROUNDS {
+    let mut progress = Progress::new("time");
+    for round in 0..ROUNDS {
+        progress.of(round, ROUNDS, "rounds");
         if afresh {
             (step, whole, plain, behind) = first.clone();
         }
@@ -340,13 +343,16 @@ fn quiet() {
     let base = entered();
     let (mut proved, mut plain) = (StepOnly(base.words(|k| k)), Plain(Box::new(base)));
     let (mut least, mut ratios) = ([f64::MAX; 2], vec![]);
+    let mut progress = Progress::new("quiet");
     for round in 0..ROUNDS as u64 {
+        progress.of(round as usize, ROUNDS, "rounds");
         let mut fill = vec![Event::Send(0, u64::MAX, vec![0x71]); 32];
         fill.extend(moves(round % 2));
         let (ours, theirs) = (until_quiet(&mut proved, &fill), until_quiet(&mut plain, &fill));
         least = [ours.min(least[0]), theirs.min(least[1])];
         ratios.push(theirs / ours);
     }
+    drop(progress);
     assert_eq!(proved.floor().difference(&plain.floor()), None, "the floors differ");
     ratios.sort_by(f64::total_cmp);
     println!(

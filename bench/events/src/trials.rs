@@ -9,6 +9,7 @@ use plain::words::Words;
 use plain::Floor;
 use shared::numbers::Numbers;
 use shared::places::{in_order, scattered};
+use shared::progress::Progress;
 use shared::rule::Fault;
 use std::collections::BTreeMap;
 use std::time::{Duration, Instant};
@@ -107,14 +108,14 @@ fn one(w: &mut Words, event: &Event, lent: &[u8], counts: &mut Counts) -> Result
 /// The reading call on both sides, for some message: its number, and which octets it lends from which part.
 fn read(w: &mut Words, initiator: u64, number: u64, counts: &mut Counts) -> Result<(), String> {
     let before = w.clone();
-    let mut out = [BEHIND; 5];
+    let mut out = [BEHIND; WORDS];
     proved::text(w, initiator, number, &mut out);
-    if *w != before || out[4] != BEHIND {
+    let [refusal, stored, at, octets, behind @ ..] = out;
+    if *w != before || behind != [BEHIND; WORDS - 4] {
         return Err("a reading call changed lent memory".into());
     }
     let (said, text) = event::read(&before, initiator, number);
     *counts.reads.entry(said).or_default() += 1;
-    let [refusal, stored, at, octets, _] = out;
     let (from, row) =
         (if stored == 1 { &w.store } else { &w.texts }, event::row(w, initiator, number));
     let lent = from.get(at as usize..(at + octets) as usize);
@@ -169,20 +170,22 @@ fn report(counts: &Counts, trials: u64) {
     for (kind, name) in KINDS.iter().enumerate() {
         let of = |r: u64| counts.answers.get(&(kind, r)).copied().unwrap_or(0);
         let refusals: Vec<String> =
-            (1..=27).filter(|&r| of(r) > 0).map(|r| format!("{r}: {}", of(r))).collect();
+            (1..=29).filter(|&r| of(r) > 0).map(|r| format!("{r}: {}", of(r))).collect();
         println!("  {name:<13} {:>9}   {}", of(0), refusals.join(", "));
     }
     println!("reading calls by their number: {:?}", counts.reads);
     println!("most steps until a floor was quiet: {}", counts.most_steps);
     let met = |r: u64| counts.answers.keys().any(|&(_, s)| s == r);
-    let missing: Vec<u64> = (4..22).chain(24..28).filter(|&r| !met(r)).collect();
-    println!("refusals 4 to 21 and 24 to 27 that never occurred: {missing:?}");
+    let missing: Vec<u64> = (4..22).chain(24..28).chain([29]).filter(|&r| !met(r)).collect();
+    println!("refusals 4 to 21, 24 to 27 and 29 that never occurred: {missing:?}");
     println!("clauses of the form rule found broken: {:?}", counts.faults);
 }
 
 /// So many seconds of trials from a seed.
 pub fn run(seconds: u64, seed: u64) -> Result<(), String> {
-    let end = Instant::now() + Duration::from_secs(seconds);
+    let begin = Instant::now();
+    let end = begin + Duration::from_secs(seconds);
+    let mut progress = Progress::new("trials");
     let mut counts = Counts::default();
     let mut trials = 0;
     let mut w = Floor::new().words(row(false));
@@ -199,7 +202,10 @@ pub fn run(seconds: u64, seed: u64) -> Result<(), String> {
                 .map_err(|difference| format!("round {round}, trial {k}: {difference}"))?;
             trials += 1;
         }
+        progress
+            .at(|| format!("{} of {seconds} seconds, {trials} trials", begin.elapsed().as_secs()));
     }
+    drop(progress);
     report(&counts, trials);
     Ok(())
 }

@@ -5,11 +5,14 @@ mod plain;
 mod proved;
 
 use shared::numbers::Numbers;
+use shared::progress::Progress;
 use std::hint::black_box;
 use std::time::Instant;
 
 /// The longest text.
-pub const TEXT: usize = 32;
+pub const TEXT: usize = 512;
+/// Octets of the text that is measured: those of a correction, and not of a table.
+const SHORT: usize = 32;
 
 #[derive(Debug, PartialEq)]
 pub enum Answer {
@@ -53,7 +56,9 @@ fn trial(seed: u64, met: &mut [u64; 32]) {
                 _ if few => 1 << numbers.below(k),
                 _ => numbers.next() & numbers.next() & all,
             };
-            let text: Vec<u8> = (0..numbers.below(34)).map(|_| numbers.next() as u8).collect();
+            let longest = if numbers.below(8) == 0 { TEXT } else { SHORT } as u64;
+            let size = numbers.below(longest + 2);
+            let text: Vec<u8> = (0..size).map(|_| numbers.next() as u8).collect();
             [
                 words.send(station, set, &text),
                 rows.send(station, set, &text),
@@ -157,10 +162,12 @@ fn measure(carts: u32) {
     words.start(16, 64);
     rows.start(16, 64);
     tested.start(16, 64);
-    let text: &[u8] = black_box(&[0x5a; TEXT]);
+    let text: &[u8] = black_box(&[0x5a; SHORT]);
     let mut buffer = [0; TEXT];
     let mut least = [f64::MAX; 6];
+    let mut progress = Progress::new("time");
     for round in 0..ROUNDS {
+        progress.of(round, ROUNDS, "rounds");
         let (s, t) = (work.sends.len(), work.takes.len());
         let times = [
             nanoseconds(s, || {
@@ -200,6 +207,7 @@ fn measure(carts: u32) {
             }));
         }
     }
+    drop(progress);
     say("send", carts, least[0], least[1]);
     say("take", carts, least[2], least[3]);
     say("send with its form test", carts, least[4], least[1]);
@@ -208,7 +216,12 @@ fn measure(carts: u32) {
 
 fn main() {
     let mut met = [0; 32];
-    (1..=TRIALS).for_each(|seed| trial(seed * 0x1234_5678_9abc_def1, &mut met));
+    let mut progress = Progress::new("trials");
+    for seed in 1..=TRIALS {
+        progress.of(seed as usize - 1, TRIALS as usize, "trials");
+        trial(seed * 0x1234_5678_9abc_def1, &mut met);
+    }
+    drop(progress);
     let refusals: Vec<String> =
         (1..32).filter(|&r| met[r] > 0).map(|r| format!("{r}: {}", met[r])).collect();
     println!("{} calls accepted alike; refused alike {}", met[0], refusals.join(", "));

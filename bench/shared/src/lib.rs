@@ -1,9 +1,10 @@
 //! What the packages share that measure proved functions beside plain Rust: floors, numbers that look random, places in lent words, the form
-//! rule; and for their build scripts, the link to the proved functions.
+//! rule, how far long work is; and for their build scripts, the link to the proved functions.
 
 pub mod floors;
 pub mod numbers;
 pub mod places;
+pub mod progress;
 pub mod rule;
 
 /// For a build script: links the archive that `rt staticlib NAME` writes.
