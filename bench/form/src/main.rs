@@ -7,6 +7,7 @@ mod proved;
 use plain::words::Words;
 use shared::numbers::Numbers;
 use shared::places::{in_order, scattered};
+use shared::progress::Progress;
 use shared::{floors, rule};
 use std::collections::BTreeMap;
 use std::hint::black_box;
@@ -36,7 +37,9 @@ fn compare_all(bases: &[Words], damaged: usize) -> Result<(), String> {
     let mut numbers = Numbers(0xdada);
     let mut broken = BTreeMap::new();
     let mut passed = 0;
+    let mut progress = Progress::new("form");
     for (b, base) in bases.iter().enumerate() {
+        progress.of(b, bases.len(), "floors");
         if let Some(fault) = compare(base, &format!("floor {b}"))? {
             return Err(format!("floor {b}, which events reach, is refused: {fault:?}"));
         }
@@ -49,6 +52,7 @@ fn compare_all(bases: &[Words], damaged: usize) -> Result<(), String> {
             }
         }
     }
+    drop(progress);
     println!("{} floors that events reach: both pass each", bases.len());
     println!("{} damaged floors: the answers are the same, {passed} pass", bases.len() * damaged);
     println!("clauses that plain Rust found broken: {broken:?}");
@@ -71,10 +75,13 @@ fn measure(name: &str, w: &Words) {
             })
         })
     };
-    for _ in 0..ROUNDS {
+    let mut progress = Progress::new("form");
+    for round in 0..ROUNDS {
+        progress.of(round, ROUNDS, "rounds");
         least.0 = run(proved::passes).min(least.0);
         least.1 = run(rule::passes).min(least.1);
     }
+    drop(progress);
     println!(
         "{name:<36} proved {:7.2} us   plain {:7.2} us   speed proved/plain {:.2}",
         least.0 / 1e3,

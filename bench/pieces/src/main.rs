@@ -13,6 +13,8 @@ use std::fs::File;
 use std::io::Read;
 use std::process::{Command, Stdio};
 
+use shared::progress::Progress;
+
 /// The times of one run's pieces.
 fn run(library: &str, frames: &str, program: &str) -> Result<Vec<u64>, Box<dyn Error>> {
     let mut child = Command::new(program)
@@ -58,13 +60,17 @@ fn main() -> Result<(), Box<dyn Error>> {
     let Some(last) = programs.last() else { return Err("no program".into()) };
     let count = lines(frames, last)? as f64;
     let mut least = vec![Vec::new(); programs.len()];
-    for round in 0..rounds.parse::<usize>()? {
+    let rounds = rounds.parse::<usize>()?;
+    let mut progress = Progress::new("pieces");
+    for round in 0..rounds {
+        progress.of(round, rounds, "rounds");
         for turn in 0..programs.len() {
             // Who goes first changes from round to round.
             let k = if round % 2 == 0 { turn } else { programs.len() - 1 - turn };
             keep_least(&mut least[k], &run(library, frames, &programs[k])?)?;
         }
     }
+    drop(progress);
     let sums: Vec<u64> = least.iter().map(|times| times.iter().sum()).collect();
     let whole = *sums.last().unwrap() as f64;
     for (program, sum) in programs.iter().zip(sums) {

@@ -12,6 +12,7 @@
 //! * [`run`]: frames in, printed run out.
 //! * [`lists`]: plain lists of what carts have not received yet.
 //! * [`training`]: a floor and the lists fed from one input.
+//! * [`view`]: a floor read from outside.
 //! * [`words`]: a floor in the words of the proved controller.
 
 #![forbid(unsafe_code)]
@@ -25,6 +26,7 @@ pub mod run;
 pub mod steps;
 mod store;
 pub mod training;
+pub mod view;
 pub mod words;
 
 pub use floor::{CartNo, Floor, GroupNo, Limits, MessageNo, Place, StationNo};

@@ -7,10 +7,14 @@ use std::process::ExitCode;
 
 use frames::cases::{case, CASES};
 use frames::generate::{Generator, Wishes};
+use frames::page::page;
+use frames::picture::picture;
 use frames::received::received;
 use frames::script::{script, show};
+use frames::tell::tell;
 use frames::walk::BadFrame;
 use plain::Limits;
+use shared::progress::Progress;
 
 const USAGE: &str = "\
 frames gen SEED COUNT [--kit] [--stations N] [--carts N] [--held H] [--lines L] [--bad PERCENT]
@@ -28,8 +32,14 @@ frames show [FILE] < FRAMES > TEXT
     writes the script of a stream
 frames case NAME > FRAMES
     writes a run that has a name; without one, says which there are
+frames tell [--kit] [FILE] < FRAMES
+    says each event and what came of it as a sentence, beside the numbers that floor prints
 frames received [--kit] [FILE] < FRAMES
     says what each cart received of each station, in order
+frames picture [--kit] [FILE] < FRAMES > SVG
+    draws the run: stations as life lines, carts where they are, records as arrows
+frames page [--kit] [FILE] < FRAMES > HTML
+    makes a page of the run for a browser: the picture, and the floor at each step
 What is read is FILE, if one is named, or standard input. --kit: by the limits of the
 demonstration kit.";
 
@@ -53,7 +63,13 @@ fn main() -> ExitCode {
         ["show", ref file @ ..] => {
             Input::read(file).and_then(|input| write_all(show(&input.octets).as_bytes()))
         }
+        ["tell", ref words @ ..] => of_run(words, tell),
         ["received", ref words @ ..] => of_run(words, received),
+        ["picture", ref words @ ..] => of_run(words, picture),
+        ["page", ref words @ ..] => of_run(words, |octets, limits| {
+            let mut progress = Progress::new("page");
+            page(octets, limits, |read| progress.of(read, octets.len(), "octets"))
+        }),
         _ => Err(USAGE.into()),
     };
     match done {
@@ -78,7 +94,7 @@ impl<'a> Input<'a> {
         let file = match *words {
             [] => None,
             [file] if !file.starts_with('-') => Some(file),
-            _ => return Err(USAGE.into()),
+            [.., word] => return Err(format!("{word}: not understood\n{USAGE}")),
         };
         let mut input = Input { octets: Vec::new(), file };
         let read = match file {

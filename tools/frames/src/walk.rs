@@ -2,11 +2,11 @@
 
 use std::fmt;
 
-use plain::floor::LONG;
+use plain::floor::{GROUPS, LONG};
 use plain::frames::{Event, Reader, Taken, FRAME};
-use plain::{Floor, Limits, Refusal, Step};
-
-use crate::generate::give;
+use plain::run::give;
+use plain::view::Carried;
+use plain::{Floor, GroupNo, Limits, Refusal, Step};
 
 /// A frame of a run and what came of it.
 #[derive(Clone, Debug)]
@@ -15,6 +15,10 @@ pub struct Moment<'a> {
     pub index: usize,
     pub event: Event<'a>,
     pub answer: Result<Step, Refusal>,
+    /// The record that a wire step handled; none for all other events.
+    pub record: Option<Carried>,
+    /// The groups of which a cart that retired was the last member; none for all other events.
+    pub emptied: Vec<GroupNo>,
     /// The text that a radio step handed over; empty for all other events.
     pub text: Vec<u8>,
 }
@@ -50,20 +54,33 @@ impl<'a> Walk<'a> {
             Taken::End => return Ok(None),
             Taken::Refused(refusal) => return Err(self.bad_frame(refusal)),
         };
+        let (record, emptied) = self.before(&event);
         let mut buffer = [0; LONG];
-        let answer = match event {
-            Event::Radio { station, cart } => self.floor.radio(station, cart, &mut buffer),
-            _ => give(&mut self.floor, &event).map(|step| (step, 0)),
-        };
+        let answer = give(&mut self.floor, &event, &mut buffer);
         let length = answer.as_ref().map_or(0, |(_, length)| *length);
         let moment = Moment {
             index: self.index,
             event,
+            record: record.filter(|_| answer.is_ok()),
+            emptied: if answer.is_ok() { emptied } else { Vec::new() },
             answer: answer.map(|(step, _)| step),
             text: buffer[..length].to_vec(),
         };
         self.index += 1;
         Ok(Some(moment))
+    }
+
+    /// What an event will take away, if it is accepted: a record from its line, groups of which a
+    /// cart is the last member. Afterwards the floor does not have it any more.
+    fn before(&self, event: &Event) -> (Option<Carried>, Vec<GroupNo>) {
+        match *event {
+            Event::Wire { from, to } => (self.floor.records(from, to).next(), Vec::new()),
+            Event::Retire { cart } => {
+                let groups = (0..GROUPS as u8).map(GroupNo);
+                (None, groups.filter(|group| self.floor.group(*group) == cart.alone()).collect())
+            }
+            _ => (None, Vec::new()),
+        }
     }
 
     fn bad_frame(&self, refusal: Refusal) -> BadFrame {

@@ -1,29 +1,12 @@
 //! The programs as they are called.
 
+mod common;
+
 use std::fs;
-use std::io::Write;
 use std::path::{Path, PathBuf};
-use std::process::{Command, Output, Stdio};
+use std::process::{Command, Output};
 
-fn frames(words: &[&str], input: &[u8]) -> Output {
-    let mut program = Command::new(env!("CARGO_BIN_EXE_frames"))
-        .args(words)
-        .stdin(Stdio::piped())
-        .stdout(Stdio::piped())
-        .stderr(Stdio::piped())
-        .spawn()
-        .unwrap();
-    let mut lent = program.stdin.take().unwrap();
-    let input = input.to_vec();
-    let writer = std::thread::spawn(move || drop(lent.write_all(&input)));
-    let output = program.wait_with_output().unwrap();
-    writer.join().unwrap();
-    output
-}
-
-fn text(octets: &[u8]) -> &str {
-    std::str::from_utf8(octets).unwrap()
-}
+use common::{frames, path, text};
 
 #[test]
 fn gen_show_and_script() {
@@ -56,6 +39,49 @@ fn mistakes_are_named_and_have_status_1() {
     for words in [&["gen", "1"][..], &["gen", "1", "2", "--held"], &["gen", "1", "x"], &[]] {
         assert_eq!(frames(words, b"").status.code(), Some(1), "{words:?}");
     }
+}
+
+#[test]
+fn a_script_that_is_no_text_is_named_by_its_line() {
+    let output = frames(&["script"], b"start 2 1\nenter 0 0 # caf\xE9\n");
+    assert_eq!(output.status.code(), Some(1));
+    assert_eq!(text(&output.stderr), "line 2: the script is not UTF-8\n");
+    assert!(output.stdout.is_empty());
+}
+
+#[test]
+fn what_is_said_of_a_run_is_whole_or_nothing() {
+    let whole = fs::read(path("../../examples/hand-off.frames")).unwrap();
+    for command in ["tell", "received", "picture", "page"] {
+        let output = frames(&[command], &whole);
+        assert!(output.status.success(), "{command}: {}", text(&output.stderr));
+        assert!(!output.stdout.is_empty() && output.stderr.is_empty(), "{command}");
+        // Read from a file it is the same.
+        let file = path("../../examples/hand-off.frames");
+        assert_eq!(frames(&[command, file.to_str().unwrap()], b"").stdout, output.stdout);
+
+        let output = frames(&[command], &whole[..whole.len() - 3]);
+        assert_eq!((output.status.code(), output.stdout.len()), (Some(1), 0), "{command}");
+        let said = text(&output.stderr);
+        assert!(said.starts_with("octet 306, frame 19: cut short, 13 of 16"), "{command}: {said}");
+
+        let output = frames(&[command, "not-there.frames"], b"");
+        assert_eq!((output.status.code(), output.stdout.len()), (Some(1), 0), "{command}");
+        let said = text(&output.stderr);
+        assert!(said.starts_with("not-there.frames: No such file"), "{command}: {said}");
+
+        let output = frames(&[command, "--kitt"], b"");
+        assert_eq!((output.status.code(), output.stdout.len()), (Some(1), 0), "{command}");
+        assert!(text(&output.stderr).starts_with("--kitt: not understood\n"), "{command}");
+    }
+}
+
+#[test]
+fn the_kit_has_its_own_limits() {
+    let script = frames(&["script"], b"start 5 1\n").stdout;
+    let said = |words: &[&str]| text(&frames(words, &script).stdout).to_string();
+    assert!(said(&["tell"]).starts_with("0 0 5 1 0 0 0  The floor starts with 5 stations"));
+    assert!(said(&["tell", "--kit"]).starts_with("0 no 7  Refused (7, "));
 }
 
 /// Runs `fuzz` in a folder of its own, which is answered beside the output.

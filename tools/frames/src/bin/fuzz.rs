@@ -12,6 +12,7 @@ use std::time::{Duration, Instant, SystemTime};
 use frames::damage::{any_stream, borders};
 use frames::random::Random;
 use frames::script::show;
+use shared::progress::Progress;
 
 const USAGE: &str = "\
 fuzz SECONDS PROGRAM_A PROGRAM_B [SEED]
@@ -89,7 +90,12 @@ impl Pair<'_> {
         let begin = Instant::now();
         let mut random = Random::new(seed);
         let (mut streams, mut lines) = (0_u64, 0_u64);
+        let mut progress = Progress::new("fuzz");
         while begin.elapsed() < time {
+            progress.at(|| {
+                let (now, all) = (begin.elapsed().as_secs(), time.as_secs());
+                format!("{now} of {all} seconds, {streams} streams, {lines} frames")
+            });
             let octets = any_stream(&mut random);
             let feed = match random.below(8) {
                 0 => Feed::Pieces(1 + random.below(100)),
@@ -98,6 +104,7 @@ impl Pair<'_> {
             };
             let (a, b) = self.outcomes(&octets, feed)?;
             if a != b || a.failed.is_some() {
+                drop(progress);
                 println!("seed {seed}, stream {streams}: the programs differ");
                 self.keep(octets, feed)?;
                 return Ok(false);
@@ -105,6 +112,7 @@ impl Pair<'_> {
             streams += 1;
             lines += a.printed.iter().filter(|octet| **octet == b'\n').count() as u64;
         }
+        drop(progress);
         println!("seed {seed}: {streams} streams, {lines} frames compared, no difference");
         Ok(true)
     }
@@ -127,9 +135,11 @@ impl Pair<'_> {
         let mut octets = whole.clone();
         let begin = Instant::now();
         let mut part = borders(&octets).len().div_ceil(2);
+        let mut progress = Progress::new("shortening");
         while part > 0 && begin.elapsed() < SHORTENING {
             let mut at = 0;
             while begin.elapsed() < SHORTENING {
+                progress.at(|| format!("{} octets, less {part} frames at a time", octets.len()));
                 let borders = borders(&octets);
                 if at + 1 >= borders.len() {
                     break;
@@ -145,6 +155,7 @@ impl Pair<'_> {
             }
             part /= 2;
         }
+        drop(progress);
         let (mut a, mut b) = self.outcomes(&octets, feed)?;
         if a == b && a.failed.is_none() {
             // It does not come every time: keep what was seen.
