@@ -63,7 +63,7 @@ fn last_refusal(lines: &[u8]) -> Refusal {
 
 impl<P: Product> Controller<P> {
     /// Takes frames from one slice and writes their lines into another, for whoever has many events: the floor is tested once, and not for each. `index` is
-    /// the number of the first frame, and `last` says that no more input comes. A call costs as much as some thousand frames: hand it pieces of 64 KiB.
+    /// the number of the first frame, and `last` says that no more input comes. A call costs as much as about a thousand frames: hand it pieces of 64 KiB.
     ///
     /// ```
     /// use mekhturia::{Floor, Stopped};

@@ -124,7 +124,7 @@ fn all_numbers() -> [u64; 10000]
     numbers
 }
 
-// The run of the frames over a floor that events can go on with. The table of numbers is made for each call: it costs as much as some thousand frames.
+// The run of the frames over a floor that events can go on with. The table of numbers is made for each call: it costs as much as about a thousand frames.
 fn take_ready(
     input: &[u8],
     output: &mut [u8],
