@@ -11,7 +11,7 @@ use Rattle.protocol.proofs.Tests.{by-lt, by-test}
 use Rattle.protocol.specs.Floor.{Product, wholeFloor, kit}
 use Rattle.products.specs.declared.Bounds.{Bounds}
 use Rattle.products.specs.Numbers.{Fits, NumbersOf}
-use Rattle.mekhturia.specs.Status.{productOf, statusOf, ByStatus}
+use Rattle.mekhturia.specs.Status.{productNumbered, statusOf, ByStatus}
 
 -- the ways of the code that asks for it
 module _ (product : ℕ) (out : List ℕ) (few : Bool) (asked : few ≡ ltb (length out) 8) where
@@ -42,12 +42,12 @@ module _ (product : ℕ) (out : List ℕ) (r : ℕ) (is : r ≡ statusOf product
 
 -- the limits by the product's number
 module _ (product : ℕ) (b : Bounds) where
-  pub floor-by-number : product ≡ 0 → Fits b × NumbersOf wholeFloor b → Fits b × NumbersOf (productOf product) b × (0 < b .held)
-  unfolding productOf
+  pub floor-by-number : product ≡ 0 → Fits b × NumbersOf wholeFloor b → Fits b × NumbersOf (productNumbered product) b × (0 < b .held)
+  unfolding productNumbered
   floor-by-number z (fits, numbers) = let h = numbers .held-is in (fits, rw z numbers, omega arith)
 
-  pub kit-by-number : (product ≡ 0 → ⊥) → Fits b × NumbersOf kit b → Fits b × NumbersOf (productOf product) b × (0 < b .held)
-  unfolding productOf
+  pub kit-by-number : (product ≡ 0 → ⊥) → Fits b × NumbersOf kit b → Fits b × NumbersOf (productNumbered product) b × (0 < b .held)
+  unfolding productNumbered
   kit-by-number n (fits, numbers) =
       let h = numbers .held-is in
       let other : eqb product 0 ≡ false = by-test (eqb product 0) (λ t. absurd (n (eqb-true product 0 t))) (λ f. f) in

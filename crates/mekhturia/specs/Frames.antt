@@ -3,19 +3,20 @@ use mathlib.Core.Path.{_≡_}
 use mathlib.Core.Bool.{Bool, cond, _||_}
 use mathlib.Core.List.{List}
 use Prim.Native.Nat.{ℕ}
-use lib.Dec.{ltb, leb}
+use lib.Dec.{eqb, leb}
 use lib.ListN.{length, set}
 use Rattle.view.specs.View.{Lent}
 use Rattle.frame_run.specs.declared.Progress.{Progress}
 use Rattle.tested_run.specs.Stuck.{RanAny}
+use Rattle.mekhturia.specs.Status.{statusOf}
 
 -- 2 ^ 63: more octets than any memory has
 abbrev pub far : ℕ
 far = 9223372036854775808
 
--- the status: that of every call, and 3, asked last, where the first index or the length of the input is from 2 ^ 63 on
+-- the status: that of every call; and where it is 0, 3 if the first index or the length of the input is from 2 ^ 63 on
 abbrev pub framesStatus : ℕ → List ℕ → ℕ → List ℕ → ℕ
-framesStatus product out index input = cond (ltb (length out) 8) 1 (cond (ltb 1 product) 2 (cond (leb far index || leb far (length input)) 3 0))
+framesStatus product out index input = cond (eqb (statusOf product out) 0) (cond (leb far index || leb far (length input)) 3 0) (statusOf product out)
 
 -- why it stopped, the octets read and written, and the frames, in the first four words
 abbrev pub frameWords : List ℕ → Progress → List ℕ

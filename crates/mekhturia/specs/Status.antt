@@ -13,8 +13,8 @@ use Rattle.reading.specs.Parts.{readIn}
 use Rattle.answer_words.specs.Words.{Answered, AnsweredText, AnsweredQuiet, readWords}
 
 -- the product by its number: 0 is the floor and 1 the kit. With another number no call goes by it
-unfoldable pub productOf : ℕ → Product
-productOf product = cond (eqb product 0) wholeFloor kit
+unfoldable pub productNumbered : ℕ → Product
+productNumbered product = cond (eqb product 0) wholeFloor kit
 
 -- the status: 1 where fewer than eight words are lent, then 2 where there is no such product, and else 0
 abbrev pub statusOf : ℕ → List ℕ → ℕ
