@@ -245,7 +245,7 @@ uint64_t mekhturia_text(uint64_t product, MEKHTURIA_READ_PARTS, uint64_t initiat
 /* FRAMES FROM ONE SLICE, THEIR LINES INTO ANOTHER, for whoever has many events: the floor is tested once for each call and not for each event. Whole
  * frames are taken from the front of the input while the output has room for a line (MEKHTURIA_LINE); `index` is the number of the first, and `last` is
  * 0 where more input may come. The lines are those that the program `floor` prints. On a floor that is none every frame's line is a refusal. A call
- * also costs as much as about a thousand frames, so lend it pieces of 64 KiB. Its answer: MEKHTURIA_FRAMES_... */
+ * also costs as much as about a thousand frames, so lend it pieces of 1 MiB. Its answer: MEKHTURIA_FRAMES_... */
 uint64_t mekhturia_frames(uint64_t product, MEKHTURIA_PARTS,
     const uint8_t *input, size_t input_size, uint8_t *output, size_t output_size, uint64_t index, uint64_t last, uint64_t *answer, size_t answer_words);
 

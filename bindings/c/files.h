@@ -6,7 +6,7 @@
 #include <stdio.h>
 #include <stdlib.h>
 
-enum { PIECE = 65536 };
+enum { PIECE = 1048576 };
 
 /* How a run over the octets of a file went: the status of a call that was not answered, or the refusal of a frame that ended it; and where. */
 typedef struct {

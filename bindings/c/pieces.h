@@ -1,4 +1,4 @@
-/* A run by pieces: one call for each 64 KiB of frames, which writes their lines. */
+/* A run by pieces: one call for each MiB of frames, which writes their lines. */
 #ifndef MEKHTURIA_TEST_PIECES_H
 #define MEKHTURIA_TEST_PIECES_H
 

@@ -2,7 +2,7 @@
  *
  *   runs floor|kit events|frames FILE..
  *
- * `events` makes every event by its own call, `frames` runs them by one call for each piece of 64 KiB. The exit status is 0; 1 where a file cannot
+ * `events` makes every event by its own call, `frames` runs them by one call for each piece of 1 MiB. The exit status is 0; 1 where a file cannot
  * be read or a call was not answered; 3 where a frame was refused with 1 to 4, which ends its file's run; 2 where the words are others than these.
  */
 #include <inttypes.h>

@@ -47,7 +47,7 @@ int main(int count, char **args) {
     uint8_t *input = read_file(args[1], &size);
     if (input == NULL) return fprintf(stderr, "timing: %s cannot be read\n", args[1]), 1;
     measure("a call for each", by_each, input, size);
-    measure("calls for 64 KiB", by_many, input, size);
+    measure("calls for 1 MiB", by_many, input, size);
     free(input);
     return 0;
 }

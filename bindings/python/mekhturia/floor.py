@@ -8,7 +8,7 @@ from typing import BinaryIO, Iterator
 from .answers import Kind, Progress, Refusal, Refused, Report, Stopped
 from .linked import FLOOR, KIT, LONG_TEXT, Parts, Product
 
-_PIECE = 65536
+_PIECE = 1 << 20
 
 
 def _number(what: str, value: int) -> int:
@@ -106,7 +106,7 @@ class _Controller:
         return bytes(self._parts.lent[5 if stored else 4][at : at + octets])
 
     def frames(self, octets: bytes, index: int = 0, last: bool = True) -> Progress:
-        """Takes frames from these octets, the first with this index, as many as their lines fit into 64 KiB; `last` says that no more octets come.
+        """Takes frames from these octets, the first with this index, as many as their lines fit into 1 MiB; `last` says that no more octets come.
 
         >>> print(Floor().frames(bytes([0x01] + [0] * 15)).lines.decode(), end="")
         0 0 2 1 0 0 0

@@ -6,7 +6,7 @@ use std::fmt;
 use std::io::{self, ErrorKind, Read, Write};
 
 /// Octets of a piece of input, and of the lines of one.
-const PIECE: usize = 65536;
+const PIECE: usize = 1 << 20;
 
 /// How far frames were run.
 #[derive(Clone, Copy, Debug, PartialEq, Eq)]
@@ -63,7 +63,7 @@ fn last_refusal(lines: &[u8]) -> Refusal {
 
 impl<P: Product> Controller<P> {
     /// Takes frames from one slice and writes their lines into another, for whoever has many events: the floor is tested once, and not for each. `index` is
-    /// the number of the first frame, and `last` says that no more input comes. A call costs as much as about a thousand frames: hand it pieces of 64 KiB.
+    /// the number of the first frame, and `last` says that no more input comes. A call costs as much as about a thousand frames: hand it pieces of 1 MiB.
     ///
     /// ```
     /// use mekhturia::{Floor, Stopped};
