@@ -27,8 +27,8 @@ module _ (product : ℕ) (out : List ℕ) (few : Bool) (asked : few ≡ ltb (len
 
 -- what a status says: with another than 0 nothing was touched; with 0 there are words enough, and the call was answered
 module _ (product : ℕ) (out : List ℕ) (r : ℕ) (is : r ≡ statusOf product out) where
-  pub told-status : (r ≡ 0 → ⊥) → (answered untouched : Type 0) → untouched → ByStatus r product out answered untouched
-  told-status other answered untouched u = (is, λ z. absurd (other z), λ _. u)
+  pub untouched-by-status : (r ≡ 0 → ⊥) → (answered untouched : Type 0) → untouched → ByStatus r (statusOf product out) answered untouched
+  untouched-by-status other answered untouched u = (is, λ z. absurd (other z), λ _. u)
 
   module _ (z : r ≡ 0) where
     pub words-enough : 8 ≤ length out
@@ -37,8 +37,8 @@ module _ (product : ℕ) (out : List ℕ) (r : ℕ) (is : r ≡ statusOf product
         (λ l. absurd (let one : _≡_ {A = ℕ} 0 1 = sym z ∙ is ∙ ap (λ (b : Bool). cond b 1 (cond (ltb 1 product) 2 0)) (lt-ltb (length out) 8 l) in omega arith))
         (λ l. l)
 
-    pub told-answer : (answered untouched : Type 0) → answered → ByStatus 0 product out answered untouched
-    told-answer answered untouched a = (sym z ∙ is, λ _. a, λ other. absurd (other refl))
+    pub answered-by-status : (answered untouched : Type 0) → answered → ByStatus 0 (statusOf product out) answered untouched
+    answered-by-status answered untouched a = (sym z ∙ is, λ _. a, λ other. absurd (other refl))
 
 -- the limits by the product's number
 module _ (product : ℕ) (b : Bounds) where

@@ -8,7 +8,7 @@ use lib.ListN.{length, set}
 use Rattle.view.specs.View.{Lent}
 use Rattle.frame_run.specs.declared.Progress.{Progress}
 use Rattle.tested_run.specs.Stuck.{RanAny}
-use Rattle.mekhturia.specs.Status.{statusOf}
+use Rattle.mekhturia.specs.Status.{statusOf, ByStatus}
 
 -- 2 ^ 63: more octets than any memory has
 abbrev pub far : ℕ
@@ -28,9 +28,7 @@ pub record RanFrames (input : List ℕ) (index : ℕ) (last : Bool) (L L′ : Le
   pub ran : RanAny input index last L L′ output output′ progress
   pub words : out′ ≡ frameWords out progress
 
--- with status 0 the piece was run, and with another nothing was touched
-abbrev pub ToldFrames : ℕ → ℕ → List ℕ → ℕ → Bool → Lent → Lent → List ℕ → List ℕ → List ℕ → List ℕ → Type 0
-ToldFrames r product input index last L L′ output output′ out out′ =
-    (r ≡ framesStatus product out index input) ×
-    (r ≡ 0 → RanFrames input index last L L′ output output′ out out′) ×
-    ((r ≡ 0 → ⊥) → (L′ ≡ L) × (output′ ≡ output) × (out′ ≡ out))
+-- A RUN OVER FRAMES, from the lent parts L to L′
+abbrev pub FramesByStatus : ℕ → ℕ → List ℕ → ℕ → Bool → Lent → Lent → List ℕ → List ℕ → List ℕ → List ℕ → Type 0
+FramesByStatus r product input index last L L′ output output′ out out′ =
+    ByStatus r (framesStatus product out index input) (RanFrames input index last L L′ output output′ out out′) ((L′ ≡ L) × (output′ ≡ output) × (out′ ≡ out))

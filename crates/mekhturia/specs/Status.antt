@@ -21,23 +21,23 @@ abbrev pub statusOf : ℕ → List ℕ → ℕ
 statusOf product out = cond (ltb (length out) 8) 1 (cond (ltb 1 product) 2 0)
 
 -- with status 0 the call was answered, and with another nothing was touched
-abbrev pub ByStatus : ℕ → ℕ → List ℕ → Type 0 → Type 0 → Type 0
-ByStatus r product out answered untouched = (r ≡ statusOf product out) × (r ≡ 0 → answered) × ((r ≡ 0 → ⊥) → untouched)
+abbrev pub ByStatus : ℕ → ℕ → Type 0 → Type 0 → Type 0
+ByStatus r status answered untouched = (r ≡ status) × (r ≡ 0 → answered) × ((r ≡ 0 → ⊥) → untouched)
 
 -- AN EVENT, from the lent parts L to L′
-abbrev pub Told : ℕ → ℕ → Lent → Lent → Event → List ℕ → List ℕ → Type 0
-Told r product L L′ e out out′ = ByStatus r product out (Answered L L′ e [] out out′) ((L′ ≡ L) × (out′ ≡ out))
+abbrev pub EventByStatus : ℕ → ℕ → Lent → Lent → Event → List ℕ → List ℕ → Type 0
+EventByStatus r product L L′ e out out′ = ByStatus r (statusOf product out) (Answered L L′ e [] out out′) ((L′ ≡ L) × (out′ ≡ out))
 
 -- a radio step of cart c at station t, which left its buffer as buffer′
-abbrev pub ToldText : ℕ → ℕ → Lent → Lent → ℕ → ℕ → List ℕ → List ℕ → List ℕ → List ℕ → Type 0
-ToldText r product L L′ t c buffer buffer′ out out′ =
-    ByStatus r product out (AnsweredText L L′ t c buffer buffer′ out out′) ((L′ ≡ L) × (buffer′ ≡ buffer) × (out′ ≡ out))
+abbrev pub RadioByStatus : ℕ → ℕ → Lent → Lent → ℕ → ℕ → List ℕ → List ℕ → List ℕ → List ℕ → Type 0
+RadioByStatus r product L L′ t c buffer buffer′ out out′ =
+    ByStatus r (statusOf product out) (AnsweredText L L′ t c buffer buffer′ out out′) ((L′ ≡ L) × (buffer′ ≡ buffer) × (out′ ≡ out))
 
 -- a floor that was run until it is quiet
-abbrev pub ToldQuiet : ℕ → ℕ → Lent → Lent → List ℕ → List ℕ → List ℕ → List ℕ → Type 0
-ToldQuiet r product L L′ buffer buffer′ out out′ =
-    ByStatus r product out (AnsweredQuiet L L′ buffer buffer′ out out′) ((L′ ≡ L) × (buffer′ ≡ buffer) × (out′ ≡ out))
+abbrev pub QuietByStatus : ℕ → ℕ → Lent → Lent → List ℕ → List ℕ → List ℕ → List ℕ → Type 0
+QuietByStatus r product L L′ buffer buffer′ out out′ =
+    ByStatus r (statusOf product out) (AnsweredQuiet L L′ buffer buffer′ out out′) ((L′ ≡ L) × (buffer′ ≡ buffer) × (out′ ≡ out))
 
 -- the text of the held message with initiator s and number n
-abbrev pub ToldRead : ℕ → ℕ → Lent → ℕ → ℕ → List ℕ → List ℕ → Type 0
-ToldRead r product L s n out out′ = ByStatus r product out (out′ ≡ readWords out (readIn L s n)) (out′ ≡ out)
+abbrev pub ReadByStatus : ℕ → ℕ → Lent → ℕ → ℕ → List ℕ → List ℕ → Type 0
+ReadByStatus r product L s n out out′ = ByStatus r (statusOf product out) (out′ ≡ readWords out (readIn L s n)) (out′ ≡ out)

@@ -16,8 +16,8 @@ ghost use Rattle.protocol.specs.Events.{start, enter, send, wire, move, flag, s
 ghost use Rattle.protocol.specs.Events as events;
 ghost use Rattle.products.specs.Numbers.{Fits, NumbersOf};
 ghost use Rattle.view.specs.View.{lent};
-ghost use Rattle.mekhturia.specs.Status.{productNumbered, statusOf, Told, ToldText, ToldQuiet, ToldRead};
-ghost use Rattle.mekhturia.specs.Frames.{framesStatus, frameWords, ToldFrames};
+ghost use Rattle.mekhturia.specs.Status.{productNumbered, statusOf, EventByStatus, RadioByStatus, QuietByStatus, ReadByStatus};
+ghost use Rattle.mekhturia.specs.Frames.{framesStatus, frameWords, FramesByStatus};
 
 // The status of a call: its answer is in the lent words.
 const ANSWERED: u64 = 0;
@@ -76,7 +76,7 @@ pub extern "C" fn mekhturia_start(
     k: u64,
     out: &mut [u64],
 ) -> u64
-    ensures { λ r. ⌜ Told r product (lent (productNumbered product) (now (stations .entry)) (now (carts .entry)) (now (messages .entry)) (now (lines .entry)) (now (texts .entry)) (now (store .entry))) (lent (productNumbered product) (now (stations .exit)) (now (carts .exit)) (now (messages .exit)) (now (lines .exit)) (now (texts .entry)) (now (store .entry))) (start n k) (now (out .entry)) (now (out .exit)) ⌝ }
+    ensures { λ r. ⌜ EventByStatus r product (lent (productNumbered product) (now (stations .entry)) (now (carts .entry)) (now (messages .entry)) (now (lines .entry)) (now (texts .entry)) (now (store .entry))) (lent (productNumbered product) (now (stations .exit)) (now (carts .exit)) (now (messages .exit)) (now (lines .exit)) (now (texts .entry)) (now (store .entry))) (start n k) (now (out .entry)) (now (out .exit)) ⌝ }
 {
     let status = status_of(product, out);
     if status != ANSWERED {
@@ -102,7 +102,7 @@ pub extern "C" fn mekhturia_enter(
     cart: u64,
     out: &mut [u64],
 ) -> u64
-    ensures { λ r. ⌜ Told r product (lent (productNumbered product) (now (stations .entry)) (now (carts .entry)) (now (messages .entry)) (now (lines .entry)) (now (texts .entry)) (now (store .entry))) (lent (productNumbered product) (now (stations .exit)) (now (carts .exit)) (now (messages .entry)) (now (lines .entry)) (now (texts .entry)) (now (store .entry))) (enter station cart) (now (out .entry)) (now (out .exit)) ⌝ }
+    ensures { λ r. ⌜ EventByStatus r product (lent (productNumbered product) (now (stations .entry)) (now (carts .entry)) (now (messages .entry)) (now (lines .entry)) (now (texts .entry)) (now (store .entry))) (lent (productNumbered product) (now (stations .exit)) (now (carts .exit)) (now (messages .entry)) (now (lines .entry)) (now (texts .entry)) (now (store .entry))) (enter station cart) (now (out .entry)) (now (out .exit)) ⌝ }
 {
     let status = status_of(product, out);
     if status != ANSWERED {
@@ -139,7 +139,7 @@ pub extern "C" fn mekhturia_send(
     text: &[u8],
     out: &mut [u64],
 ) -> u64
-    ensures { λ r. ⌜ Told r product (lent (productNumbered product) (now (stations .entry)) (now (carts .entry)) (now (messages .entry)) (now (lines .entry)) (now (texts .entry)) (now (store .entry))) (lent (productNumbered product) (now (stations .exit)) (now (carts .entry)) (now (messages .exit)) (now (lines .exit)) (now (texts .exit)) (now (store .entry))) (send station set (now (text .entry))) (now (out .entry)) (now (out .exit)) ⌝ }
+    ensures { λ r. ⌜ EventByStatus r product (lent (productNumbered product) (now (stations .entry)) (now (carts .entry)) (now (messages .entry)) (now (lines .entry)) (now (texts .entry)) (now (store .entry))) (lent (productNumbered product) (now (stations .exit)) (now (carts .entry)) (now (messages .exit)) (now (lines .exit)) (now (texts .exit)) (now (store .entry))) (send station set (now (text .entry))) (now (out .entry)) (now (out .exit)) ⌝ }
 {
     let status = status_of(product, out);
     if status != ANSWERED {
@@ -176,7 +176,7 @@ pub extern "C" fn mekhturia_wire(
     to: u64,
     out: &mut [u64],
 ) -> u64
-    ensures { λ r. ⌜ Told r product (lent (productNumbered product) (now (stations .entry)) (now (carts .entry)) (now (messages .entry)) (now (lines .entry)) (now (texts .entry)) (now (store .entry))) (lent (productNumbered product) (now (stations .exit)) (now (carts .exit)) (now (messages .exit)) (now (lines .exit)) (now (texts .entry)) (now (store .entry))) (wire from to) (now (out .entry)) (now (out .exit)) ⌝ }
+    ensures { λ r. ⌜ EventByStatus r product (lent (productNumbered product) (now (stations .entry)) (now (carts .entry)) (now (messages .entry)) (now (lines .entry)) (now (texts .entry)) (now (store .entry))) (lent (productNumbered product) (now (stations .exit)) (now (carts .exit)) (now (messages .exit)) (now (lines .exit)) (now (texts .entry)) (now (store .entry))) (wire from to) (now (out .entry)) (now (out .exit)) ⌝ }
 {
     let status = status_of(product, out);
     if status != ANSWERED {
@@ -213,7 +213,7 @@ pub extern "C" fn mekhturia_radio(
     buffer: &mut [u8],
     out: &mut [u64],
 ) -> u64
-    ensures { λ r. ⌜ ToldText r product (lent (productNumbered product) (now (stations .entry)) (now (carts .entry)) (now (messages .entry)) (now (lines .entry)) (now (texts .entry)) (now (store .entry))) (lent (productNumbered product) (now (stations .exit)) (now (carts .exit)) (now (messages .entry)) (now (lines .exit)) (now (texts .entry)) (now (store .entry))) station cart (now (buffer .entry)) (now (buffer .exit)) (now (out .entry)) (now (out .exit)) ⌝ }
+    ensures { λ r. ⌜ RadioByStatus r product (lent (productNumbered product) (now (stations .entry)) (now (carts .entry)) (now (messages .entry)) (now (lines .entry)) (now (texts .entry)) (now (store .entry))) (lent (productNumbered product) (now (stations .exit)) (now (carts .exit)) (now (messages .entry)) (now (lines .exit)) (now (texts .entry)) (now (store .entry))) station cart (now (buffer .entry)) (now (buffer .exit)) (now (out .entry)) (now (out .exit)) ⌝ }
 {
     let status = status_of(product, out);
     if status != ANSWERED {
@@ -250,7 +250,7 @@ pub extern "C" fn mekhturia_move(
     to: u64,
     out: &mut [u64],
 ) -> u64
-    ensures { λ r. ⌜ Told r product (lent (productNumbered product) (now (stations .entry)) (now (carts .entry)) (now (messages .entry)) (now (lines .entry)) (now (texts .entry)) (now (store .entry))) (lent (productNumbered product) (now (stations .entry)) (now (carts .exit)) (now (messages .entry)) (now (lines .exit)) (now (texts .entry)) (now (store .entry))) (move cart to) (now (out .entry)) (now (out .exit)) ⌝ }
+    ensures { λ r. ⌜ EventByStatus r product (lent (productNumbered product) (now (stations .entry)) (now (carts .entry)) (now (messages .entry)) (now (lines .entry)) (now (texts .entry)) (now (store .entry))) (lent (productNumbered product) (now (stations .entry)) (now (carts .exit)) (now (messages .entry)) (now (lines .exit)) (now (texts .entry)) (now (store .entry))) (move cart to) (now (out .entry)) (now (out .exit)) ⌝ }
 {
     let status = status_of(product, out);
     if status != ANSWERED {
@@ -286,7 +286,7 @@ pub extern "C" fn mekhturia_flag(
     steady: u64,
     out: &mut [u64],
 ) -> u64
-    ensures { λ r. ⌜ Told r product (lent (productNumbered product) (now (stations .entry)) (now (carts .entry)) (now (messages .entry)) (now (lines .entry)) (now (texts .entry)) (now (store .entry))) (lent (productNumbered product) (now (stations .entry)) (now (carts .exit)) (now (messages .entry)) (now (lines .entry)) (now (texts .entry)) (now (store .entry))) (flag cart (not (eqb steady 0))) (now (out .entry)) (now (out .exit)) ⌝ }
+    ensures { λ r. ⌜ EventByStatus r product (lent (productNumbered product) (now (stations .entry)) (now (carts .entry)) (now (messages .entry)) (now (lines .entry)) (now (texts .entry)) (now (store .entry))) (lent (productNumbered product) (now (stations .entry)) (now (carts .exit)) (now (messages .entry)) (now (lines .entry)) (now (texts .entry)) (now (store .entry))) (flag cart (not (eqb steady 0))) (now (out .entry)) (now (out .exit)) ⌝ }
 {
     let status = status_of(product, out);
     if status != ANSWERED {
@@ -322,7 +322,7 @@ pub extern "C" fn mekhturia_group(
     set: u64,
     out: &mut [u64],
 ) -> u64
-    ensures { λ r. ⌜ Told r product (lent (productNumbered product) (now (stations .entry)) (now (carts .entry)) (now (messages .entry)) (now (lines .entry)) (now (texts .entry)) (now (store .entry))) (lent (productNumbered product) (now (stations .exit)) (now (carts .entry)) (now (messages .entry)) (now (lines .entry)) (now (texts .entry)) (now (store .entry))) (events.group group set) (now (out .entry)) (now (out .exit)) ⌝ }
+    ensures { λ r. ⌜ EventByStatus r product (lent (productNumbered product) (now (stations .entry)) (now (carts .entry)) (now (messages .entry)) (now (lines .entry)) (now (texts .entry)) (now (store .entry))) (lent (productNumbered product) (now (stations .exit)) (now (carts .entry)) (now (messages .entry)) (now (lines .entry)) (now (texts .entry)) (now (store .entry))) (events.group group set) (now (out .entry)) (now (out .exit)) ⌝ }
 {
     let status = status_of(product, out);
     if status != ANSWERED {
@@ -359,7 +359,7 @@ pub extern "C" fn mekhturia_send_group(
     text: &[u8],
     out: &mut [u64],
 ) -> u64
-    ensures { λ r. ⌜ Told r product (lent (productNumbered product) (now (stations .entry)) (now (carts .entry)) (now (messages .entry)) (now (lines .entry)) (now (texts .entry)) (now (store .entry))) (lent (productNumbered product) (now (stations .exit)) (now (carts .entry)) (now (messages .exit)) (now (lines .exit)) (now (texts .exit)) (now (store .entry))) (sendGroup station group (now (text .entry))) (now (out .entry)) (now (out .exit)) ⌝ }
+    ensures { λ r. ⌜ EventByStatus r product (lent (productNumbered product) (now (stations .entry)) (now (carts .entry)) (now (messages .entry)) (now (lines .entry)) (now (texts .entry)) (now (store .entry))) (lent (productNumbered product) (now (stations .exit)) (now (carts .entry)) (now (messages .exit)) (now (lines .exit)) (now (texts .exit)) (now (store .entry))) (sendGroup station group (now (text .entry))) (now (out .entry)) (now (out .exit)) ⌝ }
 {
     let status = status_of(product, out);
     if status != ANSWERED {
@@ -397,7 +397,7 @@ pub extern "C" fn mekhturia_send_long(
     text: &[u8],
     out: &mut [u64],
 ) -> u64
-    ensures { λ r. ⌜ Told r product (lent (productNumbered product) (now (stations .entry)) (now (carts .entry)) (now (messages .entry)) (now (lines .entry)) (now (texts .entry)) (now (store .entry))) (lent (productNumbered product) (now (stations .exit)) (now (carts .entry)) (now (messages .exit)) (now (lines .exit)) (now (texts .entry)) (now (store .exit))) (sendLong station set (now (text .entry))) (now (out .entry)) (now (out .exit)) ⌝ }
+    ensures { λ r. ⌜ EventByStatus r product (lent (productNumbered product) (now (stations .entry)) (now (carts .entry)) (now (messages .entry)) (now (lines .entry)) (now (texts .entry)) (now (store .entry))) (lent (productNumbered product) (now (stations .exit)) (now (carts .entry)) (now (messages .exit)) (now (lines .exit)) (now (texts .entry)) (now (store .exit))) (sendLong station set (now (text .entry))) (now (out .entry)) (now (out .exit)) ⌝ }
 {
     let status = status_of(product, out);
     if status != ANSWERED {
@@ -433,7 +433,7 @@ pub extern "C" fn mekhturia_retire(
     cart: u64,
     out: &mut [u64],
 ) -> u64
-    ensures { λ r. ⌜ Told r product (lent (productNumbered product) (now (stations .entry)) (now (carts .entry)) (now (messages .entry)) (now (lines .entry)) (now (texts .entry)) (now (store .entry))) (lent (productNumbered product) (now (stations .exit)) (now (carts .exit)) (now (messages .entry)) (now (lines .entry)) (now (texts .entry)) (now (store .entry))) (retire cart) (now (out .entry)) (now (out .exit)) ⌝ }
+    ensures { λ r. ⌜ EventByStatus r product (lent (productNumbered product) (now (stations .entry)) (now (carts .entry)) (now (messages .entry)) (now (lines .entry)) (now (texts .entry)) (now (store .entry))) (lent (productNumbered product) (now (stations .exit)) (now (carts .exit)) (now (messages .entry)) (now (lines .entry)) (now (texts .entry)) (now (store .entry))) (retire cart) (now (out .entry)) (now (out .exit)) ⌝ }
 {
     let status = status_of(product, out);
     if status != ANSWERED {
@@ -467,7 +467,7 @@ pub extern "C" fn mekhturia_quiet(
     buffer: &mut [u8],
     out: &mut [u64],
 ) -> u64
-    ensures { λ r. ⌜ ToldQuiet r product (lent (productNumbered product) (now (stations .entry)) (now (carts .entry)) (now (messages .entry)) (now (lines .entry)) (now (texts .entry)) (now (store .entry))) (lent (productNumbered product) (now (stations .exit)) (now (carts .exit)) (now (messages .exit)) (now (lines .exit)) (now (texts .entry)) (now (store .entry))) (now (buffer .entry)) (now (buffer .exit)) (now (out .entry)) (now (out .exit)) ⌝ }
+    ensures { λ r. ⌜ QuietByStatus r product (lent (productNumbered product) (now (stations .entry)) (now (carts .entry)) (now (messages .entry)) (now (lines .entry)) (now (texts .entry)) (now (store .entry))) (lent (productNumbered product) (now (stations .exit)) (now (carts .exit)) (now (messages .exit)) (now (lines .exit)) (now (texts .entry)) (now (store .entry))) (now (buffer .entry)) (now (buffer .exit)) (now (out .entry)) (now (out .exit)) ⌝ }
 {
     let status = status_of(product, out);
     if status != ANSWERED {
@@ -503,7 +503,7 @@ pub extern "C" fn mekhturia_text(
     number: u64,
     out: &mut [u64],
 ) -> u64
-    ensures { λ r. ⌜ ToldRead r product (lent (productNumbered product) (now (stations .entry)) (now (carts .entry)) (now (messages .entry)) (now (lines .entry)) (now (texts .entry)) (now (store .entry))) initiator number (now (out .entry)) (now (out .exit)) ⌝ }
+    ensures { λ r. ⌜ ReadByStatus r product (lent (productNumbered product) (now (stations .entry)) (now (carts .entry)) (now (messages .entry)) (now (lines .entry)) (now (texts .entry)) (now (store .entry))) initiator number (now (out .entry)) (now (out .exit)) ⌝ }
 {
     let status = status_of(product, out);
     if status != ANSWERED {
@@ -571,7 +571,7 @@ pub extern "C" fn mekhturia_frames(
     last: u64,
     out: &mut [u64],
 ) -> u64
-    ensures { λ r. ⌜ ToldFrames r product (now (input .entry)) index (not (eqb last 0)) (lent (productNumbered product) (now (stations .entry)) (now (carts .entry)) (now (messages .entry)) (now (lines .entry)) (now (texts .entry)) (now (store .entry))) (lent (productNumbered product) (now (stations .exit)) (now (carts .exit)) (now (messages .exit)) (now (lines .exit)) (now (texts .exit)) (now (store .exit))) (now (output .entry)) (now (output .exit)) (now (out .entry)) (now (out .exit)) ⌝ }
+    ensures { λ r. ⌜ FramesByStatus r product (now (input .entry)) index (not (eqb last 0)) (lent (productNumbered product) (now (stations .entry)) (now (carts .entry)) (now (messages .entry)) (now (lines .entry)) (now (texts .entry)) (now (store .entry))) (lent (productNumbered product) (now (stations .exit)) (now (carts .exit)) (now (messages .exit)) (now (lines .exit)) (now (texts .exit)) (now (store .exit))) (now (output .entry)) (now (output .exit)) (now (out .entry)) (now (out .exit)) ⌝ }
 {
     let status = frames_status(product, out, index, input);
     if status != ANSWERED {

@@ -2,7 +2,7 @@
 use mathlib.Core.Path.{refl}
 use borrow.Author.Needs.{needs}
 use denote.Ref.{now}
-use Rattle.mekhturia.proofs.Statuses.{told-status, told-answer, words-enough}
+use Rattle.mekhturia.proofs.Statuses.{untouched-by-status, answered-by-status, words-enough}
 use Rattle.mekhturia.proofs.mekhturia_start.Statement.{statement}
 use Rattle.mekhturia.proofs.mekhturia_start.Tie as tie
 
@@ -10,7 +10,7 @@ returns : tie.Need-returns
 returns c =
     let asked = c .before in
     let a = asked .before .before .before .before .before .before .before .before .before .args in
-    told-status (a .product) (now (a .out)) _ (asked .status-of .ensures) (c .if1 .taken) _ _ (refl, refl)
+    untouched-by-status (a .product) (now (a .out)) _ (asked .status-of .ensures) (c .if1 .taken) _ _ (refl, refl)
 
 put-answer-words-requires : tie.Need-put-answer-words-requires
 put-answer-words-requires c κs =
@@ -26,7 +26,7 @@ returns-2 c =
     let bounds = call .before .before .before .before .before in
     let asked = bounds .before .before in
     let a = asked .before .before .before .before .before .before .before .before .before .args in
-    told-answer (a .product) (now (a .out)) _ (asked .status-of .ensures) (bounds .before .if1 .left) _ _
+    answered-by-status (a .product) (now (a .out)) _ (asked .status-of .ensures) (bounds .before .if1 .left) _ _
     (record { answered = call .start .result; met = call .start .ensures _ (bounds .bounds-of .ensures .1); words = put .put-answer-words .ensures .0 })
 
 pub mekhturia-start-spec : {M : Type 1} → statement M

@@ -4,7 +4,7 @@ use native.Mathlib.Omega.{arith}
 use borrow.Author.Needs.{needs}
 use denote.Ref.{now}
 use Rattle.answer_words.specs.Words.{readWords}
-use Rattle.mekhturia.proofs.Statuses.{told-status, told-answer, words-enough}
+use Rattle.mekhturia.proofs.Statuses.{untouched-by-status, answered-by-status, words-enough}
 use Rattle.mekhturia.proofs.mekhturia_text.Statement.{statement}
 use Rattle.mekhturia.proofs.mekhturia_text.Tie as tie
 
@@ -12,7 +12,7 @@ returns : tie.Need-returns
 returns c =
     let asked = c .before in
     let a = asked .before .before .before .before .before .before .before .before .before .args in
-    told-status (a .product) (now (a .out)) _ (asked .status-of .ensures) (c .if1 .taken) _ _ refl
+    untouched-by-status (a .product) (now (a .out)) _ (asked .status-of .ensures) (c .if1 .taken) _ _ refl
 
 put-read-words-requires : tie.Need-put-read-words-requires
 put-read-words-requires c κs =
@@ -28,7 +28,7 @@ returns-2 c =
     let bounds = call .before in
     let asked = bounds .before .before in
     let a = asked .before .before .before .before .before .before .before .before .before .args in
-    told-answer (a .product) (now (a .out)) _ (asked .status-of .ensures) (bounds .before .if1 .left) _ _
+    answered-by-status (a .product) (now (a .out)) _ (asked .status-of .ensures) (bounds .before .if1 .left) _ _
     (put .put-read-words .ensures .0 ∙ ap (readWords (now (a .out))) (call .read .ensures _ (bounds .bounds-of .ensures .1)))
 
 pub mekhturia-text-spec : {M : Type 1} → statement M
