@@ -1,5 +1,7 @@
 // WHAT A CALL FROM ANOTHER LANGUAGE IS TOLD, in lent words: an enum cannot cross as it is, so the answer of an event is eight words, that of a floor run until it
 // is quiet two, and that of the reading call four.
+#![tactic(auto)]
+
 ghost use Rattle.std.specs.Prelude.{◌≡◌, ◌≤◌, ltb, length, set};
 ghost use Rattle.answer_words.specs.Words.{answer_row, answer_words, quiet_words, read_words};
 

@@ -1,4 +1,6 @@
 // The carts: the record of one, and the lent table of all.
+#![tactic(auto)]
+
 ghost use Rattle.std.specs.Prelude.{◌≡◌, true, ◌<◌, length};
 ghost use Rattle.protocol.specs.Folds.{list_of, update};
 ghost use Rattle.carts.specs.Words.{HasRow, first_word, place_in, canonical, canonical_first};
@@ -9,7 +11,7 @@ use ids::{CartNumber, MessageNumber, Station};
 
 // "A cart is outside, at a station, leaving (it has greeted a new station, the old one has not heard), or travelling (its register is on
 // a line)": leaving the first for the second, travelling from the first to the second.
-#[derive(Drop)]
+#[derive(Clone, Copy)]
 pub enum Place {
     Outside,
     At(Station),
@@ -18,7 +20,7 @@ pub enum Place {
 }
 
 // A cart's record: where it is, "one next number per initiator", and whether its vacuum is steady: "The flag travels with the cart through hand-offs".
-#[derive(Drop)]
+#[derive(Clone, Copy)]
 pub struct Cart {
     pub place: Place,
     pub next: [u64; 16],
@@ -125,7 +127,7 @@ const NEXT: usize = 3;
 const UNSTEADY: u64 = 4;
 
 // A place in words: its kind, and its stations.
-#[derive(Drop)]
+#[derive(Clone, Copy)]
 struct PlaceWords(u64, u64, u64);
 
 // The place that three words say.

@@ -1,6 +1,8 @@
 // Catch-up: "while the cart's next number is below the expected number: if that message is buffered here and its copy names the cart,
 // queue the cart for it and stop; else raise the next number". No number is looked at by itself: where this stops is the nearest of
 // the held messages that would stop the cart, or the expected number where none would.
+#![tactic(auto)]
+
 ghost use Rattle.std.specs.Prelude.{◌≡◌, true, ℕ, ◌+◌, ◌-◌, ◌<◌, ◌≤◌};
 ghost use Rattle.std.proofs.Math.Option.{some};
 ghost use Rattle.protocol.specs.CartSets.{has};
@@ -158,7 +160,7 @@ fn stops_before(messages: &[u64], station: Station, m: usize, next: u64, upto: u
 }
 
 // Where each next number stops, the nearest message of each initiator, and which initiators have one.
-#[derive(Drop)]
+#[derive(Clone, Copy)]
 pub struct Stopped {
     pub upto: [u64; 16],
     pub nearest: [usize; 16],

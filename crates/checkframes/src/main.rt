@@ -1,5 +1,7 @@
 // THE PROGRAM CHECKFRAMES: for each file that its arguments name, or for standard input where they name none, how many whole frames it
 // begins with, and the refusal and the octet of what stands behind them. A file is read in pieces, and the memory is the same whatever its length.
+#![tactic(auto)]
+
 ghost use Rattle.std.specs.Prelude.{◌≡◌, true, ◌+◌, ◌≤◌, ◌<◌, length, take};
 ghost use Rattle.frame_reader.specs.Checks.{check_in, after};
 ghost use Rattle.checkframes.specs.Progress.{state_after, Inside, Goes, Ended};
@@ -9,7 +11,7 @@ use libc::{STDIN_FILENO, STDOUT_FILENO};
 
 // How far a file was checked: what its octets so far come to, how many of them are kept at the front of the input for the next piece, and what is
 // to be done.
-#[derive(Drop)]
+#[derive(Clone, Copy)]
 struct Progress {
     found: Checked,
     kept: usize,
@@ -32,7 +34,7 @@ const FAILED: u64 = 3;
 const OCTETS: usize = 9223372036854775808;
 
 // What a read brought: a number of octets, and whether it failed.
-#[derive(Drop)]
+#[derive(Clone, Copy)]
 struct Got {
     count: usize,
     failed: bool,

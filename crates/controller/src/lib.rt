@@ -1,6 +1,8 @@
 // THE CONTROLLER: the eleven events over a floor in lent memory. Each takes any numbers and any lent parts, refuses first, "Checks run down the
 // table; the first that applies is the answer", and leaves exactly the written floor. A contract `Met L L' e a` says of the lent parts
 // before and after: the answer is the written one, the floor that they say is the written step's, and a refusal changed no word of them.
+#![tactic(auto)]
+
 ghost use Rattle.std.specs.Prelude.{◌≡◌, []};
 ghost use Rattle.protocol.specs.Floor.{whole_floor, limits_of};
 ghost use Rattle.protocol.specs.Events.{start, enter, send, wire, move, flag, send_group, send_long, retire};

@@ -1,6 +1,8 @@
 // "Run the floor until it is quiet. At closing time nobody sends or moves." The dispatcher chooses one wire or radio step after the other, and takes
 // it by the code of the events. Which lines are not empty, and which stations have an entry in their queue, it keeps from step to step, so that no
 // choice goes over all lines or all stations.
+#![tactic(auto)]
+
 ghost use Rattle.std.specs.Prelude.{◌≡◌, true, ℕ, ◌+◌, ◌*◌, ◌<◌, ◌≤◌, length};
 ghost use Rattle.protocol.specs.CartSets.{has};
 ghost use Rattle.protocol.specs.Quiet.{first_cart, next_event};
@@ -24,14 +26,14 @@ const NOBODY: u64 = 64;
 
 // What is kept from step to step: the stations that have a record on a line, and those that have an entry in their queue. Beside it there are
 // sixteen words, the targets: for each station the set of those to which it has a record on a line. These are lent, so that no step copies them.
-#[derive(Drop)]
+#[derive(Clone, Copy)]
 struct Pending {
     sources: u64,
     queued: u64,
 }
 
 // What the dispatcher takes next: a wire step (from, to), a radio step (station, cart), or nothing, and the floor is quiet.
-#[derive(Drop)]
+#[derive(Clone, Copy)]
 enum Next {
     Wire(Station, Station),
     Radio(Station, CartNumber),
@@ -39,7 +41,7 @@ enum Next {
 }
 
 // What a call answers: a refusal's number, or "how many steps it took".
-#[derive(Drop)]
+#[derive(Clone, Copy)]
 pub enum Quiet {
     Refused(u64),
     After(u64),

@@ -1,4 +1,6 @@
 // WHAT AN EVENT ANSWERS, and what the line of an answer says.
+#![tactic(auto)]
+
 ghost use Rattle.std.specs.Prelude.{◌≡◌};
 ghost use Rattle.event_answers.specs.Answers.{first_applying, values, flag_number, report_of, text_size, told_of};
 
@@ -6,7 +8,7 @@ use ids::{CartNumber, MessageNumber, Station};
 use reports::{Effect, Report};
 
 // What an accepted event did; specs/Answers sets out 01's kind and values for each case.
-#[derive(Drop)]
+#[derive(Clone, Copy)]
 pub enum Outcome {
     // How many stations, and how many carts.
     Started(u64, u64),
@@ -41,7 +43,7 @@ pub enum Outcome {
 }
 
 // The answer to an event.
-#[derive(Drop)]
+#[derive(Clone, Copy)]
 pub enum Answer {
     // "A refusal gives its number alone."
     Refused(u64),
@@ -105,7 +107,7 @@ fn text_size(outcome: Outcome) -> usize
 
 // An answer in numbers: is it a refusal, and with which number; or what it reports, and how many octets of text it adds. Whoever prints it or hands
 // it on asks one question of it, and not once more which of all cases it was.
-#[derive(Drop)]
+#[derive(Clone, Copy)]
 pub struct Told {
     pub is_refused: bool,
     pub refusal: u64,

@@ -1,5 +1,7 @@
 // WHAT CARTS DO on a floor that events can go on with: enter, move, say whether they are steady, and go back to the factory. Each is refused first,
 // "Checks run down the table", and then is its step of the hand-off module.
+#![tactic(auto)]
+
 ghost use Rattle.std.specs.Prelude.{◌≡◌, Bool, false, List, [], ℕ, ◌*◌, ◌≤◌, length};
 ghost use Rattle.protocol.specs.Floor.{Product, limits_of, at};
 ghost use Rattle.protocol.specs.Events.{enter, move, flag, retire};

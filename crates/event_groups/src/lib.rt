@@ -1,5 +1,7 @@
 // WHICH CARTS ARE IN A GROUP, on a floor that events can go on with: "Kind 7 carries a group number .. and the set; an empty set undefines the group". It
 // is refused first, "Checks run down the table", and then is one word of the floor's own row.
+#![tactic(auto)]
+
 ghost use Rattle.std.specs.Prelude.{◌≡◌, false, List, [], ℕ, ◌*◌, ◌≤◌, length};
 ghost use Rattle.protocol.specs.Floor.{Product, limits_of};
 ghost use Rattle.protocol.specs.Events as events;

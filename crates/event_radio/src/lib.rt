@@ -1,5 +1,7 @@
 // WHAT A CART RECEIVES on a floor that events can go on with: a radio step. It is refused first, "Checks run down the table", and then is its
 // step of the wireless module.
+#![tactic(auto)]
+
 ghost use Rattle.std.specs.Prelude.{◌≡◌, ◌*◌, ◌≤◌, ◌<◌, length};
 ghost use Rattle.protocol.specs.Events.{radio};
 ghost use Rattle.stations.specs.View.{HasHead, HasStation, head_in};
@@ -19,7 +21,7 @@ use ids::{CartNumber, MessageNumber, Station};
 
 // What a radio step comes to: its answer, and the room of the message that was handed over. The text stays where it lies, in that room's part of the
 // lent octets or in the store; `deliver` copies it, and a printed line is made from it there.
-#[derive(Drop)]
+#[derive(Clone, Copy)]
 pub struct Handed {
     pub answer: Answer,
     pub room: usize,

@@ -1,5 +1,7 @@
 // SENDS on a floor that events can go on with: to a set of carts, to the members of a group, and of a long text. Each is refused first, "Checks run
 // down the table", and then is one and the same step of the wired module.
+#![tactic(auto)]
+
 ghost use Rattle.std.specs.Prelude.{◌≡◌, false, not, List, [], ℕ, ◌+◌, ◌*◌, ◌≤◌, ◌<◌, length};
 ghost use Rattle.protocol.specs.Floor.{Product, limits_of};
 ghost use Rattle.protocol.specs.Events.{send, send_group, send_long};
@@ -186,7 +188,7 @@ fn send_group_refusal(
 }
 
 // A message that went out: its number, and what the step counted.
-#[derive(Drop)]
+#[derive(Clone, Copy)]
 struct Posted {
     number: MessageNumber,
     effect: Effect,

@@ -1,4 +1,6 @@
 // START with the caller's limits.
+#![tactic(auto)]
+
 ghost use Rattle.std.specs.Prelude.{◌≡◌, []};
 ghost use Rattle.protocol.specs.Floor.{Limits, Product};
 ghost use Rattle.protocol.specs.Events.{start};

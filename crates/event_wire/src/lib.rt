@@ -1,5 +1,7 @@
 // WHAT THE WIRES DO on a floor that events can go on with: "Wire (from, to): the head record of that line is handled at to". It is refused
 // first, "Checks run down the table", and then is the step of the record's kind.
+#![tactic(auto)]
+
 ghost use Rattle.std.specs.Prelude.{◌≡◌, true, false, List, [], ℕ, ◌≤◌};
 ghost use Rattle.protocol.specs.Floor.{Product, limits_of};
 ghost use Rattle.protocol.specs.Events.{wire};

@@ -1,5 +1,7 @@
 // The events without their form test, under C names, for bench/events, which measures them beside the whole events of `mekhturia`. Each asks for a floor that
 // events can go on with, and for eight words to put its answer into: this crate is for measuring alone, and asks for them by `requires`.
+#![tactic(auto)]
+
 ghost use Rattle.std.specs.Prelude.{not, [], ◌≤◌, ◌<◌, eqb, length};
 ghost use Rattle.protocol.specs.Floor.{whole_floor};
 ghost use Rattle.protocol.specs.Events.{enter, send, wire, move, flag, send_group, send_long, retire};

@@ -1,5 +1,7 @@
 // Leaf functions, and the form test, for programs in other languages: bench/leaves and bench/form measure them beside plain Rust. Each does
 // what it calls does.
+#![tactic(auto)]
+
 ghost use Rattle.std.specs.Prelude.{◌≡◌, true, ℕ, ◌+◌, ◌*◌, ◌<◌, ◌≤◌, length};
 ghost use Rattle.protocol.specs.CartSets.{has, minus};
 ghost use Rattle.protocol.specs.Floor.{whole_floor, limits};

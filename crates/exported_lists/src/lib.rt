@@ -1,5 +1,7 @@
 // The lists kept by hand under C names, for measuring and for tests in other languages. An enum cannot cross, so what a reply says crosses as
 // numbers.
+#![tactic(auto)]
+
 ghost use Rattle.std.specs.Prelude.{◌≡◌};
 ghost use Rattle.protocol.specs.PlainLists.{plain_start, plain_send};
 ghost use Rattle.lists.specs.View.{lent_lists};
@@ -11,7 +13,7 @@ use lists::Reply;
 
 // A reply: the refusal, or 0; the message's number; how many octets its text has.
 #[repr(C)]
-#[derive(Drop)]
+#[derive(Clone, Copy)]
 pub struct Said {
     pub refusal: u64,
     pub number: u64,

@@ -1,4 +1,6 @@
 // The totals under C names, for tools/totals and for tests in other languages. An enum cannot cross, so what it says crosses as numbers.
+#![tactic(auto)]
+
 ghost use Rattle.std.specs.Prelude.{◌≡◌};
 ghost use Rattle.totals.specs.Totals.{totals_of, joined, ratio_of};
 ghost use Rattle.exported_totals.specs.Numbers.{summed_of, terms_of};
@@ -7,7 +9,7 @@ use totals::{CartResult, Fraction, Tally, Totalled};
 
 // What a sum or a join came to: the number of its refusal, or 0 and the totals.
 #[repr(C)]
-#[derive(Drop)]
+#[derive(Clone, Copy)]
 pub struct Summed {
     pub refusal: u64,
     pub received: u64,
@@ -16,7 +18,7 @@ pub struct Summed {
 
 // A fraction, passed over received. Received is 0 where there is none, and only there.
 #[repr(C)]
-#[derive(Drop)]
+#[derive(Clone, Copy)]
 pub struct Terms {
     pub passed: u64,
     pub received: u64,

@@ -1,5 +1,7 @@
 // THE GROUPS' CLAUSE OF THE FORM RULE: the members of each of the sixteen groups are carts of the floor that have entered. And whether the carts of
 // a set have, which a send and a group ask of the carts that they name.
+#![tactic(auto)]
+
 ghost use Rattle.std.specs.Prelude.{◌≡◌, true, not, [], ℕ, ◌*◌, ◌≤◌, length};
 ghost use Rattle.protocol.specs.Floor.{limits, entered};
 ghost use Rattle.protocol.specs.Groups.{group_count};

@@ -1,4 +1,6 @@
 // THE FORM TEST OF THE LINES, over the lent parts: one pass over the records, with masks of what was met.
+#![tactic(auto)]
+
 ghost use Rattle.std.specs.Prelude.{◌≡◌, ◌&&◌, ◌||◌, cond, not, true, false, List, ℕ, ◌+◌, ◌*◌, ◌<◌, ◌≤◌, ◌^◌, eqb, ltb, length};
 ghost use Rattle.protocol.specs.Folds.{every, list_of};
 ghost use Rattle.protocol.specs.CartSets.{has, with};
@@ -186,7 +188,7 @@ fn is_right(
 
 // What was met on the way: nothing was wrong; on this line the number of its next multicast and the rooms whose delete was met; the carts
 // whose hand-off was met. The carts whose acknowledgement was met stand in a word for each room, beside it.
-#[derive(Drop)]
+#[derive(Clone, Copy)]
 struct Way {
     ok: bool,
     next: u64,
@@ -322,7 +324,7 @@ fn meet(
 }
 
 // A walk, so far: its rows are rows of the pool, each met once, and the tails are right; and what was met on it.
-#[derive(Drop)]
+#[derive(Clone, Copy)]
 struct Walk {
     whole: bool,
     met: Way,
@@ -522,7 +524,7 @@ fn acked_by(messages: &[u64], m: usize) -> u64
 }
 
 // The acknowledgements at the initiator and in the ack lists: they stand in one place, and whose they are.
-#[derive(Drop)]
+#[derive(Clone, Copy)]
 struct Acked {
     apart: bool,
     carts: u64,

@@ -1,5 +1,7 @@
 // The form test of the three tables: the clauses of the form rule that look at no record on a line. "a written yes-or-no test of the floor
 // alone": each function answers the test of its clause, and ends at the first failure.
+#![tactic(auto)]
+
 ghost use Rattle.std.specs.Prelude.{◌≡◌, true, not, [], ℕ, ◌+◌, ◌*◌, ◌<◌, ◌≤◌, length, get_or};
 ghost use Rattle.protocol.specs.Floor.{whole_floor, Limits, Floor, limits, local_to, entered, is_message};
 ghost use Rattle.protocol.specs.CartSets.{has, set_of};
@@ -424,7 +426,7 @@ fn all_next(carts: &[u64], set: u64, s: u64, n: u64) -> bool
 
 // What the stations have of one room: the carts in any of its sets, the queued ones, and those of them that are queued where they are not
 // local.
-#[derive(Drop)]
+#[derive(Clone, Copy)]
 struct Gathered {
     sets: u64,
     queued: u64,

@@ -1,5 +1,7 @@
 // THE FORM TEST of the lent floor: "The form rule is a written yes-or-no test of the floor alone, the lengths of its lent parts included."
 // Any words, of any number, may be asked about. The limits are the caller's.
+#![tactic(auto)]
+
 ghost use Rattle.std.specs.Prelude.{◌≡◌};
 ghost use Rattle.protocol.specs.Floor.{Product, limits_of};
 ghost use Rattle.protocol.specs.Form.{passes_form};

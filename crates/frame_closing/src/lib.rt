@@ -1,5 +1,7 @@
 // A RUN AND ITS CLOSING: "reads frames as floor does, prints as floor does, and at the end of the input runs the floor until it is quiet and prints one
 // line more". The run is `frame_stream`'s and the quiet floor is `dispatcher`'s; here is the line, and when it is printed.
+#![tactic(auto)]
+
 ghost use Rattle.std.specs.Prelude.{◌≡◌, cond, ◌≤◌, length, take};
 ghost use Rattle.protocol.specs.Folds.{count};
 ghost use Rattle.protocol.specs.Floor.{whole_floor, limits};

@@ -1,8 +1,10 @@
 // EACH FILE OF FRAMES that the program's arguments name: a line with its name, and behind it what a program prints for it. The stored runs are such files.
+#![tactic(auto)]
+
 use libc::STDOUT_FILENO;
 
 // Which program it is that the file is an input of: `floor`, `demo`, `closing` or `training`.
-#[derive(Drop)]
+#[derive(Clone, Copy)]
 pub enum Program {
     Floor,
     Demo,

@@ -1,5 +1,7 @@
 // The printed run: "prints one line each: index from 0, kind, a, b, p, w. Refused: index, no, refusal", and "each accepted line gains a field q
 // after w". A line is written into octets that the caller lends; everything before it and behind it stays.
+#![tactic(auto)]
+
 ghost use Rattle.std.specs.Prelude.{◌≡◌, true, cond, [], ◌∷◌, ◌++◌, ◌+◌, ◌*◌, ◌/◌, ◌%◌, ◌<◌, ◌≤◌, ltb, length, take, drop};
 ghost use Rattle.protocol.specs.Events.{refused};
 ghost use Rattle.protocol.specs.Printed.{digit_char, decimal, hexadecimal, field, text_field, report_fields, rest_of, line_of};

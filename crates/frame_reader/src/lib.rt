@@ -1,5 +1,7 @@
 // "A reader over the lent frames keeps the octets and the position; a frame is either taken apart into one event or refused." And the check of a
 // whole stream, which walks it with a reader: how many whole frames it begins with, and which refusal stands behind them, and where.
+#![tactic(auto)]
+
 ghost use Rattle.std.specs.Prelude.{◌≡◌};
 ghost use Rattle.protocol.specs.Floor.{limits};
 ghost use Rattle.protocol.specs.Frames.{read_at, moved_to};
@@ -31,7 +33,7 @@ fn next_position(octets: &[u8], at: usize) -> usize
 }
 
 // "A reader over the lent frames keeps the octets and the position."
-#[derive(Drop)]
+#[derive(Clone, Copy)]
 pub struct Reader<'a> {
     pub octets: &'a [u8],
     pub at: usize,
@@ -66,7 +68,7 @@ impl<'a> Reader<'a> {
 
 // What a check of a stream finds: how many whole frames it begins with, the octet behind them, and the refusal number of what stands there, 0 at
 // the end of the stream.
-#[derive(Drop)]
+#[derive(Clone, Copy)]
 pub struct Checked {
     pub frames: u64,
     pub at: usize,

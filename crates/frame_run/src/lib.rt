@@ -1,5 +1,7 @@
 // THE RUN: frames in, one line each out, over a lent floor that nothing is tested twice of. "The program floor reads frames from standard input
 // and prints one line each."
+#![tactic(auto)]
+
 ghost use Rattle.std.specs.Prelude.{◌≡◌, true, false, not, ◌&&◌, ◌||◌, ◌+◌, ◌<◌, ◌≤◌, eqb, leb, length, drop};
 ghost use Rattle.protocol.specs.Events.{refused};
 ghost use Rattle.protocol.specs.Printed.{decimal, rest_of, line_of};
@@ -21,7 +23,7 @@ const FRAME: usize = 16;
 
 // An event that was dispatched, its line begun: where the line goes on behind its index, what the event answered, and, of a radio step, which room's
 // text was handed over and how many octets it has; and how many octets the event took of the input.
-#[derive(Drop)]
+#[derive(Clone, Copy)]
 pub struct Dispatched {
     pub next: usize,
     pub told: Told,
@@ -193,7 +195,7 @@ fn print<'a>(
 
 // How far a piece of input was run: the octets read from its front, the octets written to the front of the output, the frames, and why it
 // stopped.
-#[derive(Drop)]
+#[derive(Clone, Copy)]
 pub struct Progress {
     pub read: usize,
     pub written: usize,

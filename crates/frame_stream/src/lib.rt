@@ -1,6 +1,8 @@
 // FRAMES FROM ONE DESCRIPTOR, LINES TO ANOTHER: "reads frames from standard input and prints one line each". The run itself is `frame_run`; here
 // octets go between it and the descriptors, in large pieces, and the memory is the same whatever the input's length. Two functions touch a
 // descriptor, `read` and `hand_on`. All the others are about slices and numbers, and what they come to is the written stream (specs/Stream).
+#![tactic(auto)]
+
 ghost use Rattle.std.specs.Prelude.{◌≡◌, false, not, ◌&&◌, [], ◌+◌, ◌≤◌, ◌<◌, eqb, ltb, length, take};
 ghost use Rattle.stations.specs.View.{head_in};
 ghost use Rattle.frame_lines.specs.Lines.{Tabled};
@@ -16,7 +18,7 @@ use products::Bounds;
 
 // The piece of input: the octets up to `at` were run, those up to `have` were read. The index of the next frame; what is to be done; whether the
 // input has ended; and how many octets of the output were handed on in the last turn.
-#[derive(Drop)]
+#[derive(Clone, Copy)]
 pub struct Feed {
     pub at: usize,
     pub have: usize,
@@ -89,7 +91,7 @@ pub fn all_numbers() -> [u64; 10000]
 }
 
 // What a read brought: this many octets, of as many as it was handed to fill; or it failed.
-#[derive(Drop)]
+#[derive(Clone, Copy)]
 struct Got {
     count: usize,
     failed: bool,
@@ -155,7 +157,7 @@ pub fn more(from: i32, input: &mut [u8], f: Feed) -> Feed
 }
 
 // The lines that were handed on to be written: how many octets, and whether all of them were taken.
-#[derive(Drop)]
+#[derive(Clone, Copy)]
 pub struct Handed {
     pub size: usize,
     pub accepted: bool,
@@ -296,7 +298,7 @@ pub fn goes_on(turns: u64, f: Feed) -> bool
 
 // How a run came out: how many frames there were, the refused one among them, whether it is `OVER` or `FAILED`, and how many octets were read and
 // not run. An `OVER` run has none left at the end of its input, and some where a frame was refused.
-#[derive(Drop)]
+#[derive(Clone, Copy)]
 pub struct Ending {
     pub frames: u64,
     pub state: u64,

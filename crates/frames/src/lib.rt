@@ -1,4 +1,6 @@
 // Frames: "a frame is either taken apart into one event or refused".
+#![tactic(auto)]
+
 ghost use Rattle.std.specs.Prelude.{◌≡◌, List, ℕ, ◌+◌, ◌-◌, ◌<◌, ◌≤◌, ltb, length, take, drop};
 ghost use Rattle.std.proofs.Math.Seq.{paste};
 ghost use Rattle.protocol.specs.Floor.{limits};
@@ -9,7 +11,7 @@ ghost use Rattle.frames.specs.Decoded.{low_octets, fields_in, if_listed, if_whol
 use ids::{CartNumber, Station};
 
 // An event.
-#[derive(Drop)]
+#[derive(Clone, Copy)]
 pub enum Event {
     // How many stations, and how many carts.
     Start(u64, u64),
@@ -34,7 +36,7 @@ pub enum Event {
 }
 
 // What stands at a place: nothing, a frame that is refused, or an event.
-#[derive(Drop)]
+#[derive(Clone, Copy)]
 pub enum Reading {
     End,
     Refused(u64),
@@ -42,7 +44,7 @@ pub enum Reading {
 }
 
 // The sixteen octets of a frame as two numbers: kind to zero, and the set.
-#[derive(Drop)]
+#[derive(Clone, Copy)]
 struct Halves {
     head: u64,
     set: u64,

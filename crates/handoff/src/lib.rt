@@ -1,4 +1,6 @@
 // THE HAND-OFF MODULE over the lent parts: move, deregister, register, enter; a cart's flag; and a cart that goes back to the factory.
+#![tactic(auto)]
+
 ghost use Rattle.std.specs.Prelude.{◌≡◌, true, ℕ, ◌+◌, ◌<◌, ◌≤◌, length};
 ghost use Rattle.protocol.specs.CartSets.{has, set_of};
 ghost use Rattle.protocol.specs.Floor.{at, leaving};
@@ -26,7 +28,7 @@ use ids::{CartNumber, Station};
 use reports::Effect;
 
 // A row of next numbers after catch-up, "the numbers passed over in this step", and "the largest place given in that step, 0 if no cart was queued".
-#[derive(Drop)]
+#[derive(Clone, Copy)]
 struct Caught {
     row: [u64; 16],
     passed: u64,

@@ -1,17 +1,19 @@
 // The numbers of the floor: "A station number, a cart number and a message number are counted apart; one never stands where another
 // belongs". Each is a type of its own, so that a function which takes one takes no other.
+#![tactic(auto)]
+
 ghost use Rattle.std.specs.Prelude.{◌≡◌, ◌+◌, ◌<◌};
 
 // A station, "numbered from 0". It also names the initiator of a message.
-#[derive(Drop)]
+#[derive(Clone, Copy)]
 pub struct Station(pub u64);
 
 // A cart, "numbered from 0".
-#[derive(Drop)]
+#[derive(Clone, Copy)]
 pub struct CartNumber(pub u64);
 
 // A message among those of its initiator: "Each station numbers its own from 0".
-#[derive(Drop)]
+#[derive(Clone, Copy)]
 pub struct MessageNumber(pub u64);
 
 impl MessageNumber {

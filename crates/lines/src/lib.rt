@@ -7,6 +7,8 @@
 // A head and a tail have no meaning where the length is 0, nor has the next row of a tail, nor the row of a cart whose register is on no line:
 // a cart has one register at most, so its number finds the row. A push takes the lowest free row, by the lowest
 // bit of the summary and that of its word, so no free rows need a list, and push and pop cost the same whatever the pool holds.
+#![tactic(auto)]
+
 ghost use Rattle.std.specs.Prelude.{◌≡◌, true, ◌∷◌, ◌+◌, ◌-◌, ◌*◌, ◌<◌, ◌≤◌, length, drop, eqb};
 ghost use Rattle.protocol.specs.Folds.{every, list_of};
 ghost use Rattle.protocol.specs.CartSets.{digit};
@@ -38,7 +40,7 @@ const ROW_WORDS: usize = 3;
 const PAST_SUMMARY: u64 = 562949953421312;
 
 // A record of a line: its word and its carts, whose meaning is the caller's.
-#[derive(Drop)]
+#[derive(Clone, Copy)]
 pub struct Record(pub u64, pub u64);
 
 // ---- The words of the pool. The caller may walk a line by these: length_of rows from head_of, each followed by its next_of.
@@ -225,7 +227,7 @@ fn leave(pool: &mut [u64], k: usize, row: usize, n: usize)
 
 // A word of the free rows that a caller holds from push to push, so that no push has to wait for what the last one stored: word `at` of the
 // pool is `free`, whatever the pool still says. It is one that is not 0, where there is one: a word that is used up is stored at once.
-#[derive(Drop)]
+#[derive(Clone, Copy)]
 pub struct Held {
     pub at: usize,
     pub free: u64,

@@ -1,5 +1,7 @@
 // THE MESSAGES OF LISTS KEPT BY HAND, in rows by the order of their sends: who sent it, its number, the carts that have yet to take it, and its
 // text. "for every station and cart, a plain list of messages not yet received": the station's rows that the cart has yet to take.
+#![tactic(auto)]
+
 ghost use Rattle.std.specs.Prelude.{◌≡◌, List, ◌++◌, ℕ, ◌*◌, ◌<◌, ◌≤◌, length, take, drop};
 ghost use Rattle.protocol.specs.Folds.{update, by_option};
 ghost use Rattle.rows.specs.Rows.{RowIn};
@@ -32,7 +34,7 @@ pub const SENDS: usize = ROWS * WIDTH;
 pub const OCTETS: usize = ROWS * TEXT;
 
 // A message that carts have yet to take.
-#[derive(Drop)]
+#[derive(Clone, Copy)]
 pub struct Message {
     pub initiator: Station,
     pub number: MessageNumber,
@@ -67,7 +69,7 @@ pub fn copy_text(octets: &[u8], row: usize, size: usize, buffer: &mut [u8; TEXT]
 {
     let at = row * TEXT;
     let end = at + size;
-    bytes::copy(&octets[at..end], buffer);
+    octet_parts::copy(&octets[at..end], buffer);
 }
 
 // Another text in a row.
@@ -78,7 +80,7 @@ fn put_text(octets: &mut [u8], row: usize, text: &[u8])
 {
     let at = row * TEXT;
     let end = at + TEXT;
-    bytes::copy(text, &mut octets[at..end]);
+    octet_parts::copy(text, &mut octets[at..end]);
 }
 
 // A row written whole.

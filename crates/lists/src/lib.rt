@@ -6,6 +6,8 @@
 //
 // `start` takes any words. `send` and `take` ask for lists that are ready, those that pass the form rule or are not started, and leave them so:
 // who feeds lists from a start on need not test them at each call. `tested_lists` has the calls that ask for nothing.
+#![tactic(auto)]
+
 ghost use Rattle.std.specs.Prelude.{◌≡◌, true, ◌++◌, ◌-◌, ◌<◌, ◌≤◌, length, drop, set};
 ghost use Rattle.protocol.specs.Folds.{update};
 ghost use Rattle.protocol.specs.Floor.{limits};
@@ -48,7 +50,7 @@ const MOST_STATIONS: u64 = 16;
 const MOST_CARTS: u64 = 64;
 
 // What a call replies.
-#[derive(Drop)]
+#[derive(Clone, Copy)]
 pub enum Reply {
     // A refusal's number.
     Refused(u64),

@@ -2,6 +2,8 @@
 // floor, 1 the kit; and the run over frames. None asks anything of its caller: none has a `requires`. A lent slice crosses as its address and its length. Each
 // call is lent words for its answer, eight at least; lent fewer, or asked for a product that there is not, it touches nothing, and its status says so.
 // include/mekhturia.h is the same for a C compiler.
+#![tactic(auto)]
+
 ghost use Rattle.std.specs.Prelude.{◌≡◌, not, ◌<◌, ◌≤◌, eqb, length};
 ghost use Rattle.protocol.specs.Events.{start, enter, send, wire, move, flag, send_group, send_long, retire};
 ghost use Rattle.protocol.specs.Events as events;

@@ -1,4 +1,6 @@
 // The held messages: a lent table with a row for each room, and the lent octets of their short texts. "Its room is then used again."
+#![tactic(auto)]
+
 ghost use Rattle.std.specs.Prelude.{◌≡◌, ℕ, ◌≤◌, length, get_or};
 ghost use Rattle.messages.specs.View.{HasRoom, rooms_in, no_rooms, with_acked, with_waiting, with_offset, with_message};
 ghost use Rattle.messages.specs.Texts.{longest, HasText, text_in};
@@ -147,5 +149,5 @@ pub fn put_text(texts: &mut [u8], m: usize, text: &[u8])
 {
     let at = m * products::TEXT;
     let end = at + products::TEXT;
-    bytes::copy(text, &mut texts[at..end]);
+    octet_parts::copy(text, &mut texts[at..end]);
 }

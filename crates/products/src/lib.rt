@@ -1,4 +1,6 @@
 // THE PRODUCTS: "a second caller of the same steps with its own limits". The floor and the kit run the same code, and only these numbers differ.
+#![tactic(auto)]
+
 ghost use Rattle.protocol.specs.Floor.{whole_floor, kit};
 ghost use Rattle.products.specs.Numbers.{Fits, NumbersOf};
 
@@ -15,7 +17,7 @@ pub const LONG: usize = 512;
 pub const STORE: usize = 4096;
 
 // How many stations and carts a floor may have, how many messages may be held, and the last number of a message.
-#[derive(Drop)]
+#[derive(Clone, Copy)]
 pub struct Bounds {
     pub stations: u64,
     pub carts: u64,

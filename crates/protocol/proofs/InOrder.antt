@@ -145,7 +145,7 @@ those_among p [] k = refl
 those_among p (m ∷ l) k =
     by_test (p m)
     (λ e. rw (e, those_among p l k) (by_eq k m (λ z. rw (z, eqb_self m, e)) (λ z. rw (ne_eqb k m z))))
-    (λ e. rw (e, those_among p l k) (by_eq k m (λ z. rw (z, e, and-false (among m l), and-false (eqb m m || among m l))) (λ z. rw (ne_eqb k m z))))
+    (λ e. rw (e, those_among p l k) (by_eq k m (λ z. rw (z, e) (and-false (among m l) ∙ sym (and-false (eqb m m || among k l)))) (λ z. rw (ne_eqb k m z))))
 
 those_same : (p q : ℕ → Bool) (l : List ℕ) → EachOf (λ k. p k ≡ q k) l → those p l ≡ those q l
 those_same p q [] a = refl

@@ -154,6 +154,8 @@ taken_accepted M F (move c to) h x = absurd x
 taken_accepted M F (flag c b) h x = absurd x
 taken_accepted M F (group g set) h x = absurd x
 taken_accepted M F (send_group s g text) h x = absurd x
+taken_accepted M F (send_long s set text) h x = absurd x
+taken_accepted M F (retire c) h x = absurd x
 
 pub next_accepted : (M : Limits) (F : Floor) (e : Event) → passes_form M F ≡ true → next_event M F ≡ some e → (refusal M F e ≡ 0) × IsWork e
 next_accepted M F e h n = taken_accepted M F e h (let z = next_is_lem M F in rw n at z)
@@ -189,3 +191,5 @@ quiet_refuses M F (move c to) S h Q w z = w
 quiet_refuses M F (flag c b) S h Q w z = w
 quiet_refuses M F (group g set) S h Q w z = w
 quiet_refuses M F (send_group s g text) S h Q w z = w
+quiet_refuses M F (send_long s set text) S h Q w z = w
+quiet_refuses M F (retire c) S h Q w z = w

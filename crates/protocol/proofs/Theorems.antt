@@ -202,7 +202,7 @@ pub product_numbers : (P : Product) (F : Floor) → BlankBeyond (limits_of P) F 
     → NumbersBelow 4294967296 (limits_of P) F
 product_numbers P F B h =
     let M = limits_of P in
-    numbers_below 4294967296 M F (let z = P.last_Fit in omega arith) (form_of M F B (clauses_of M F h)) (numbers_in_range M F B h)
+    numbers_below 4294967296 M F (let z = P.last_fit in omega arith) (form_of M F B (clauses_of M F h)) (numbers_in_range M F B h)
 
 -- p: for the floor at most 16 × 4,294,967,295, which needs 36 bits, for the kit at most 4 × 65,535
 pub floor_passed : (F : Floor) (e : Event) (l : Report) → BlankBeyond limits F → passes_form limits F ≡ true → answer limits F e ≡ accepted l

@@ -1,4 +1,6 @@
 // The queue of a station: which message is its head, which of several stands first, which place an entry has, and whether "every local cart in the copy is in the ack list".
+#![tactic(auto)]
+
 ghost use Rattle.std.specs.Prelude.{◌≡◌, ◌&&◌, [], ◌<◌, ltb};
 ghost use Rattle.protocol.specs.CartSets.{has, minus};
 ghost use Rattle.protocol.specs.Wireless.{head_among};
@@ -15,7 +17,7 @@ use ids::Station;
 pub const NONE: usize = 32;
 
 // The room that stands first so far, or none, and its key.
-#[derive(Drop)]
+#[derive(Clone, Copy)]
 struct Best {
     head: usize,
     key: u64,

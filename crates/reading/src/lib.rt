@@ -1,5 +1,7 @@
 // THE READING CALL on a floor that passes the form rule: "An extra reading call, by initiator and number, lends back that text's own part of the short table
 // or of the long store, good until the next event". It changes nothing and is no event.
+#![tactic(auto)]
+
 ghost use Rattle.std.specs.Prelude.{◌≡◌, true, List, [], ℕ, ◌+◌, ◌*◌, ◌≤◌, ◌<◌, length};
 ghost use Rattle.protocol.specs.Folds.{first};
 ghost use Rattle.protocol.specs.Floor.{Product, limits_of, is_message};
@@ -14,7 +16,7 @@ ghost use Rattle.reading.specs.Parts.{front_part, part_of, read_in, LentFrom, le
 use ids::{MessageNumber, Station};
 
 // A part of the lent octets: of the store, or else of the short table; from which octet on, and how many.
-#[derive(Drop)]
+#[derive(Clone, Copy)]
 pub struct Part {
     pub stored: bool,
     pub at: usize,
@@ -22,7 +24,7 @@ pub struct Part {
 }
 
 // What the reading call comes to: its number, "0 if not refused", and the part that it lends back.
-#[derive(Drop)]
+#[derive(Clone, Copy)]
 pub struct Found {
     pub refusal: u64,
     pub part: Part,

@@ -1,10 +1,12 @@
 // WHAT A STEP COUNTS, and what the line of an accepted event says.
+#![tactic(auto)]
+
 ghost use Rattle.std.specs.Prelude.{◌≡◌};
 ghost use Rattle.reports.specs.Effects.{nothing, putting, queueing};
 
 // What a step counts: p, "the numbers passed over in this step", w, "the records put on lines", and q, "the largest place given in that step, 0 if no
 // cart was queued". Every step answers it, and every accepted answer carries it, so that one more number is one more field here.
-#[derive(Drop)]
+#[derive(Clone, Copy)]
 pub struct Effect {
     pub passed: u64,
     pub records: u64,
@@ -45,7 +47,7 @@ pub fn queueing(passed: u64, place: u64) -> Effect
 }
 
 // What the line of an accepted event says: "kind, a, b, p, w", q.
-#[derive(Drop)]
+#[derive(Clone, Copy)]
 pub struct Report {
     pub kind: u64,
     pub a: u64,

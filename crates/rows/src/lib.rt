@@ -1,4 +1,6 @@
 // Rows of words in lent tables: a word is read, a word is written, a whole table is cleared. The tables of the crates above are made of these.
+#![tactic(auto)]
+
 ghost use Rattle.std.specs.Prelude.{◌≡◌, ℕ, ◌<◌, length, get_or};
 ghost use Rattle.protocol.specs.Folds.{update2};
 ghost use Rattle.rows.specs.Rows.{cell, RowIn};

@@ -1,4 +1,6 @@
 // A set as the bits of a word: "cart c has weight 2^c". Sets of stations, of rooms and of free rows are the same, so a member here is a bare number.
+#![tactic(auto)]
+
 ghost use Rattle.std.specs.Prelude.{◌≡◌, true, cond, ℕ, ◌<◌, ◌≤◌};
 ghost use Rattle.std.proofs.Math.Option.{some};
 ghost use Rattle.protocol.specs.CartSets.{has, union, minus, with, without, set_of};

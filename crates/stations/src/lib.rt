@@ -1,4 +1,6 @@
 // The stations: everything that a station keeps, and the floor's own mark and counts, in one lent table of words.
+#![tactic(auto)]
+
 ghost use Rattle.std.specs.Prelude.{◌≡◌, ℕ, ◌<◌, ◌≤◌, cond, eqb, length, get_or};
 ghost use Rattle.protocol.specs.CartSets.{has, set_of};
 ghost use Rattle.protocol.specs.Folds.{update2};

@@ -1,5 +1,7 @@
 // THE STORE of the long texts: "Long texts lie in one store of 4,096 octets. A deleted message's octets are free again, and texts are moved together when
 // the free octets suffice but lie apart." Which octets are free is not kept: it is read off the rows of the held messages.
+#![tactic(auto)]
+
 ghost use Rattle.std.specs.Prelude.{◌≡◌, ◌++◌, ◌+◌, ◌*◌, ◌≤◌, max, leb, length, take, drop};
 ghost use Rattle.std.proofs.Math.Seq.{paste};
 ghost use Rattle.protocol.specs.Claims.{True, test, is, when, all};
@@ -138,7 +140,7 @@ fn larger(a: usize, b: usize) -> usize
 }
 
 // What the texts take: how many octets together, and where the last one ends.
-#[derive(Drop)]
+#[derive(Clone, Copy)]
 pub struct Filling {
     pub octets: usize,
     pub end: usize,
@@ -258,7 +260,7 @@ pub fn put_text(store: &mut [u8], offset: usize, text: &[u8])
     ensures store_len_unchanged { length store.new ≡ length store.old }
 {
     let end = offset + text.len();
-    bytes::copy(text, &mut store[offset..end]);
+    octet_parts::copy(text, &mut store[offset..end]);
 }
 
 // READING
@@ -300,9 +302,9 @@ pub fn copy_text(messages: &[u64], texts: &[u8], store: &[u8], m: usize, buffer:
     }
     let n = messages::length_of(messages, m) as usize;
     if n <= products::TEXT {
-        bytes::copy(part(texts, m * products::TEXT, n), buffer);
+        octet_parts::copy(part(texts, m * products::TEXT, n), buffer);
         return;
     }
     let offset = messages::offset_of(messages, m) as usize;
-    bytes::copy(part(store, offset, n), buffer);
+    octet_parts::copy(part(store, offset, n), buffer);
 }

@@ -1,6 +1,8 @@
 // THE EVENTS BEHIND THE FORM TEST, once for every product: each tests the lent floor by its caller's limits, "Refusals 5 (form rule and lent lengths) .. use the
 // caller's limits", and then calls the event's own crate. So does the reading call, which is no event. A contract holds for each product that has these
 // numbers. The start, which does not ask the form rule, is `event_start`'s.
+#![tactic(auto)]
+
 ghost use Rattle.std.specs.Prelude.{◌≡◌, [], ltb, length};
 ghost use Rattle.protocol.specs.Floor.{Product, limits, limits_of};
 ghost use Rattle.protocol.specs.Events.{enter, send, wire, move, flag, send_group, send_long, retire};

@@ -1,5 +1,7 @@
 // LISTS KEPT BY HAND, FOR ANY CALLER: the form test, and a start, a send and a take that ask nothing of their caller. Whatever is lent and
 // whatever numbers are given, each has an answer: lists "not started or against their own written form rule" are refused with 5.
+#![tactic(auto)]
+
 ghost use Rattle.std.specs.Prelude.{◌≡◌, List, ℕ, ◌*◌, ◌≤◌, length, get_or};
 ghost use Rattle.protocol.specs.Floor.{limits};
 ghost use Rattle.protocol.specs.Claims.{test, True};

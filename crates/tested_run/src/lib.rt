@@ -1,5 +1,7 @@
 // THE RUN BEHIND THE FORM TEST, once for every product: frames from one lent slice, their lines into another, over any lent floor. The floor is tested once,
 // and then no event tests it again. On a floor that no event can go on with every frame is answered all the same, an event with its refusal.
+#![tactic(auto)]
+
 ghost use Rattle.std.specs.Prelude.{◌≡◌, ◌+◌, ◌<◌, ◌≤◌, length};
 ghost use Rattle.protocol.specs.Floor.{Product};
 ghost use Rattle.protocol.specs.Events.{refused};

@@ -1,12 +1,14 @@
 // PASSED OVER PER RECEIPT: "how many numbers a cart passes over for each correction it receives, over all sites". Finished runs come as a
 // list of cart results, a site's list is summed into two totals, totals of several sites are joined, and their ratio is what is asked for.
 // This is no part of the floor: nothing here reads one. What each answer is, is written in specs/Totals.
+#![tactic(auto)]
+
 ghost use Rattle.std.specs.Prelude.{◌≡◌, cond, ◌+◌, ◌≤◌, ltb};
 ghost use Rattle.totals.specs.Totals.{added, counted, most_counted, most_results, most_total, totals_of, joined, gcd, ratio_of};
 
 // "cart results, each with cart, received and passed, both at most 4,294,967,295". The cart is not looked at.
 #[repr(C)]
-#[derive(Drop)]
+#[derive(Clone, Copy)]
 pub struct CartResult {
     pub cart: u32,
     pub received: u32,
@@ -14,21 +16,21 @@ pub struct CartResult {
 }
 
 // "totals as counted": how many corrections were received, and how many numbers passed over.
-#[derive(Drop)]
+#[derive(Clone, Copy)]
 pub struct Tally {
     pub received: u64,
     pub passed: u64,
 }
 
 // What a sum or a join answers: the number of a refusal, or the totals.
-#[derive(Drop)]
+#[derive(Clone, Copy)]
 pub enum Totalled {
     Refused(u64),
     Of(Tally),
 }
 
 // "total passed over total received, in lowest terms, or none where nothing was received".
-#[derive(Drop)]
+#[derive(Clone, Copy)]
 pub enum Fraction {
     None,
     Over(u64, u64),

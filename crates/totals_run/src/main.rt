@@ -1,4 +1,6 @@
 // STORED RUN of the totals, at the edges of their limits: a line for each call, with what it was asked and what it answered.
+#![tactic(auto)]
+
 ghost use Rattle.std.specs.Prelude.{◌≡◌, ◌≤◌, take};
 ghost use Rattle.totals.specs.Totals.{totals_of};
 

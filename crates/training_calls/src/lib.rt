@@ -1,6 +1,8 @@
 // THE FLOOR'S SIDE OF THE TRAINING BENCH: frames are run over the lent floor as `frame_run` runs them, but no line is printed. What is written instead is
 // the call to the lists that each frame makes: "given exactly the accepted sends (set or members) and radio steps in their order", and the accepted
 // start.
+#![tactic(auto)]
+
 ghost use Rattle.std.specs.Prelude.{◌≡◌, ◌&&◌, ◌+◌, ◌<◌, ◌≤◌, eqb, ltb, length, drop};
 ghost use Rattle.stations.specs.View.{HasHead, head_in};
 ghost use Rattle.view.specs.View.{lent};
@@ -75,7 +77,7 @@ fn call_of(e: Event, members: u64, told: Told, at: usize) -> Call
 }
 
 // What a frame's event came to: the call that it makes, and how many octets it took of the input.
-#[derive(Drop)]
+#[derive(Clone, Copy)]
 struct CallMade {
     call: Call,
     taken: usize,

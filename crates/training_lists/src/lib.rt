@@ -1,6 +1,8 @@
 // THE LISTS' SIDE OF THE TRAINING BENCH: the calls that the frames of a piece made are made to the lists, and each take has its line: "prints for each
 // accepted radio step the index and the list head's initiator and number, and nothing else". What is printed is the lists' reply, not the floor's
 // answer.
+#![tactic(auto)]
+
 ghost use Rattle.std.specs.Prelude.{◌≡◌, [], ◌∷◌, ◌++◌, ◌+◌, ◌*◌, ◌<◌, ◌≤◌, length};
 ghost use Rattle.std.proofs.Math.Option.{some};
 ghost use Rattle.protocol.specs.PlainLists.{plain_take};

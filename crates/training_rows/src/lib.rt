@@ -1,5 +1,7 @@
 // THE CALLS TO THE LISTS, in rows: the training bench "feeds both so from one standard input", and between the floor and the lists stands a table with
 // a row for each frame: the call that the frame makes, if it makes one.
+#![tactic(auto)]
+
 ghost use Rattle.std.specs.Prelude.{◌≡◌, ℕ, length};
 ghost use Rattle.protocol.specs.Folds.{update};
 ghost use Rattle.rows.specs.Rows.{RowIn};
@@ -8,7 +10,7 @@ ghost use Rattle.training_rows.specs.Calls.{width, call_of, words_of, calls_in};
 use ids::{CartNumber, Station};
 
 // The call that a frame makes.
-#[derive(Drop)]
+#[derive(Clone, Copy)]
 pub enum Call {
     // It makes none.
     Nothing,
@@ -43,7 +45,7 @@ const SEND: u64 = 2;
 const TAKE: u64 = 3;
 
 // The words of a row, as they are read and written.
-#[derive(Drop)]
+#[derive(Clone, Copy)]
 struct Words {
     kind: u64,
     first: u64,

@@ -1,5 +1,7 @@
 // THE STREAM OF THE TRAINING BENCH: frames from one descriptor, the lines of the lists' heads to another. The floor's parts go from turn to turn by value, so
 // that few slices are lent to one function.
+#![tactic(auto)]
+
 ghost use Rattle.std.specs.Prelude.{◌≡◌, ℕ, ◌<◌, length, take, get_or};
 ghost use Rattle.event_answers.specs.Met.{Ready};
 ghost use Rattle.frame_lines.specs.Lines.{Tabled};
@@ -17,7 +19,7 @@ use frame_run::Progress;
 use frame_stream::{Ending, Feed};
 
 // The lent parts of a floor.
-#[derive(Drop)]
+#[derive(Clone, Copy)]
 pub struct FloorMemory {
     stations: [u64; 1972],
     carts: [u64; 1216],
@@ -28,7 +30,7 @@ pub struct FloorMemory {
 }
 
 // A floor over which a piece was run, and how far.
-#[derive(Drop)]
+#[derive(Clone, Copy)]
 struct FloorRun {
     floor: FloorMemory,
     progress: Progress,
@@ -80,7 +82,7 @@ fn run_floor(
 }
 
 // The piece of input after a turn, and the floor.
-#[derive(Drop)]
+#[derive(Clone, Copy)]
 struct BenchTurn {
     feed: Feed,
     floor: FloorMemory,

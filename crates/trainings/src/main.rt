@@ -1,4 +1,6 @@
 // STORED RUNS OF THE TRAINING BENCH: prints what `training` prints for each file of frames that its arguments name, each under a line with the file's name.
+#![tactic(auto)]
+
 use frame_files::Program;
 
 fn main() {

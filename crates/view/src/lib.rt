@@ -1,4 +1,6 @@
 // The words of the records on the lines. The floor that all lent parts say is in specs/View, and what each write of a part is in it in proofs/.
+#![tactic(auto)]
+
 ghost use Rattle.std.specs.Prelude.{◌≡◌, ◌<◌};
 ghost use Rattle.stations.specs.View.{rooms};
 ghost use Rattle.view.specs.Records.{kind_of, index_of, number_of, word_of, words_of};

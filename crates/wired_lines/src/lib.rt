@@ -1,6 +1,8 @@
 // A RECORD TO EVERY STATION: the same record goes on the line from one station to each of the first n. Two steps do it: "a multicast goes on
 // the line to every station", and "a delete goes to every station". specs/ToEvery says what it leaves on the lines; proofs/EveryView, that
 // on the floor it is `put (to_every n s)`, that the words lie right again, and that n records are what such a step needs room for.
+#![tactic(auto)]
+
 ghost use Rattle.std.specs.Prelude.{◌≡◌, true, ◌+◌, ◌<◌, ◌≤◌};
 ghost use Rattle.lines.specs.Form.{form};
 ghost use Rattle.lines.specs.Lines.{used};

@@ -1,4 +1,6 @@
 // THE WIRED MODULE over the lent parts: the records of a message, handled at a station once they are off their line.
+#![tactic(auto)]
+
 ghost use Rattle.std.specs.Prelude.{◌≡◌, true, cond, not, List, ℕ, ◌+◌, ◌<◌, ◌≤◌, eqb};
 ghost use Rattle.protocol.specs.CartSets.{has, union, minus};
 ghost use Rattle.protocol.specs.Floor.{Product, limits_of};
@@ -24,7 +26,7 @@ use lines::Record;
 use reports::Effect;
 
 // The local carts as a message comes: those whose next number is its number, those whose next number is greater, and how many numbers rise.
-#[derive(Drop)]
+#[derive(Clone, Copy)]
 struct Sorted {
     due: u64,
     past: u64,

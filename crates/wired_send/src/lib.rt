@@ -1,4 +1,6 @@
 // START, AND SEND (of the wired module) over the lent parts.
+#![tactic(auto)]
+
 ghost use Rattle.std.specs.Prelude.{◌≡◌, true, ◌+◌, ◌*◌, ◌<◌, ◌≤◌, length};
 ghost use Rattle.lines.specs.Form.{form, sized};
 ghost use Rattle.lines.specs.Lines.{used};
@@ -72,7 +74,7 @@ pub fn start_floor(
 }
 
 // A message that is sent: the room that it gets, its initiator, its number and the set.
-#[derive(Drop)]
+#[derive(Clone, Copy)]
 pub struct NewMessage {
     pub room: usize,
     pub initiator: Station,

@@ -1,4 +1,6 @@
 // THE WIRELESS MODULE over the lent parts: the head message of a station's queue is handed to a cart.
+#![tactic(auto)]
+
 ghost use Rattle.std.specs.Prelude.{◌≡◌, true, ℕ, ◌+◌, ◌<◌, ◌≤◌, length};
 ghost use Rattle.stations.specs.View.{initiators, rooms, HasStation, stations_in};
 ghost use Rattle.carts.specs.View.{carts_in, canonical_in, with_next};
@@ -98,7 +100,7 @@ fn send_acks_if_all(
 }
 
 // What a catch-up came to: "the numbers passed over", and the place of the entry that the cart was put in, 0 if it was put in none.
-#[derive(Drop)]
+#[derive(Clone, Copy)]
 struct Caught {
     passed: u64,
     place: u64,

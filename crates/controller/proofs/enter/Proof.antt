@@ -1,8 +1,0 @@
--- `controller::enter` meets its contract.
-use borrow.Author.Rules.{rules}
-use Rattle.protocol.specs.Floor.{whole_floor}
-use Rattle.controller.proofs.enter.Statement.{statement}
-use Rattle.controller.proofs.enter.Tie as tie
-
-pub enter_spec : {M : Type 1} → statement M
-enter_spec = tie.close (tie.spec (λ c κs. search rules) (λ c κs. search rules) (λ c. search rules) (λ c. search rules) (λ c. c.before.before.before.before.enter.ensures whole_floor (search rules)))

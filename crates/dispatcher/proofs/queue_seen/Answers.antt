@@ -1,0 +1,10 @@
+-- `dispatcher::queue_seen` meets its contract.
+use mathlib.Core.Path.{ap, ◌∙◌}
+use borrow.Author.Rules.{rules}
+use Rattle.dispatcher.specs.Busy.{with_if_any}
+use Rattle.dispatcher.proofs.queue_seen.Goals as goal
+
+pub returns : goal.returns
+returns c =
+    let a = c.args in
+    c.with_if_any.ensures ∙ ap (with_if_any a.queued a.station.0) c.entries_of.ensures

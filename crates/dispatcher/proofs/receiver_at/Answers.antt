@@ -1,0 +1,31 @@
+-- `dispatcher::receiver_at` meets its contract.
+use Rattle.dispatcher.proofs.Choices.{head_asks, entry_asks, carts_asks, nobody_there, receiver_is}
+use Rattle.dispatcher.proofs.receiver_at.Goals as goal
+
+pub head-m-requires : goal.head-m-requires
+head-m-requires c =
+    let a = c.args in
+    let f = c.requires.0 in
+    head_asks f.product a.stations.now a.carts.now a.messages.now f.lines f.texts f.store f.passes a.station.0 c.requires.1
+
+pub returns-then-m-eq-NONE : goal.returns-then-m-eq-NONE
+returns-then-m-eq-NONE c =
+    let a = c.args in
+    λ P W T O p empty. nobody_there P a.stations.now a.carts.now a.messages.now W T O p a.station.0 c.requires.1 _ c.head-m.ensures empty c.if-m-eq-NONE.true
+
+pub queue_of-requires : goal.queue_of-requires
+queue_of-requires c =
+    let a = c.args in
+    let f = c.requires.0 in
+    entry_asks f.product a.stations.now a.carts.now a.messages.now f.lines f.texts f.store f.passes a.station.0 c.requires.1 _ c.head-m.ensures c.if-m-eq-NONE.false
+
+pub lowest_steady-requires : goal.lowest_steady-requires
+lowest_steady-requires c =
+    let a = c.args in
+    let f = c.requires.0 in
+    carts_asks f.product a.stations.now a.carts.now a.messages.now f.lines f.texts f.store f.passes a.station.0 c.requires.1 _ c.head-m.ensures c.if-m-eq-NONE.false _ c.queue_of.ensures
+
+pub returns : goal.returns
+returns c =
+    let a = c.args in
+    λ P W T O p empty. receiver_is P a.stations.now a.carts.now a.messages.now W T O p a.station.0 c.requires.1 _ c.head-m.ensures empty c.if-m-eq-NONE.false _ _ c.queue_of.ensures c.lowest_steady.ensures

@@ -1,0 +1,63 @@
+-- `event_wire::wire` meets its contract.
+use mathlib.Core.Path.{refl, sym, ◌∙◌}
+use mathlib.Core.Bool.{false}
+use Rattle.protocol.specs.Events.{wire}
+use Rattle.view.specs.View.{lent}
+use Rattle.event_answers.proofs.Meets.{meets_no}
+use Rattle.event_answers.proofs.Broken.{broken_wire}
+use Rattle.event_answers.proofs.Readies.{has_head, started_passes, unstarted_breaks}
+use Rattle.event_wire.proofs.HeadTaken.{checks_asks, head_asks, taken_off_lem, is_off}
+use borrow.Author.Rules.{rules}
+use mathlib.Core.Bool.{not}
+use mathlib.Core.Path.{ap}
+use Rattle.event_wire.proofs.wire.Goals as goal
+
+pub is_started-requires : goal.is_started-requires
+is_started-requires c =
+    let a = c.args in
+    has_head (lent c.requires.0 a.stations.now a.carts.now a.messages.now a.lines.now a.texts.now a.store.now) c.requires.1
+
+pub returns-then-not-is_started : goal.returns-then-not-is_started
+returns-then-not-is_started c =
+    let a = c.args in
+    λ P R. broken_wire (lent P a.stations.now a.carts.now a.messages.now a.lines.now a.texts.now a.store.now) false (unstarted_breaks (lent P a.stations.now a.carts.now a.messages.now a.lines.now a.texts.now a.store.now) _ c.is_started.ensures (ap not c.if-not-is_started.true)) refl a.from.0 a.to.0
+
+pub wire_refusal-refusal-requires : goal.wire_refusal-refusal-requires
+wire_refusal-refusal-requires c =
+    let a = c.args in
+    let P = c.requires.0 in
+    let passes = (started_passes (lent P a.stations.now a.carts.now a.messages.now a.lines.now a.texts.now a.store.now) _ c.is_started.ensures c.requires.1 (ap not c.if-not-is_started.false)) in
+    checks_asks P a.stations.now a.carts.now a.messages.now a.lines.now a.texts.now a.store.now a.from.0 a.to.0 passes
+
+pub returns-then-refusal-ne0 : goal.returns-then-refusal-ne0
+returns-then-refusal-ne0 c =
+    let a = c.args in
+    λ P R. meets_no (lent P a.stations.now a.carts.now a.messages.now a.lines.now a.texts.now a.store.now) (wire a.from.0 a.to.0) _ (started_passes (lent P a.stations.now a.carts.now a.messages.now a.lines.now a.texts.now a.store.now) _ c.is_started.ensures R (ap not c.if-not-is_started.false)) (c.wire_refusal-refusal.ensures P a.carts.now a.messages.now a.texts.now a.store.now) c.if-refusal-ne0.true
+
+pub front-said-requires : goal.front-said-requires
+front-said-requires c =
+    let a = c.args in
+    let P = c.requires.0 in
+    let passes = (started_passes (lent P a.stations.now a.carts.now a.messages.now a.lines.now a.texts.now a.store.now) _ c.is_started.ensures c.requires.1 (ap not c.if-not-is_started.false)) in
+    head_asks P a.stations.now a.carts.now a.messages.now a.lines.now a.texts.now a.store.now a.from.0 a.to.0 passes (sym c.if-refusal-ne0.false ∙ c.wire_refusal-refusal.ensures P a.carts.now a.messages.now a.texts.now a.store.now)
+
+pub pop_front-requires : goal.pop_front-requires
+pop_front-requires c =
+    let a = c.args in
+    let P = c.requires.0 in
+    let passes = (started_passes (lent P a.stations.now a.carts.now a.messages.now a.lines.now a.texts.now a.store.now) _ c.is_started.ensures c.requires.1 (ap not c.if-not-is_started.false)) in
+    head_asks P a.stations.now a.carts.now a.messages.now a.lines.now a.texts.now a.store.now a.from.0 a.to.0 passes (sym c.if-refusal-ne0.false ∙ c.wire_refusal-refusal.ensures P a.carts.now a.messages.now a.texts.now a.store.now)
+
+pub handle-requires : goal.handle-requires
+handle-requires c =
+    let a = c.args in
+    let P = c.requires.0 in
+    let passes = (started_passes (lent P a.stations.now a.carts.now a.messages.now a.lines.now a.texts.now a.store.now) _ c.is_started.ensures c.requires.1 (ap not c.if-not-is_started.false)) in
+    is_off P a.stations.now a.carts.now a.messages.now a.lines.now a.texts.now a.store.now a.from.0 a.to.0 passes (sym c.if-refusal-ne0.false ∙ c.wire_refusal-refusal.ensures P a.carts.now a.messages.now a.texts.now a.store.now) _ _ c.front-said.ensures c.pop_front.ensures
+
+pub returns : goal.returns
+returns c =
+    let a = c.args in
+    λ P R.
+    c.handle.ensures P a.lines.now a.texts.now a.store.now
+    (taken_off_lem P a.stations.now a.carts.now a.messages.now a.lines.now a.texts.now a.store.now a.from.0 a.to.0 (started_passes (lent P a.stations.now a.carts.now a.messages.now a.lines.now a.texts.now a.store.now) _ c.is_started.ensures R (ap not c.if-not-is_started.false)) (sym c.if-refusal-ne0.false ∙ c.wire_refusal-refusal.ensures P a.carts.now a.messages.now a.texts.now a.store.now) _ _ c.front-said.ensures c.pop_front.ensures)

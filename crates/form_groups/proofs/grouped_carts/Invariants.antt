@@ -1,0 +1,16 @@
+-- `form_groups::grouped_carts` meets its contract. The invariant: the members of the groups passed are collected.
+use mathlib.Core.Path.{◌≡◌, subst}
+use Prim.Native.Nat.{ℕ, ◌-◌, ◌≤◌}
+use native.Mathlib.Omega.{arith}
+use borrow.Author.Rules.{rules}
+use Rattle.protocol.specs.Groups.{group_count}
+use Rattle.stations.specs.View.{head_in}
+use Rattle.form_tables.specs.Parts.{Collects}
+use Rattle.form_tables.proofs.Sets.{collect_none, collect_more}
+use Rattle.form_groups.proofs.grouped_carts.Given as goal
+
+abbrev pub invariant-loop-group : goal.invariant-loop-group
+invariant-loop-group l = (l.group ≤ group_count) × Collects (head_in l.stations).groups l.group l.grouped
+
+abbrev pub decreases-loop-group : goal.decreases-loop-group
+decreases-loop-group l = group_count - l.group

@@ -1,0 +1,36 @@
+use borrow.Author.Rules.{rules}
+use mathlib.Core.Path.{refl, ap, ◌∙◌, ◌≡◌}
+use Prim.Native.Nat.{ℕ, ◌-◌, ◌≤◌}
+use native.Mathlib.Omega.{arith}
+use Rattle.protocol.specs.Folds.{every}
+use Rattle.carts.specs.View.{carts_in}
+use Rattle.messages.specs.View.{rooms_in}
+use Rattle.form_lines.specs.Pass.{ended}
+use Rattle.form_lines.proofs.PassLaws.{every_next}
+use Rattle.form_lines.proofs.all_ended.Goals as goal
+
+pub loop-m-init : goal.loop-m-init
+unfolding every
+loop-m-init c = (omega arith, refl)
+
+pub offset_bounds-masks-m : goal.offset_bounds-masks-m
+offset_bounds-masks-m c = omega arith
+
+pub bounds-masks-m : goal.bounds-masks-m
+bounds-masks-m c = omega arith
+
+pub has_ended-requires : goal.has_ended-requires
+has_ended-requires c = (c.requires.1, c.requires.2, c.requires.3, omega arith)
+
+pub overflow_add-m : goal.overflow_add-m
+overflow_add-m c = omega arith
+
+pub loop-m-smaller : goal.loop-m-smaller
+loop-m-smaller c = omega arith
+
+pub loop-m-preserved : goal.loop-m-preserved
+unfolding ended
+loop-m-preserved c = (omega arith, every_next (ended c.args.k (carts_in c.args.carts.now) (rooms_in c.args.messages.now) c.args.masks.now) c.loop-m.m c.loop-m.ok c.has_ended.result c.both-ok.result c.loop-m.invariant.1 c.has_ended.ensures c.both-ok.ensures)
+
+pub returns : goal.returns
+returns c = c.loop-m.invariant.1 ∙ ap (λ (x : ℕ). every x (ended c.args.k (carts_in c.args.carts.now) (rooms_in c.args.messages.now) c.args.masks.now)) (let z : c.loop-m.m ≡ 32 = omega arith in z)

@@ -1,0 +1,17 @@
+-- `form_lines::all_ended` meets its contract.
+use borrow.Author.Rules.{rules}
+use mathlib.Core.Path.{refl, ap, ◌∙◌, ◌≡◌}
+use Prim.Native.Nat.{ℕ, ◌-◌, ◌≤◌}
+use native.Mathlib.Omega.{arith}
+use Rattle.protocol.specs.Folds.{every}
+use Rattle.carts.specs.View.{carts_in}
+use Rattle.messages.specs.View.{rooms_in}
+use Rattle.form_lines.specs.Pass.{ended}
+use Rattle.form_lines.proofs.PassLaws.{every_next}
+use Rattle.form_lines.proofs.all_ended.Given as goal
+
+abbrev pub invariant-loop-m : goal.invariant-loop-m
+invariant-loop-m l = (l.m ≤ 32) × (l.ok ≡ every l.m (ended l.k (carts_in l.carts) (rooms_in l.messages) l.masks))
+
+abbrev pub decreases-loop-m : goal.decreases-loop-m
+decreases-loop-m l = 32 - l.m

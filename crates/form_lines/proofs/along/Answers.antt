@@ -1,0 +1,171 @@
+use mathlib.Core.Path.{sym, ◌∙◌, ◌≡◌}
+use mathlib.Core.List.{List, map}
+use Prim.Native.Nat.{ℕ, ◌+◌, ◌*◌}
+use native.Mathlib.Omega.{arith}
+use lib.ListN.{length}
+use Rattle.carts.specs.View.{carts_in}
+use Rattle.messages.specs.View.{rooms_in}
+use Rattle.lines.specs.Lines.{records_from, registers_in}
+use Rattle.lines.proofs.Sums.{false_true}
+use Rattle.lines.proofs.Formed.{sized_of}
+use Rattle.lines.proofs.Test as chains
+use Rattle.form_lines.specs.Said.{said, said_on}
+use Rattle.form_lines.specs.Pass.{along}
+use Rattle.form_lines.specs.Ways.{met_of}
+use Rattle.form_lines.proofs.StepLaws as steps
+use Rattle.form_lines.proofs.along.Goals as goal
+
+pub overflow_mul-line : goal.overflow_mul-line
+overflow_mul-line c = omega arith
+
+pub overflow_add-line : goal.overflow_add-line
+overflow_add-line c = omega arith
+
+pub row_count-rows-requires : goal.row_count-rows-requires
+row_count-rows-requires c =
+    let w : List ℕ = c.args.lines.now in
+    omega (arith, (sized_of w c.requires.4).0)
+
+pub length_of-left-requires : goal.length_of-left-requires
+length_of-left-requires c =
+    let w : List ℕ = c.args.lines.now in
+    omega (arith, (sized_of w c.requires.4).0)
+
+pub head_of-row-requires : goal.head_of-row-requires
+head_of-row-requires c =
+    let w : List ℕ = c.args.lines.now in
+    omega (arith, (sized_of w c.requires.4).0)
+
+pub tail_of-last-requires : goal.tail_of-last-requires
+tail_of-last-requires c =
+    let w : List ℕ = c.args.lines.now in
+    omega (arith, (sized_of w c.requires.4).0)
+
+pub loop-left-init : goal.loop-left-init
+loop-left-init c =
+    let w : List ℕ = c.args.lines.now in
+    let rows = c.row_count-rows in
+    let m = c.length_of-left in
+    let h = c.head_of-row in
+    let t = c.tail_of-last in (
+      c.requires.0,
+      chains.walk_start w (c.args.i * 16 + c.args.j) c.args.seen.now rows.result m.result h.result t.result rows.ensures c.requires.1 m.ensures h.ensures t.ensures,
+      steps.walk_start c.args.n c.args.k (carts_in c.args.carts.now) (rooms_in c.args.messages.now) (registers_in w) c.args.i c.args.j w m.result h.result (met_of c.args.way c.args.masks.now) m.ensures h.ensures,
+    )
+
+pub shape_of-masks-then-rows-row : goal.shape_of-masks-then-rows-row
+shape_of-masks-then-rows-row c =
+    let a = c.loop-left in
+    a.invariant.0 ∙ sym c.requires.0
+
+pub shape_of-seen-then-rows-row : goal.shape_of-seen-then-rows-row
+shape_of-seen-then-rows-row c =
+    let a = c.loop-left in
+    a.invariant.1.marks ∙ sym c.requires.1
+
+pub returns-then-rows-row : goal.returns-then-rows-row
+returns-then-rows-row c =
+    let w : List ℕ = c.args.lines.now in
+    let a = c.loop-left in
+    record {
+      walked = chains.walk_high w (c.args.i * 16 + c.args.j) c.args.seen.now c.row_count-rows.result a.seen a.left a.row a.last a.invariant.1 (omega arith) (omega arith);
+      masks_after = ((λ q. absurd (false_true q)), (a.invariant.0 ∙ sym c.requires.0, a.invariant.1.marks ∙ sym c.requires.1));
+    }
+
+pub is_marked-requires : goal.is_marked-requires
+is_marked-requires c =
+    let w : List ℕ = c.args.lines.now in
+    let a = c.loop-left in
+    omega (arith, a.invariant.1.marks, a.invariant.1.all, (sized_of w c.requires.4).1)
+
+pub shape_of-masks-then-is_marked : goal.shape_of-masks-then-is_marked
+shape_of-masks-then-is_marked c =
+    let a = c.loop-left in
+    a.invariant.0 ∙ sym c.requires.0
+
+pub shape_of-seen-then-is_marked : goal.shape_of-seen-then-is_marked
+shape_of-seen-then-is_marked c =
+    let a = c.loop-left in
+    a.invariant.1.marks ∙ sym c.requires.1
+
+pub returns-then-is_marked : goal.returns-then-is_marked
+returns-then-is_marked c =
+    let w : List ℕ = c.args.lines.now in
+    let a = c.loop-left in
+    let m = c.is_marked in
+    record {
+      walked = chains.walk_twice w (c.args.i * 16 + c.args.j) c.args.seen.now c.row_count-rows.result a.seen a.left a.row a.last a.invariant.1 (omega arith) m.result m.ensures c.if-is_marked.true (omega arith);
+      masks_after = ((λ q. absurd (false_true q)), (a.invariant.0 ∙ sym c.requires.0, a.invariant.1.marks ∙ sym c.requires.1));
+    }
+
+pub mark-requires : goal.mark-requires
+mark-requires c =
+    let w : List ℕ = c.args.lines.now in
+    let a = c.loop-left in
+    omega (arith, a.invariant.1.marks, a.invariant.1.all, (sized_of w c.requires.4).1)
+
+pub record_of-r-requires : goal.record_of-r-requires
+record_of-r-requires c =
+    let w : List ℕ = c.args.lines.now in
+    let a = c.loop-left in
+    omega (arith, a.invariant.1.all, (sized_of w c.requires.4).0)
+
+pub meet-met-requires : goal.meet-met-requires
+meet-met-requires c =
+    let w : List ℕ = c.args.lines.now in
+    let a = c.loop-left in
+    (a.invariant.0, c.requires.2, c.requires.3, omega (arith, (sized_of w c.requires.4).0), c.requires.5, c.requires.7)
+
+pub next_of-row-requires : goal.next_of-row-requires
+next_of-row-requires c =
+    let w : List ℕ = c.args.lines.now in
+    let a = c.loop-left in
+    omega (arith, c.if-rows-row.false, a.invariant.1.all, (sized_of w c.requires.4).0)
+
+pub overflow_sub-left : goal.overflow_sub-left
+overflow_sub-left c = omega arith
+
+pub loop-left-smaller : goal.loop-left-smaller
+loop-left-smaller c = omega arith
+
+pub loop-left-preserved : goal.loop-left-preserved
+loop-left-preserved c =
+    let w : List ℕ = c.args.lines.now in
+    let a = c.loop-left in
+    let m = c.is_marked in
+    let o = c.mark in
+    let r = c.record_of-r in
+    let e = c.meet-met in
+    let x = c.next_of-row in (
+      e.ensures.masks_len_unchanged ∙ a.invariant.0,
+      chains.walk_on w (c.args.i * 16 + c.args.j) c.args.seen.now c.row_count-rows.result a.seen a.left a.row a.last a.invariant.1 c.loop-left-test.true o.new.seen m.result x.result m.ensures c.if-is_marked.false c.if-rows-row.false o.ensures o.auto.0 x.ensures,
+      steps.walk_step c.args.n c.args.k (carts_in c.args.carts.now) (rooms_in c.args.messages.now) (registers_in w) c.args.i c.args.j w a.row a.left (met_of a.met a.masks) (met_of e.result e.new.masks) r.result x.result c.loop-left-test.true r.ensures x.ensures e.ensures.masks_after ∙ a.invariant.2,
+    )
+
+pub tail_of-requires : goal.tail_of-requires
+tail_of-requires c =
+    let w : List ℕ = c.args.lines.now in
+    omega (arith, (sized_of w c.requires.4).0)
+
+pub shape_of-masks : goal.shape_of-masks
+shape_of-masks c =
+    let a = c.loop-left in
+    a.invariant.0 ∙ sym c.requires.0
+
+pub shape_of-seen : goal.shape_of-seen
+shape_of-seen c =
+    let a = c.loop-left in
+    a.invariant.1.marks ∙ sym c.requires.1
+
+pub returns : goal.returns
+returns c =
+    let w : List ℕ = c.args.lines.now in
+    let a = c.loop-left in
+    let t = c.tail_of in
+    record {
+      walked = chains.walk_end w (c.args.i * 16 + c.args.j) c.args.seen.now c.row_count-rows.result a.seen a.left a.row a.last a.invariant.1 t.result t.ensures (omega arith);
+      masks_after = (
+        (λ q. steps.walk_end c.args.n c.args.k (carts_in c.args.carts.now) (rooms_in c.args.messages.now) (registers_in w) c.args.i c.args.j w a.row a.left (met_of a.met a.masks) (along c.args.n c.args.k (carts_in c.args.carts.now) (rooms_in c.args.messages.now) (registers_in w) (met_of c.args.way c.args.masks.now) c.args.i c.args.j (said_on w c.args.i c.args.j)) (omega arith) a.invariant.2),
+        (a.invariant.0 ∙ sym c.requires.0, a.invariant.1.marks ∙ sym c.requires.1),
+      );
+    }

@@ -1,0 +1,20 @@
+-- `form_lines::carries_row` meets its contract. The invariant: the numbers passed are the same.
+use mathlib.Core.Path.{◌≡◌, refl, ap, ap₂, ◌∙◌}
+use mathlib.Core.List.{List}
+use Prim.Native.Nat.{ℕ, ◌-◌, ◌≤◌}
+use native.Mathlib.Omega.{arith}
+use lib.Dec.{eqb}
+use lib.ListN.{get_or}
+use Rattle.protocol.specs.Folds.{every}
+use Rattle.protocol.proofs.Tests.{list_of_at}
+use Rattle.lines.specs.Lines.{registers_in}
+use Rattle.carts.specs.View.{carts_in}
+use Rattle.form_lines.proofs.PassLaws.{every_next}
+use borrow.Author.Rules.{rules}
+use Rattle.form_lines.proofs.carries_row.Given as goal
+
+abbrev pub invariant-loop-s : goal.invariant-loop-s
+invariant-loop-s l = (l.s ≤ 16) × (l.ok ≡ every l.s (λ t. eqb (registers_in l.lines l.cart.0 t) ((carts_in l.carts).next l.cart.0 t)))
+
+abbrev pub decreases-loop-s : goal.decreases-loop-s
+decreases-loop-s l = 16 - l.s

@@ -1,0 +1,26 @@
+-- `form_lines::from_each` meets its contract.
+use mathlib.Core.Path.{sym, ap, ◌∙◌, ◌≡◌}
+use Prim.Native.Nat.{ℕ, ◌+◌, ◌-◌, ◌*◌, ◌≤◌}
+use native.Mathlib.Omega.{arith}
+use lib.ListN.{length}
+use borrow.Author.Tests.{not-true, not-false}
+use Rattle.carts.specs.View.{carts_in}
+use Rattle.messages.specs.View.{rooms_in}
+use Rattle.stations.specs.View.{stations_in}
+use Rattle.form_lines.specs.Pass.{from_each}
+use Rattle.form_lines.specs.Ways.{met_of, Whole}
+use Rattle.form_lines.proofs.PassLaws.{each_none, each_next}
+use Rattle.form_lines.proofs.Chained.{whole_at, checked, broken}
+use mathlib.Core.Bool.{not}
+use Rattle.form_lines.proofs.from_each.Given as goal
+
+abbrev pub invariant-loop-i : goal.invariant-loop-i
+invariant-loop-i l =
+    (l.i ≤ 16)
+    × (length l.masks ≡ 32)
+    × (length l.seen ≡ 49)
+    × Whole l.lines (l.i * 16) l.seen
+    × (met_of l.met l.masks ≡ from_each l.n l.k (carts_in l.carts) (rooms_in l.messages) (stations_in l.stations) l.lines (met_of l.initial.met l.initial.masks) l.i)
+
+abbrev pub decreases-loop-i : goal.decreases-loop-i
+decreases-loop-i l = 16 - l.i

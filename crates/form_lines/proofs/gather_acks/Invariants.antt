@@ -1,0 +1,18 @@
+-- `form_lines::gather_acks` meets its contract.
+use borrow.Author.Rules.{rules}
+use mathlib.Core.Path.{refl, ap, ap₂, ◌∙◌, ◌≡◌}
+use Prim.Native.Nat.{ℕ, ◌-◌, ◌≤◌}
+use native.Mathlib.Omega.{arith}
+use Rattle.protocol.specs.Folds.{every}
+use Rattle.sets.specs.Masks.{disjoint}
+use Rattle.messages.specs.View.{rooms_in}
+use Rattle.stations.specs.View.{stations_in}
+use Rattle.form_lines.specs.Pass.{gathered, apart}
+use Rattle.form_lines.proofs.PassLaws.{every_next, gathered_next}
+use Rattle.form_lines.proofs.gather_acks.Given as goal
+
+abbrev pub invariant-loop-t : goal.invariant-loop-t
+invariant-loop-t l = (l.t ≤ l.n) × (l.carts ≡ gathered (stations_in l.stations) (rooms_in l.messages) l.m l.t) × (l.apart ≡ every l.t (λ u. disjoint 64 ((stations_in l.stations).acks l.m u) (gathered (stations_in l.stations) (rooms_in l.messages) l.m u)))
+
+abbrev pub decreases-loop-t : goal.decreases-loop-t
+decreases-loop-t l = l.n - l.t

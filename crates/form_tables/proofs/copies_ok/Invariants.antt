@@ -1,0 +1,16 @@
+-- `form_tables::copies_ok` meets its contract. The invariant: the copies of the rooms passed keep the rule.
+use Prim.Native.Nat.{◌-◌, ◌≤◌}
+use native.Mathlib.Omega.{arith}
+use borrow.Author.Tests.{not-true, not-false}
+use Rattle.protocol.specs.Claims.{True, all}
+use Rattle.protocol.proofs.Answers.{passed, refused, one_more, all_yes, all_no}
+use Rattle.form_tables.specs.Tables.{tables, copies_rule}
+use mathlib.Core.Bool.{not}
+use mathlib.Core.Path.{ap}
+use Rattle.form_tables.proofs.copies_ok.Given as goal
+
+abbrev pub invariant-loop-m : goal.invariant-loop-m
+invariant-loop-m l = (l.m ≤ l.held) × True (all l.m (copies_rule (tables l.stations l.carts l.messages)))
+
+abbrev pub decreases-loop-m : goal.decreases-loop-m
+decreases-loop-m l = l.held - l.m

@@ -1,0 +1,51 @@
+use mathlib.Core.Path.{ap, ◌∙◌}
+use Prim.Native.Nat.{ℕ, ◌-◌, ◌≤◌}
+use native.Mathlib.Omega.{arith}
+use borrow.Author.Rules.{rules}
+use borrow.Author.Tests.{not-true, not-false}
+use Rattle.protocol.specs.Floor.{limits}
+use Rattle.protocol.specs.Claims.{Claim, True, all}
+use Rattle.protocol.specs.Form.{entry_rule}
+use Rattle.protocol.proofs.Answers.{passed, refused, one_more, all_yes, all_no}
+use Rattle.form_tables.specs.Tables.{tables}
+use Rattle.form_tables.specs.Parts.{most_of}
+use mathlib.Core.Bool.{not}
+use Rattle.form_tables.proofs.entries_ok.Goals as goal
+
+pub cart_count-requires : goal.cart_count-requires
+cart_count-requires c = omega arith
+
+pub loop-m-init : goal.loop-m-init
+loop-m-init c = (omega arith, λ k l. absurd (omega arith))
+
+pub entries_of-requires : goal.entries_of-requires
+entries_of-requires c = (c.requires.0, omega arith, c.requires.1, c.most_of-most.ensures ∙ ap most_of c.cart_count.ensures, omega arith, c.requires.2, c.requires.3)
+
+pub returns-then-not-entries_of : goal.returns-then-not-entries_of
+returns-then-not-entries_of c =
+    let s = c.args in
+    let f : ℕ → Claim = λ k. all s.rows (entry_rule limits (tables s.stations.now s.carts.now s.messages.now) k) in
+    let a = c.loop-m in
+    let t = c.entries_of in
+    all_no s.held f a.m (omega arith) (refused (f a.m) t.result t.ensures (not-true _ (ap not c.if-not-entries_of.true)))
+
+pub overflow_add-m : goal.overflow_add-m
+overflow_add-m c = omega arith
+
+pub loop-m-smaller : goal.loop-m-smaller
+loop-m-smaller c = omega arith
+
+pub loop-m-preserved : goal.loop-m-preserved
+loop-m-preserved c =
+    let s = c.args in
+    let f : ℕ → Claim = λ k. all s.rows (entry_rule limits (tables s.stations.now s.carts.now s.messages.now) k) in
+    let a = c.loop-m in
+    let t = c.entries_of in
+    (omega arith, one_more f a.m a.invariant.1 (passed (f a.m) t.result t.ensures (not-false _ (ap not c.if-not-entries_of.false))))
+
+pub returns : goal.returns
+returns c =
+    let s = c.args in
+    let f : ℕ → Claim = λ k. all s.rows (entry_rule limits (tables s.stations.now s.carts.now s.messages.now) k) in
+    let a = c.loop-m in
+    all_yes s.held f a.m (omega arith) a.invariant.1

@@ -1,0 +1,52 @@
+use mathlib.Core.List.{[]}
+use Prim.Native.Nat.{◌-◌, ◌≤◌}
+use native.Mathlib.Omega.{arith}
+use borrow.Author.Rules.{rules}
+use Rattle.protocol.specs.Floor.{whole_floor}
+use Rattle.protocol.specs.Claims.{True, all, is}
+use Rattle.view.specs.View.{lent, local_right}
+use Rattle.form_tables.proofs.Locals.{mask_right}
+use Rattle.protocol.proofs.Answers.{one_more, all_yes, all_no}
+use Rattle.form_tables.proofs.locals_ok.Goals as goal
+
+pub loop-t-init : goal.loop-t-init
+loop-t-init c = (omega arith, λ k l. absurd (omega arith))
+
+pub local_of-requires : goal.local_of-requires
+local_of-requires c = omega arith
+
+pub offset_bounds-locals-t : goal.offset_bounds-locals-t
+offset_bounds-locals-t c = omega arith
+
+pub bounds-locals-t : goal.bounds-locals-t
+bounds-locals-t c = omega arith
+
+pub returns-then-local_of-locals : goal.returns-then-local_of-locals
+returns-then-local_of-locals c =
+    let s = c.args in
+    let a = c.loop-t in
+    let found = c.local_of in
+    all_no s.n (λ k. is (local_right (lent whole_floor s.stations.now s.carts.now [] [] [] []) k)) a.t (omega arith)
+    (λ h. c.if-local_of-locals.true ((mask_right s.stations.now s.carts.now a.t found.result _ found.ensures (c.locals_of-locals.ensures a.t (omega arith))).0 h))
+
+pub overflow_add-t : goal.overflow_add-t
+overflow_add-t c = omega arith
+
+pub loop-t-smaller : goal.loop-t-smaller
+loop-t-smaller c = omega arith
+
+pub loop-t-preserved : goal.loop-t-preserved
+loop-t-preserved c =
+    let s = c.args in
+    let a = c.loop-t in
+    let found = c.local_of in (
+      omega arith,
+      one_more (λ k. is (local_right (lent whole_floor s.stations.now s.carts.now [] [] [] []) k)) a.t a.invariant.1
+          ((mask_right s.stations.now s.carts.now a.t found.result _ found.ensures (c.locals_of-locals.ensures a.t (omega arith))).1 c.if-local_of-locals.false),
+    )
+
+pub returns : goal.returns
+returns c =
+    let s = c.args in
+    let a = c.loop-t in
+    all_yes s.n (λ k. is (local_right (lent whole_floor s.stations.now s.carts.now [] [] [] []) k)) a.t (omega arith) a.invariant.1

@@ -1,0 +1,14 @@
+-- `form_tables::row_ends` meets its contract. The invariant: the next numbers passed are 0.
+use Prim.Native.Nat.{◌-◌, ◌≤◌}
+use native.Mathlib.Omega.{arith}
+use borrow.Author.Rules.{rules}
+use Rattle.protocol.specs.Claims.{True, all, when, le, eq}
+use Rattle.carts.specs.View.{carts_in}
+use Rattle.protocol.proofs.Answers.{one_more, all_yes, all_no}
+use Rattle.form_tables.proofs.row_ends.Given as goal
+
+abbrev pub invariant-loop-s : goal.invariant-loop-s
+invariant-loop-s l = (l.n ≤ l.s) × (l.s ≤ 16) × True (all l.s (λ k. when (le l.n k) (eq ((carts_in l.carts).next l.number.0 k) 0)))
+
+abbrev pub decreases-loop-s : goal.decreases-loop-s
+decreases-loop-s l = 16 - l.s

@@ -1,0 +1,46 @@
+use mathlib.Core.List.{[]}
+use Prim.Native.Nat.{◌-◌, ◌≤◌}
+use native.Mathlib.Omega.{arith}
+use borrow.Author.Tests.{not-true, not-false}
+use mathlib.Core.Path.{◌≡◌}
+use Rattle.protocol.specs.Floor.{Limits}
+use Rattle.protocol.specs.Claims.{True, all}
+use Rattle.protocol.specs.Form.{station_rule}
+use Rattle.protocol.proofs.Answers.{passed, refused, one_more, all_yes, all_no}
+use Rattle.form_tables.specs.Tables.{tables}
+use mathlib.Core.Bool.{not}
+use mathlib.Core.Path.{ap}
+use Rattle.form_tables.proofs.stations_ok.Goals as goal
+
+pub loop-s-init : goal.loop-s-init
+loop-s-init c = (omega arith, λ M e k l. absurd (omega arith))
+
+pub station_ok-requires : goal.station_ok-requires
+station_ok-requires c = (omega arith, omega arith, omega arith)
+
+pub returns-then-not-station_ok : goal.returns-then-not-station_ok
+returns-then-not-station_ok c =
+    λ M e. let f = station_rule M (tables c.args.stations.now [] []) in
+    let a = c.loop-s in
+    let t = c.station_ok in
+    all_no c.args.n f a.s (omega arith) (refused (f a.s) t.result (t.ensures M e) (not-true _ (ap not c.if-not-station_ok.true)))
+
+pub overflow_add-s : goal.overflow_add-s
+overflow_add-s c = omega arith
+
+pub loop-s-smaller : goal.loop-s-smaller
+loop-s-smaller c = omega arith
+
+pub loop-s-preserved : goal.loop-s-preserved
+loop-s-preserved c =
+    let a = c.loop-s in
+    let t = c.station_ok in (
+      omega arith,
+      λ M e. let f = station_rule M (tables c.args.stations.now [] []) in
+          one_more f a.s (a.invariant.1 M e) (passed (f a.s) t.result (t.ensures M e) (not-false _ (ap not c.if-not-station_ok.false))),
+    )
+
+pub returns : goal.returns
+returns c =
+    let a = c.loop-s in
+    λ M e. all_yes c.args.n (station_rule M (tables c.args.stations.now [] [])) a.s (omega arith) (a.invariant.1 M e)

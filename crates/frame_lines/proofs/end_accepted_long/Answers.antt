@@ -1,0 +1,12 @@
+-- `frame_lines::end_accepted_long` meets its contract.
+use native.Mathlib.Omega.{arith}
+use Rattle.reports.specs.Effects.{report_in}
+use Rattle.frame_lines.proofs.Fields.{accepted_ended}
+use borrow.Author.Rules.{rules}
+use Rattle.frame_lines.proofs.end_accepted_long.Goals as goal
+
+pub returns : goal.returns
+returns c = accepted_ended (report_in c.args.r c.args.text.now) (omega arith) c.put_long_fields-fields.ensures
+
+pub shape_of-out : goal.shape_of-out
+shape_of-out c = (returns c).kept

@@ -1,0 +1,10 @@
+-- `frame_lines::letter` meets its contract.
+use native.Mathlib.Omega.{arith}
+use borrow.Author.Tests.{lt-ltb, le-ltb}
+use Rattle.frame_lines.proofs.letter.Goals as goal
+
+pub returns-then-d-lt10 : goal.returns-then-d-lt10
+returns-then-d-lt10 c = (rw (lt-ltb c.args.d 10 c.if-d-lt10.true), omega arith)
+
+pub returns-else-d-lt10 : goal.returns-else-d-lt10
+returns-else-d-lt10 c = (rw (le-ltb c.args.d 10 c.if-d-lt10.false), omega arith)

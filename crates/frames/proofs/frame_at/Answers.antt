@@ -1,0 +1,22 @@
+-- `frames::frame_at` meets its contract.
+use mathlib.Core.Path.{◌∙◌}
+use native.Mathlib.Omega.{arith}
+use lib.ListN.{drop}
+use Rattle.frames.specs.Decoded.{fields_in}
+use Rattle.frames.proofs.Laws.{nothing_left, cut_frame}
+use Rattle.frames.proofs.Values.{frame_read}
+use borrow.Author.Rules.{rules}
+use Rattle.frames.proofs.frame_at.Goals as goal
+
+pub returns-then-octets-at : goal.returns-then-octets-at
+returns-then-octets-at c = let a = c.args in nothing_left a.octets.now a.at (omega arith)
+
+pub returns-then-octets-at-lt-FRAME : goal.returns-then-octets-at-lt-FRAME
+returns-then-octets-at-lt-FRAME c = let a = c.args in cut_frame a.octets.now a.at (omega arith) (omega arith)
+
+pub returns : goal.returns
+returns c =
+    let a = c.args in
+    let h = c.halves_at in
+    c.reading_of.ensures (drop a.at a.octets.now)
+    ∙ frame_read a.octets.now a.at (fields_in h.result) (omega arith) h.ensures

@@ -1,0 +1,16 @@
+-- `frames::latest_of` meets its contract.
+use native.Mathlib.Omega.{arith}
+use Rattle.frames.proofs.Values.{unknown_read}
+use borrow.Author.Rules.{rules}
+use Rattle.frames.proofs.latest_of.Goals as goal
+
+pub returns-then-kind-eq10 : goal.returns-then-kind-eq10
+returns-then-kind-eq10 c = let a = c.args in λ l. c.retire_of.ensures l a.behind
+
+pub returns : goal.returns
+returns c =
+    let latest = c.requires in
+    let eight = c.if-kind-eq8.false in
+    let nine = c.if-kind-eq9.false in
+    let ten = c.if-kind-eq10.false in
+    λ l. unknown_read c.args.f c.args.behind l (omega arith)

@@ -1,0 +1,12 @@
+-- `frames::retire_of` meets its contract.
+use mathlib.Core.Path.{refl}
+use Rattle.frames.specs.Decoded.{fields_in}
+use Rattle.frames.proofs.Laws.{retire_event}
+use Rattle.frames.proofs.Values.{retire_read}
+use borrow.Author.Rules.{rules}
+use Rattle.frames.proofs.retire_of.Goals as goal
+
+pub returns : goal.returns
+returns c =
+    let f = c.args.f in
+    λ l behind. retire_read f behind l _ _ c.requires c.if_listed.ensures refl (retire_event (fields_in f) _ c.requires)

@@ -1,0 +1,20 @@
+-- `handoff::complete_rooms` meets its contract.
+use mathlib.Core.Path.{◌≡◌, sym, ◌∙◌}
+use Prim.Native.Nat.{ℕ, ◌+◌}
+use native.Mathlib.Omega.{arith}
+use borrow.Author.Rules.{rules}
+use Rattle.protocol.specs.CartSets.{set_of}
+use Rattle.sets.proofs.Walk.{Ahead, ahead_start, ahead_turn, ahead_end}
+use Rattle.stations.specs.View.{stations_in, listing_in}
+use Rattle.stations.proofs.TableLaws.{listing_word, listing_inside}
+use Rattle.messages.specs.View.{rooms_in}
+use Rattle.handoff.specs.Forwarded.{goes}
+use Rattle.handoff.proofs.ForwardLaws.{found_none, found_skips, found_more, not_listed}
+use Rattle.handoff.proofs.complete_rooms.Given as goal
+
+-- the walk has come to room k, and those of the rooms before it whose lists go are found
+abbrev pub invariant-loop-left : goal.invariant-loop-left
+invariant-loop-left l = (k : ℕ) × Ahead 32 (listing_in (stations_in l.stations) l.station.0) l.left k × (l.complete ≡ set_of k (goes (stations_in l.stations) (rooms_in l.messages) l.station.0))
+
+abbrev pub decreases-loop-left : goal.decreases-loop-left
+decreases-loop-left l = l.left

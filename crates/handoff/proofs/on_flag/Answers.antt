@@ -1,0 +1,10 @@
+-- `handoff::on_flag` meets its contract.
+use borrow.Author.Rules.{rules}
+use Rattle.handoff.proofs.on_flag.Goals as goal
+
+pub returns : goal.returns
+returns c =
+    record {
+      flagged = c.tell.ensures;
+      value = c.nothing.ensures;
+    }

@@ -1,0 +1,28 @@
+-- `handoff::strike` meets its contract.
+use mathlib.Core.Path.{◌≡◌, refl, ◌∙◌}
+use Prim.Native.Nat.{ℕ, ◌+◌}
+use native.Mathlib.Omega.{arith}
+use lib.ListN.{length}
+use borrow.Author.Rules.{rules}
+use Rattle.queue.specs.Rooms.{room_count}
+use Rattle.sets.proofs.Walk.{Ahead, ahead_start, ahead_turn}
+use Rattle.stations.specs.View.{stations_in, head_in}
+use Rattle.messages.specs.View.{rooms_in}
+use Rattle.catchup.specs.Naming.{Covers}
+use Rattle.catchup.proofs.NamingLaws.{by_initiator}
+use Rattle.handoff.proofs.PassedLaws.{passed_nowhere}
+use Rattle.handoff.proofs.RoomByRoom.{struck_to, strike_none, strike_by, strike_kept, strike_skips, strike_all}
+use Rattle.handoff.proofs.strike.Given as goal
+
+-- the walk over the rooms that may name the cart has come to room k, and the cart is struck in the rooms before it; those ahead may name it still
+abbrev pub invariant-loop-left : goal.invariant-loop-left
+invariant-loop-left l =
+    (k : ℕ)
+    × Ahead (room_count l.messages) l.naming l.left k
+    × (length l.stations ≡ length l.initial.stations)
+    × (head_in l.stations ≡ head_in l.initial.stations)
+    × (stations_in l.stations ≡ struck_to (stations_in l.initial.stations) (rooms_in l.messages) l.station.0 l.cart.0 l.row k)
+    × Covers (room_count l.messages) (stations_in l.stations) l.station.0 l.cart.0 l.ahead
+
+abbrev pub decreases-loop-left : goal.decreases-loop-left
+decreases-loop-left l = l.left

@@ -1,8 +1,0 @@
--- `kit::quiet` meets its contract.
-use borrow.Author.Rules.{rules}
-use Rattle.protocol.specs.Floor.{kit}
-use Rattle.kit.proofs.quiet.Statement.{statement}
-use Rattle.kit.proofs.quiet.Tie as tie
-
-pub quiet_spec : {M : Type 1} → statement M
-quiet_spec = tie.close (tie.spec (λ c κs. search rules) (λ c κs. search rules) (λ c. search rules) (λ c. search rules) (λ c. search rules) (λ c. search rules) (λ c. search rules) (λ c. c.before.before.before.before.before.before.before.before.before.before.quiet.ensures kit (search rules)))

@@ -1,8 +1,0 @@
--- `kit::radio` meets its contract.
-use borrow.Author.Rules.{rules}
-use Rattle.protocol.specs.Floor.{kit}
-use Rattle.kit.proofs.radio.Statement.{statement}
-use Rattle.kit.proofs.radio.Tie as tie
-
-pub radio_spec : {M : Type 1} → statement M
-radio_spec = tie.close (tie.spec (λ c κs. search rules) (λ c κs. search rules) (λ c. search rules) (λ c. search rules) (λ c. search rules) (λ c. search rules) (λ c. c.before.before.before.before.before.before.before.before.radio.ensures kit (search rules)))

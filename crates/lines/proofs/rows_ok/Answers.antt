@@ -1,0 +1,67 @@
+use native.Mathlib.Omega.{arith}
+use mathlib.Core.Path.{◌≡◌}
+use Prim.Native.Nat.{ℕ, ◌+◌, ◌-◌, ◌*◌, ◌≤◌, ◌<◌}
+use native.Mathlib.Nat.{not-suc-le-zero}
+use borrow.Author.Tests.{not-true, not-false}
+use lib.Dec.{ltb}
+use Rattle.protocol.specs.Form.{bit}
+use Rattle.lines.specs.Bits.{bit_at}
+use Rattle.lines.specs.Words.{capacity}
+use Rattle.lines.proofs.Formed.{sized_of}
+use Rattle.lines.proofs.Test.{word_fails, word_more, rows_end}
+use mathlib.Core.Bool.{not}
+use mathlib.Core.Path.{ap}
+use Rattle.lines.proofs.rows_ok.Goals as goal
+
+pub row_count-rows-requires : goal.row_count-rows-requires
+row_count-rows-requires c = omega (arith, (sized_of c.args.pool.now c.requires.0).0)
+
+pub loop-w-init : goal.loop-w-init
+loop-w-init c = (omega arith, λ x h. absurd (not-suc-le-zero h))
+
+pub offset_bounds-seen-w : goal.offset_bounds-seen-w
+offset_bounds-seen-w c = omega arith
+
+pub bounds-seen-w : goal.bounds-seen-w
+bounds-seen-w c = omega arith
+
+pub offset_bounds-pool-w : goal.offset_bounds-pool-w
+offset_bounds-pool-w c = omega arith
+
+pub bounds-pool-w : goal.bounds-pool-w
+bounds-pool-w c = omega (arith, (sized_of c.args.pool.now c.requires.0).0)
+
+pub full_word-requires : goal.full_word-requires
+full_word-requires c =
+    let rows = c.row_count-rows in
+    (omega (arith, (sized_of c.args.pool.now c.requires.0).1, rows.ensures), omega arith)
+
+pub word_ok-requires : goal.word_ok-requires
+word_ok-requires c = tt
+
+pub returns-then-not-word_ok : goal.returns-then-not-word_ok
+returns-then-not-word_ok c =
+    let a = c.loop-w in
+    let rows = c.row_count-rows in
+    let x = c.full_word in
+    let t = c.word_ok in
+    word_fails c.args.pool.now c.args.seen.now a.w rows.result x.result t.result rows.ensures x.ensures t.ensures (omega arith) (not-true _ (ap not c.if-not-word_ok.true))
+
+pub overflow_add-w : goal.overflow_add-w
+overflow_add-w c = omega arith
+
+pub loop-w-smaller : goal.loop-w-smaller
+loop-w-smaller c = omega arith
+
+pub loop-w-preserved : goal.loop-w-preserved
+loop-w-preserved c =
+    let a = c.loop-w in
+    let rows = c.row_count-rows in
+    let x = c.full_word in
+    let t = c.word_ok in
+    (omega arith, word_more c.args.pool.now c.args.seen.now a.w rows.result x.result t.result rows.ensures x.ensures t.ensures (not-false _ (ap not c.if-not-word_ok.false)) a.invariant.1)
+
+pub returns : goal.returns
+returns c =
+    let a = c.loop-w in
+    rows_end c.args.pool.now c.args.seen.now a.w (omega arith) a.invariant.1

@@ -1,0 +1,46 @@
+use native.Mathlib.Omega.{arith}
+use mathlib.Core.Path.{◌≡◌}
+use mathlib.Core.Bool.{true}
+use Prim.Native.Nat.{◌-◌, ◌≤◌}
+use Rattle.protocol.specs.Folds.{every}
+use Rattle.lines.proofs.Sums.{every_none}
+use Rattle.lines.proofs.Test.{summary_test, summary_fails, summary_more, summary_end}
+use Rattle.lines.proofs.summary_ok.Goals as goal
+
+pub bounds-pool-49 : goal.bounds-pool-49
+bounds-pool-49 c = omega arith
+
+pub loop-w-init : goal.loop-w-init
+loop-w-init c = (omega arith, every_none (summary_test c.args.pool.now))
+
+pub has-requires : goal.has-requires
+has-requires c = omega arith
+
+pub offset_bounds-pool-w : goal.offset_bounds-pool-w
+offset_bounds-pool-w c = omega arith
+
+pub bounds-pool-w : goal.bounds-pool-w
+bounds-pool-w c = omega arith
+
+pub returns-then-has-pool : goal.returns-then-has-pool
+returns-then-has-pool c =
+    let a = c.loop-w in
+    let d = c.has in
+    summary_fails c.args.pool.now a.w d.result d.ensures (omega arith) c.if-has-pool.true
+
+pub overflow_add-w : goal.overflow_add-w
+overflow_add-w c = omega arith
+
+pub loop-w-smaller : goal.loop-w-smaller
+loop-w-smaller c = omega arith
+
+pub loop-w-preserved : goal.loop-w-preserved
+loop-w-preserved c =
+    let a = c.loop-w in
+    let d = c.has in
+    (omega arith, summary_more c.args.pool.now a.w d.result d.ensures a.invariant.1 c.if-has-pool.false)
+
+pub returns : goal.returns
+returns c =
+    let a = c.loop-w in
+    summary_end c.args.pool.now a.w (omega arith) (omega arith) a.invariant.1

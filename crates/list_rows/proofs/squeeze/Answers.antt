@@ -1,0 +1,44 @@
+use mathlib.Core.Path.{◌≡◌, refl, ap, sym, ◌∙◌}
+use Prim.Native.Nat.{◌≤◌, ◌-◌}
+use native.Mathlib.Omega.{arith}
+use lib.ListN.{length}
+use native.Mathlib.Numerals.{add-one}
+use Rattle.list_rows.specs.Rows.{Row, Used, rows_in, used_rows, keep_row, squeezed}
+use Rattle.list_rows.proofs.ListLaws.{squeezed_used, squeezed_rest}
+use borrow.Author.Rules.{rules}
+use Rattle.list_rows.proofs.squeeze.Goals as goal
+
+pub loop-row-init : goal.loop-row-init
+unfolding squeezed
+loop-row-init c = (omega arith, refl, refl, refl)
+
+pub keep_row-kept-requires : goal.keep_row-kept-requires
+keep_row-kept-requires c =
+    let l = c.loop-row in
+    let T = rows_in c.args.sends.now c.args.octets.now in
+    let low : l.auto ≤ l.row = rw (ap (λ (U : Used). U.used) l.invariant.3) (squeezed_used T l.row) in
+    let same = ap (λ (U : Used). (U.rows l.row).size) l.invariant.3 ∙ ap (λ (x : Row). x.size) (squeezed_rest T l.row l.row (omega arith)) in
+    let small = c.requires.2 l.row c.loop-row-test.true in
+    (omega arith, omega arith, low, omega arith)
+
+pub overflow_add-row : goal.overflow_add-row
+overflow_add-row c = omega arith
+
+pub loop-row-smaller : goal.loop-row-smaller
+loop-row-smaller c = omega arith
+
+pub loop-row-preserved : goal.loop-row-preserved
+unfolding squeezed
+loop-row-preserved c =
+    let l = c.loop-row in
+    let T = rows_in c.args.sends.now c.args.octets.now in
+    (omega arith, search rules, search rules, c.keep_row-kept.ensures.result_after ∙ ap (λ (U : Used). keep_row U l.row) l.invariant.3 ∙ sym (ap (squeezed T) (add-one l.row)))
+
+pub returns : goal.returns
+returns c =
+    let l = c.loop-row in
+    let end : l.row ≡ c.args.used = omega arith in
+    record {
+      result_after = l.invariant.3 ∙ ap (squeezed (rows_in c.args.sends.now c.args.octets.now)) end;
+      sends_len_unchanged = (l.invariant.1, l.invariant.2);
+    }

@@ -1,0 +1,23 @@
+-- `mekhturia::mekhturia_text` meets its contract.
+use mathlib.Core.Path.{refl, ap, ◌∙◌}
+use native.Mathlib.Omega.{arith}
+use borrow.Author.Rules.{rules}
+use Rattle.answer_words.specs.Words.{read_words}
+use Rattle.mekhturia.proofs.Statuses.{untouched_by_status, answered_by_status, words_enough}
+use Rattle.mekhturia.proofs.mekhturia_text.Goals as goal
+
+pub returns-then-status-ne-ANSWERED : goal.returns-then-status-ne-ANSWERED
+returns-then-status-ne-ANSWERED c =
+    let a = c.args in
+    untouched_by_status a.product a.out.now _ c.status_of-status.ensures c.if-status-ne-ANSWERED.true _ _ refl
+
+pub put_read_words-requires : goal.put_read_words-requires
+put_read_words-requires c =
+    let a = c.args in
+    let enough = words_enough a.product a.out.now _ c.status_of-status.ensures c.if-status-ne-ANSWERED.false in omega (arith, enough)
+
+pub returns : goal.returns
+returns c =
+    let a = c.args in
+    answered_by_status a.product a.out.now _ c.status_of-status.ensures c.if-status-ne-ANSWERED.false _ _
+    (c.put_read_words.ensures.out_after ∙ ap (read_words a.out.now) (c.read-found.ensures _ c.bounds_of-bounds.ensures.1))

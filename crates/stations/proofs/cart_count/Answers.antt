@@ -1,0 +1,8 @@
+-- `stations::cart_count` meets its contract.
+use borrow.Author.Rules.{rules}
+use Rattle.stations.specs.View.{head_in}
+use Rattle.stations.proofs.cart_count.Goals as goal
+
+pub returns : goal.returns
+unfolding head_in
+returns c = c.word_at.ensures

@@ -1,0 +1,8 @@
+-- `stations::sent_of` meets its contract.
+use borrow.Author.Rules.{rules}
+use Rattle.stations.specs.View.{stations_in}
+use Rattle.stations.proofs.sent_of.Goals as goal
+
+pub returns : goal.returns
+unfolding stations_in
+returns c = c.word_of.ensures

@@ -1,0 +1,39 @@
+use mathlib.Core.Path.{◌≡◌}
+use mathlib.Core.Logic.{⊎_elim}
+use Prim.Native.Nat.{◌-◌, ◌≤◌}
+use native.Mathlib.Omega.{arith}
+use Rattle.messages.specs.View.{rooms_in}
+use Rattle.store.proofs.Lowest.{Best, best_start, best_take, best_skip, best_end}
+use Rattle.store.proofs.lowest_from.Goals as goal
+
+pub loop-m-init : goal.loop-m-init
+loop-m-init c = let a = c.args in (omega arith, best_start a.held (rooms_in a.messages.now) a.from)
+
+pub begin_from-begin-requires : goal.begin_from-begin-requires
+begin_from-begin-requires c = omega arith
+
+pub overflow_add-m : goal.overflow_add-m
+overflow_add-m c = omega arith
+
+pub loop-m-smaller : goal.loop-m-smaller
+loop-m-smaller c = omega arith
+
+pub loop-m-preserved : goal.loop-m-preserved
+loop-m-preserved c =
+    let a = c.args in
+    let R = rooms_in a.messages.now in
+    let l = c.loop-m in
+    let b = c.begin_from-begin in (
+      omega arith,
+      ⊎_elim
+          (λ w. rw (w.1, w.2) (best_take a.held R a.from l.m l.least l.room b.result l.invariant.1 b.ensures w.0.taken))
+          (λ w. rw (w.1, w.2) (best_skip a.held R a.from l.m l.least l.room b.result l.invariant.1 b.ensures w.0.left))
+          c.if-begin-least.branch,
+    )
+
+pub returns : goal.returns
+returns c =
+    let a = c.args in
+    let l = c.loop-m in
+    let all : l.m ≡ a.held = omega arith in
+    best_end a.held (rooms_in a.messages.now) a.from l.least l.room (rw all at l.invariant.1)

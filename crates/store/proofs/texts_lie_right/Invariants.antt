@@ -1,0 +1,17 @@
+-- `store::texts_lie_right` meets its contract. The invariant: the texts passed lie right.
+use Prim.Native.Nat.{◌-◌, ◌≤◌}
+use native.Mathlib.Omega.{arith}
+use borrow.Author.Tests.{not-true, not-false}
+use Rattle.protocol.specs.Claims.{True}
+use Rattle.protocol.proofs.Answers.{one_more, all_yes, all_no, passed, refused}
+use Rattle.messages.specs.View.{rooms_in}
+use Rattle.store.specs.Layout.{text_rule, layout_rule}
+use mathlib.Core.Bool.{not}
+use mathlib.Core.Path.{ap}
+use Rattle.store.proofs.texts_lie_right.Given as goal
+
+abbrev pub invariant-loop-m : goal.invariant-loop-m
+invariant-loop-m l = (l.m ≤ l.held) × True (layout_rule l.m (rooms_in l.messages))
+
+abbrev pub decreases-loop-m : goal.decreases-loop-m
+decreases-loop-m l = l.held - l.m

@@ -1,0 +1,11 @@
+-- `wired_send::on_send_long` meets its contract.
+use borrow.Author.Rules.{rules}
+use Rattle.wired_send.proofs.on_send_long.Goals as goal
+
+pub returns : goal.returns
+returns c =
+    record {
+      kept_long = c.keep_long_message.ensures;
+      announced = c.announce.ensures;
+      value = c.putting.ensures;
+    }
