@@ -39,7 +39,7 @@ loop-w-preserved c =
     let rows = c.row_count-rows in
     let x = c.full_word in
     let p = c.put_free in
-    (omega arith, p.auto.0 ∙ a.invariant.1, p.ensures.summary.small a.invariant.2, free_more a.pool p.new.pool rows.result a.w x.result p.ensures (omega arith) x.ensures a.invariant.3)
+    (omega arith, p.auto.pool ∙ a.invariant.1, p.ensures.summary.small a.invariant.2, free_more a.pool p.new.pool rows.result a.w x.result p.ensures (omega arith) x.ensures a.invariant.3)
 
 pub shape_of-pool : goal.shape_of-pool
 shape_of-pool c = simp length-set at c.loop-w.invariant.1

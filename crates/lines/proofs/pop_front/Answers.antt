@@ -38,4 +38,4 @@ returns c =
     let x = c.next_of in
     let l = c.leave in
     let g = c.give_row in
-    pop_is c.args.pool.now (c.args.i * 16 + c.args.j) c.requires.2 (omega arith) c.requires.3 h.result h.ensures l.new.pool n.result x.result n.ensures x.ensures l.ensures g.new.pool g.ensures g.auto.0
+    pop_is c.args.pool.now (c.args.i * 16 + c.args.j) c.requires.2 (omega arith) c.requires.3 h.result h.ensures l.new.pool n.result x.result n.ensures x.ensures l.ensures g.new.pool g.ensures g.auto.pool

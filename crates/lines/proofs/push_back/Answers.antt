@@ -20,7 +20,7 @@ join-requires c =
     let at = c.link_at-at in
     let n = c.length_of-n in
     let f = c.take_row-row in
-    join_fits c.args.pool.now f.new.pool at.result (c.args.i * 16 + c.args.j) f.result n.result c.args.r c.requires.2 (omega arith) f.ensures f.auto.0 n.ensures at.ensures
+    join_fits c.args.pool.now f.new.pool at.result (c.args.i * 16 + c.args.j) f.result n.result c.args.r c.requires.2 (omega arith) f.ensures f.auto.pool n.ensures at.ensures
 
 pub returns : goal.returns
 returns c =
@@ -28,4 +28,4 @@ returns c =
     let n = c.length_of-n in
     let f = c.take_row-row in
     let l = c.join in
-    push_is c.args.pool.now f.new.pool at.result (c.args.i * 16 + c.args.j) f.result n.result c.args.r c.requires.2 (omega arith) f.ensures f.auto.0 n.ensures at.ensures l.new.pool l.ensures
+    push_is c.args.pool.now f.new.pool at.result (c.args.i * 16 + c.args.j) f.result n.result c.args.r c.requires.2 (omega arith) f.ensures f.auto.pool n.ensures at.ensures l.new.pool l.ensures

@@ -41,7 +41,7 @@ join-requires c =
     (released h.new.pool h.result) b.result b.ensures (x.ensures b.result b.ensures) h.ensures.0 in
     held_fits c.args.pool.now c.args.held c.requires.held_value.0 c.requires.i_bound.2 h.new.pool h.result at.result
     (c.args.i * 16 + c.args.j) (c.args.held.at * 64 + b.result) n.result c.args.r (omega arith)
-    t h.ensures.1 h.auto.0 n.ensures at.ensures
+    t h.ensures.1 h.auto.pool n.ensures at.ensures
 
 pub returns : goal.returns
 returns c =
@@ -56,4 +56,4 @@ returns c =
     let l = c.join in
     held_push c.args.pool.now c.args.held c.requires.held_value.0 c.requires.i_bound.2 h.new.pool h.result at.result
     (c.args.i * 16 + c.args.j) (c.args.held.at * 64 + b.result) n.result c.args.r (omega arith)
-    t h.ensures.1 h.auto.0 n.ensures at.ensures l.new.pool l.ensures
+    t h.ensures.1 h.auto.pool n.ensures at.ensures l.new.pool l.ensures
