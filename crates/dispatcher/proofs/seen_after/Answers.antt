@@ -17,7 +17,7 @@ renewed-sources-requires c =
     let a = c.args in
     let w = c.next-1.given in
     let there = wire_places a.next w.0.0 w.0.1.0 w.1 a.stations.now c.requires.2 in
-    (there.1, c.taken_off-left.auto.0 ∙ c.requires.0, c.requires.1)
+    (there.1, c.taken_off-left.auto.targets ∙ c.requires.0, c.requires.1)
 
 pub queue_seen-queued-requires : goal.queue_seen-queued-requires
 queue_seen-queued-requires c =

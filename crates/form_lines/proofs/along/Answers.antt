@@ -138,7 +138,7 @@ loop-left-preserved c =
     let e = c.meet-met in
     let x = c.next_of-row in (
       e.ensures.masks_len_unchanged ∙ a.invariant.0,
-      chains.walk_on w (c.args.i * 16 + c.args.j) c.args.seen.now c.row_count-rows.result a.seen a.left a.row a.last a.invariant.1 c.loop-left-test.true o.new.seen m.result x.result m.ensures c.if-is_marked.false c.if-rows-row.false o.ensures o.auto.0 x.ensures,
+      chains.walk_on w (c.args.i * 16 + c.args.j) c.args.seen.now c.row_count-rows.result a.seen a.left a.row a.last a.invariant.1 c.loop-left-test.true o.new.seen m.result x.result m.ensures c.if-is_marked.false c.if-rows-row.false o.ensures o.auto.seen x.ensures,
       steps.walk_step c.args.n c.args.k (carts_in c.args.carts.now) (rooms_in c.args.messages.now) (registers_in w) c.args.i c.args.j w a.row a.left (met_of a.met a.masks) (met_of e.result e.new.masks) r.result x.result c.loop-left-test.true r.ensures x.ensures e.ensures.masks_after ∙ a.invariant.2,
     )
 

@@ -22,7 +22,7 @@ begin-ok-requires c = (refl, omega (arith, c.requires.0, c.requires.6), c.requir
 pub from_each-walk-requires : goal.from_each-walk-requires
 from_each-walk-requires c =
     let b = c.begin-ok in
-    (b.auto.0, refl, c.requires.0, c.requires.2, c.requires.1, c.requires.3, c.requires.5, whole_none c.args.lines.now (replicate 49 0) (λ x. none_seen 49 x))
+    (b.auto.masks, refl, c.requires.0, c.requires.2, c.requires.1, c.requires.3, c.requires.5, whole_none c.args.lines.now (replicate 49 0) (λ x. none_seen 49 x))
 
 pub returns-then-not-walk : goal.returns-then-not-walk
 returns-then-not-walk c =
@@ -32,7 +32,7 @@ returns-then-not-walk c =
 pub rest_ok-requires : goal.rest_ok-requires
 rest_ok-requires c =
     let f = c.from_each-walk in
-    (c.requires.3, f.auto.1.0, whole_end c.args.lines.now f.new.seen (f.ensures.checked.good (not-false _ (ap not c.if-not-walk.false))).0)
+    (c.requires.3, f.auto.seen, whole_end c.args.lines.now f.new.seen (f.ensures.checked.good (not-false _ (ap not c.if-not-walk.false))).0)
 
 pub returns-then-not-rest_ok : goal.returns-then-not-rest_ok
 returns-then-not-rest_ok c =

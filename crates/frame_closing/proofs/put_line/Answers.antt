@@ -33,7 +33,7 @@ pub held_messages-requires : goal.held_messages-requires
 held_messages-requires c =
     let a = c.args in
     let L = lent whole_floor a.stations.now a.carts.now a.messages.now a.lines.now a.texts.now a.store.now in
-    c.run_until_quiet-steps.auto.1.1.0 ∙ (lengths_of L c.requires.0.lengths).messages
+    c.run_until_quiet-steps.auto.messages ∙ (lengths_of L c.requires.0.lengths).messages
 
 pub returns : goal.returns
 returns c =

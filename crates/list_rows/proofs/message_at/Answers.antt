@@ -5,7 +5,7 @@ use Rattle.list_rows.proofs.message_at.Goals as goal
 pub returns : goal.returns
 returns c =
     λ i. record {
-  initiator = record { 0 = c.word_at.ensures i };
-  number = record { 0 = c.word_at-2.ensures i };
-  carts = c.word_at-3.ensures i;
-}
+      initiator = record { 0 = c.word_at.ensures i };
+      number = record { 0 = c.word_at-2.ensures i };
+      carts = c.word_at-3.ensures i;
+    }
