@@ -7,7 +7,10 @@ ghost use Rattle.frame_reader.specs.Checks.{check_in, after};
 ghost use Rattle.checkframes.specs.Progress.{state_after, Inside, Goes, Ended};
 
 use frame_reader::Checked;
-use libc::{STDIN_FILENO, STDOUT_FILENO};
+use std::env::{Env, FillError};
+use std::io::Read;
+use std::rt::Files;
+use std::{fs, io, str};
 
 // How far a file was checked: what its octets so far come to, how many of them are kept at the front of the input for the next piece, and what is
 // to be done.
@@ -41,16 +44,21 @@ struct Got {
 }
 
 // One read behind the octets that are kept, which stay.
-fn read_behind(fd: i32, input: &mut [u8], kept: usize) -> Got
+fn read_behind<R: Read>(from: &mut R, input: &mut [u8], kept: usize) -> Got
     requires { kept ≤ length input.old }
     ensures count_in_bounds { (kept + result.count ≤ length input.new) × (take kept input.new ≡ take kept input.old) }
     ensures input_len_unchanged { length input.new ≡ length input.old }
 {
     let end = input.len();
-    let got = libc::read(fd, &mut input[kept..end]);
-    Got {
-        count: io::count(got, &input[kept..end]),
-        failed: got < 0,
+    match from.read(&mut input[kept..end]) {
+        Ok(count) => Got {
+            count,
+            failed: false,
+        },
+        Err(_) => Got {
+            count: 0,
+            failed: true,
+        },
     }
 }
 
@@ -83,14 +91,14 @@ fn joined(found: Checked, piece: Checked) -> Checked
 }
 
 // One read behind the octets that are kept. The whole frames that are then there are checked, and the octets behind them kept.
-fn turn(fd: i32, input: &mut [u8], p: Progress) -> Progress
+fn turn<R: Read>(from: &mut R, input: &mut [u8], p: Progress) -> Progress
     requires { Inside input.old p × (p.found.at < 9223372036854775808) }
     ensures inside { Inside input.new result × (length input.new ≡ length input.old) }
     ensures goes { Goes (take p.kept input.old) (check_in p.found) (take result.kept input.new) result }
 {
     let found = p.found;
     let kept = p.kept;
-    let got = read_behind(fd, input, kept);
+    let got = read_behind(from, input, kept);
     let have = kept + got.count;
     let piece = frame_reader::check(&input[..have]);
     let left = frames::keep(input, piece.at, have);
@@ -116,8 +124,8 @@ fn goes_on(turns: u64, p: Progress) -> bool
     p.state == WANTS
 }
 
-// The check of all that a descriptor gives.
-fn check_all(fd: i32, input: &mut [u8]) -> Progress
+// The check of all that a reader gives.
+fn check_all<R: Read>(from: &mut R, input: &mut [u8]) -> Progress
     requires { length input.old ≡ 65536 }
     ensures { Ended result }
 {
@@ -134,63 +142,90 @@ fn check_all(fd: i32, input: &mut [u8]) -> Progress
     let mut turns = u64::MAX;
     while goes_on(turns, p) {
         turns -= 1;
-        p = turn(fd, input, p);
+        p = turn(from, input, p);
     }
     p
 }
 
+// A reader that keeps why its last read failed, which the check itself has no use for.
+#[derive(Drop)]
+struct Noted<R> {
+    inner: R,
+    why: Option<io::Error>,
+}
+
+impl<R: Read> Read for Noted<R> {
+    fn read(&mut self, buf: &mut [u8]) -> io::Result<usize> {
+        let answer = self.inner.read(buf);
+        if let Err(why) = answer {
+            self.why = Some(why);
+        }
+        answer
+    }
+}
+
 // A file's line: its name, how many whole frames it begins with, and that this is all, or the refusal and the octet of what stands behind them.
-fn print(name: &[u8], found: Checked) {
-    io::write_all(STDOUT_FILENO, name);
-    io::write_all(STDOUT_FILENO, b": frames ");
-    io::print_decimal(STDOUT_FILENO, found.frames);
+fn print<P: Print>(rt: &P, name: &str, found: Checked) -> io::Result<()> {
+    let frames = found.frames;
     if found.refusal == 0 {
-        io::write_all(STDOUT_FILENO, b", whole\n");
-        return;
+        return println!(rt; "{name}: frames {frames}, whole");
     }
-    io::write_all(STDOUT_FILENO, b", refusal ");
-    io::print_decimal(STDOUT_FILENO, found.refusal);
-    io::write_all(STDOUT_FILENO, b" at octet ");
-    io::print_decimal(STDOUT_FILENO, found.at as u64);
-    io::write_all(STDOUT_FILENO, b"\n");
+    let refusal = found.refusal;
+    let at = found.at;
+    println!(rt; "{name}: frames {frames}, refusal {refusal} at octet {at}")
 }
 
-// The line of a descriptor's octets, or why they cannot be read.
-fn check_descriptor(fd: i32, name: &[u8]) {
-    let mut input = io::large_buffer();
-    let p = check_all(fd, &mut input);
+// A line on standard error: what failed, and why. Where it cannot be written, there is nobody to be told.
+fn fail<P: Eprint>(rt: &P, what: &str, why: io::Error) {
+    let _ = eprintln!(rt; "{what}: {why}");
+}
+
+// The line of a reader's octets, or why they cannot be read.
+fn check_reader<P: Print + Eprint, R: Read + Drop>(rt: &P, from: R, name: &str) {
+    let mut input = [0u8; 65536];
+    let mut noted = Noted {
+        inner: from,
+        why: None,
+    };
+    let p = check_all(&mut noted, &mut input);
     if p.state == FAILED {
-        os::fail(name);
+        let why = noted.why.unwrap_or(io::Error::from(io::ErrorKind::Other));
+        fail(rt, name, why);
         return;
     }
-    print(name, p.found);
+    let _ = print(rt, name, p.found);
 }
 
-// The file that an argument names.
-fn check_argument(i: usize) {
-    let mut path = io::buffer();
-    let length = os::arg(i, &mut path);
-    if os::errno() != 0 {
-        os::fail(b"path");
-        return;
+// The file of this name, or why it cannot be opened.
+fn check_file<P: Files + Print + Eprint>(rt: &P, path: &str) {
+    match fs::open(rt, path) {
+        Ok(file) => check_reader(rt, file, path),
+        Err(why) => fail(rt, path, why),
     }
-    let fd = os::open_read(&path[..length]);
-    if fd < 0 {
-        os::fail(&path[..length]);
-        return;
-    }
-    check_descriptor(fd, &path[..length]);
-    libc::close(fd);
 }
 
-fn main() {
-    let n = os::arg_count();
-    if n < 2 {
-        check_descriptor(STDIN_FILENO, b"standard input");
+// The file that an argument names. std takes a name as text.
+fn check_argument<P: Files + Print + Eprint>(rt: &P, name: &[u8]) {
+    match str::from_utf8(name) {
+        Ok(path) => check_file(rt, path),
+        Err(_) => fail(rt, "path", io::Error::from(io::ErrorKind::InvalidFilename)),
     }
-    let mut i: usize = 1;
-    while i < n {
-        check_argument(i);
-        i += 1;
+}
+
+fn main(rt: HostRuntime) {
+    let mut name = [0u8; 4096];
+    if let Err(FillError::NotPresent) = rt.arg(1, &mut name) {
+        check_reader(&rt, rt.stdin(), "standard input");
+    }
+    for i in 1..usize::MAX {
+        match rt.arg(i, &mut name) {
+            Ok(length) => check_argument(&rt, &name[..length]),
+            Err(FillError::NotPresent) => return,
+            Err(FillError::TooLong) => fail(
+                &rt,
+                "path",
+                io::Error::from(io::ErrorKind::InvalidFilename),
+            ),
+        }
     }
 }

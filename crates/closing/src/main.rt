@@ -2,8 +2,6 @@
 // line more, quiet, the number of steps, and how many messages are then held".
 #![tactic(auto)]
 
-use libc::{STDIN_FILENO, STDOUT_FILENO};
-
-fn main() {
-    frame_closing::close(STDIN_FILENO, STDOUT_FILENO);
+fn main(rt: HostRuntime) {
+    frame_closing::close(&mut rt.stdin(), &mut rt.stdout());
 }

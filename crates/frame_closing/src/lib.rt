@@ -14,6 +14,7 @@ ghost use Rattle.event_answers.specs.Met.{Ready};
 ghost use Rattle.frame_closing.specs.Closed.{longest_closing, answer_line, is_taken, at_end, last_line, after_line, Closed};
 
 use frame_stream::{Ending, Handed};
+use std::io::{Read, Write};
 
 // The longest line: the word, two numbers of at most twenty digits, each with a blank before it, and the line end.
 const LONGEST: usize = 5 + 2 * (1 + 20) + 1;
@@ -120,8 +121,8 @@ fn at_end(run: Ending) -> bool
 }
 
 // The line behind those of the run, if there is one.
-fn hand_line(
-    to: i32,
+fn hand_line<W: Write>(
+    to: &mut W,
     run: Ending,
     line: &mut [u8],
     stations: &mut [u64],
@@ -158,9 +159,9 @@ fn after_line(run: Ending, handed: Handed) -> Ending
     }
 }
 
-// THE RUN OF ONE INPUT AND ITS CLOSING: frames from one descriptor, lines to the other, over a floor of its own; then the line of the floor that is
+// THE RUN OF ONE INPUT AND ITS CLOSING: frames from a reader, lines to a writer, over a floor of its own; then the line of the floor that is
 // left. What is handed on together is the printed closing.
-pub fn close(from: i32, to: i32) -> Ending
+pub fn close<R: Read, W: Write>(from: &mut R, to: &mut W) -> Ending
     ensures { Closed result }
 {
     let mut stations = frame_stream::no_stations();

@@ -1,6 +1,6 @@
-// FRAMES FROM ONE DESCRIPTOR, LINES TO ANOTHER: "reads frames from standard input and prints one line each". The run itself is `frame_run`; here
-// octets go between it and the descriptors, in large pieces, and the memory is the same whatever the input's length. Two functions touch a
-// descriptor, `read` and `hand_on`. All the others are about slices and numbers, and what they come to is the written stream (specs/Stream).
+// FRAMES FROM A READER, LINES TO A WRITER: "reads frames from standard input and prints one line each". The run itself is `frame_run`; here
+// octets go between it and the two, in large pieces, and the memory is the same whatever the input's length. Two functions touch them, `read`
+// and `hand_on`. All the others are about slices and numbers, and what they come to is the written stream (specs/Stream).
 #![tactic(auto)]
 
 ghost use Rattle.std.specs.Prelude.{◌≡◌, false, not, ◌&&◌, [], ◌+◌, ◌≤◌, ◌<◌, eqb, ltb, length, take};
@@ -15,6 +15,7 @@ ghost use Rattle.frame_stream.specs.Feed.{Inside, stream_of, Made, got_of, after
 
 use frame_run::Progress;
 use products::Bounds;
+use std::io::{Read, Result, Write};
 
 // The piece of input: the octets up to `at` were run, those up to `have` were read. The index of the next frame; what is to be done; whether the
 // input has ended; and how many octets of the output were handed on in the last turn.
@@ -109,12 +110,20 @@ fn got_of(answer: isize, rest: &[u8]) -> Got
     }
 }
 
+// A read's answer as one number: how many octets it brought, and a negative one where it failed.
+fn answer_of(answer: Result<usize>) -> isize {
+    match answer {
+        Ok(count) => count.cast_signed(),
+        Err(_) => -1,
+    }
+}
+
 // One read, into the rest of the piece.
-fn read(fd: i32, rest: &mut [u8]) -> Got
+fn read<R: Read>(from: &mut R, rest: &mut [u8]) -> Got
     ensures room_value { (result.room ≡ length rest.old) × (result.count ≤ result.room) }
     ensures rest_len_unchanged { length rest.new ≡ length rest.old }
 {
-    let answer = libc::read(fd, rest);
+    let answer = answer_of(from.read(rest));
     got_of(answer, rest)
 }
 
@@ -145,7 +154,7 @@ fn after_read(size: usize, kept: usize, got: Got, f: Feed) -> Feed
 }
 
 // More input behind what is not run yet.
-pub fn more(from: i32, input: &mut [u8], f: Feed) -> Feed
+pub fn more<R: Read>(from: &mut R, input: &mut [u8], f: Feed) -> Feed
     requires { Inside (length input.old) f × (f.state ≡ 1) × (length input.old ≡ 65536) }
     ensures inside { Inside (length input.new) result × ((L : Lent) → Made (stream_of input.old L f) (stream_of input.new L result) []) × (result.handed ≡ 0) }
     ensures input_len_unchanged { length input.new ≡ length input.old }
@@ -164,10 +173,10 @@ pub struct Handed {
 }
 
 // One write of all the lines.
-pub fn hand_on(to: i32, lines: &[u8]) -> Handed
+pub fn hand_on<W: Write>(to: &mut W, lines: &[u8]) -> Handed
     ensures { result.size ≡ length lines.now }
 {
-    let accepted = io::write_all(to, lines);
+    let accepted = to.write_all(lines).is_ok();
     Handed {
         size: lines.len(),
         accepted,
@@ -211,8 +220,8 @@ pub fn after_run(f: Feed, p: Progress, handed: Handed) -> Feed
 }
 
 // The frames that are there, and their lines.
-fn run_piece(
-    to: i32,
+fn run_piece<W: Write>(
+    to: &mut W,
     input: &[u8],
     output: &mut [u8],
     stations: &mut [u64],
@@ -253,9 +262,9 @@ fn run_piece(
 }
 
 // ONE TURN of the stream: a read where more input is wanted, else a run of the frames that are there.
-fn turn(
-    from: i32,
-    to: i32,
+fn turn<R: Read, W: Write>(
+    from: &mut R,
+    to: &mut W,
     input: &mut [u8],
     output: &mut [u8],
     stations: &mut [u64],
@@ -306,9 +315,9 @@ pub struct Ending {
 }
 
 // All of the input, over a floor that the caller lends, and that is left as the last event left it.
-pub fn run_all(
-    from: i32,
-    to: i32,
+pub fn run_all<R: Read, W: Write>(
+    from: &mut R,
+    to: &mut W,
     input: &mut [u8],
     output: &mut [u8],
     stations: &mut [u64],
@@ -347,10 +356,10 @@ pub fn run_all(
     }
 }
 
-// The run of one input over a floor that the caller lends, by its product's numbers: frames from one descriptor, lines to the other.
-pub fn run_over(
-    from: i32,
-    to: i32,
+// The run of one input over a floor that the caller lends, by its product's numbers: frames from a reader, lines to a writer.
+pub fn run_over<R: Read, W: Write>(
+    from: &mut R,
+    to: &mut W,
     stations: &mut [u64],
     carts: &mut [u64],
     messages: &mut [u64],
@@ -381,9 +390,9 @@ pub fn run_over(
     )
 }
 
-// THE RUN OF ONE INPUT: frames from one descriptor, lines to the other, over a floor of its own. The reads and runs that it makes are turns of the
+// THE RUN OF ONE INPUT: frames from a reader, lines to a writer, over a floor of its own. The reads and runs that it makes are turns of the
 // written stream, and what they hand on is the printed run.
-pub fn run(from: i32, to: i32) -> Ending
+pub fn run<R: Read, W: Write>(from: &mut R, to: &mut W) -> Ending
     ensures { Streamed whole_floor result }
 {
     let mut stations = no_stations();
@@ -406,7 +415,7 @@ pub fn run(from: i32, to: i32) -> Ending
 }
 
 // THE SAME FOR THE DEMONSTRATION KIT, "a second caller of the same steps with its own limits": the same run, over memory of the kit's lengths.
-pub fn run_kit(from: i32, to: i32) -> Ending
+pub fn run_kit<R: Read, W: Write>(from: &mut R, to: &mut W) -> Ending
     ensures { Streamed kit result }
 {
     let mut stations = [0u64; 580];

@@ -3,6 +3,6 @@
 
 use frame_files::Program;
 
-fn main() {
-    frame_files::run_files(Program::Floor);
+fn main(rt: HostRuntime) {
+    frame_files::run_files(&rt, Program::Floor);
 }

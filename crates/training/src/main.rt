@@ -2,8 +2,6 @@
 // number, and nothing else".
 #![tactic(auto)]
 
-use libc::{STDIN_FILENO, STDOUT_FILENO};
-
-fn main() {
-    training_stream::run(STDIN_FILENO, STDOUT_FILENO);
+fn main(rt: HostRuntime) {
+    training_stream::run(&mut rt.stdin(), &mut rt.stdout());
 }

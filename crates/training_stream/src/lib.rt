@@ -1,4 +1,4 @@
-// THE STREAM OF THE TRAINING BENCH: frames from one descriptor, the lines of the lists' heads to another. The floor's parts go from turn to turn by value, so
+// THE STREAM OF THE TRAINING BENCH: frames from a reader, the lines of the lists' heads to a writer. The floor's parts go from turn to turn by value, so
 // that few slices are lent to one function.
 #![tactic(auto)]
 
@@ -17,6 +17,7 @@ ghost use Rattle.training_stream.specs.Feeds.{BenchMade, BenchRan, Benched};
 
 use frame_run::Progress;
 use frame_stream::{Ending, Feed};
+use std::io::{Read, Write};
 
 // The lent parts of a floor.
 #[derive(Clone, Copy)]
@@ -89,8 +90,8 @@ struct BenchTurn {
 }
 
 // The frames that are there: over the floor, then their calls to the lists, and the lines of the takes.
-fn run_piece(
-    to: i32,
+fn run_piece<W: Write>(
+    to: &mut W,
     input: &[u8],
     output: &mut [u8],
     calls: &mut [u64],
@@ -129,9 +130,9 @@ fn run_piece(
 }
 
 // ONE TURN of the stream: a read where more input is wanted, else a run of the frames that are there.
-fn turn(
-    from: i32,
-    to: i32,
+fn turn<R: Read, W: Write>(
+    from: &mut R,
+    to: &mut W,
     input: &mut [u8],
     output: &mut [u8],
     calls: &mut [u64],
@@ -158,9 +159,9 @@ fn turn(
 }
 
 // All of the input, from a floor and lists that are not started.
-fn run_all(
-    from: i32,
-    to: i32,
+fn run_all<R: Read, W: Write>(
+    from: &mut R,
+    to: &mut W,
     input: &mut [u8],
     output: &mut [u8],
     calls: &mut [u64],
@@ -224,9 +225,9 @@ fn no_floor() -> FloorMemory
 }
 
 // The run over memory that the caller lends for the lists, which are not started. That the octets have their length, their type says.
-fn run_over(
-    from: i32,
-    to: i32,
+fn run_over<R: Read, W: Write>(
+    from: &mut R,
+    to: &mut W,
     memory: FloorMemory,
     counts: &mut [u64],
     sends: &mut [u64],
@@ -253,9 +254,9 @@ fn run_over(
     )
 }
 
-// THE TRAINING BENCH: frames from one descriptor, over a floor and lists of its own, and the lines of the lists' heads to the other. What it hands on is the
+// THE TRAINING BENCH: frames from a reader, over a floor and lists of its own, and the lines of the lists' heads to a writer. What it hands on is the
 // written `plain_run` of its input.
-pub fn run(from: i32, to: i32) -> Ending
+pub fn run<R: Read, W: Write>(from: &mut R, to: &mut W) -> Ending
     ensures { Benched result }
 {
     let mut counts = no_counts();

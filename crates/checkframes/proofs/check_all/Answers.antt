@@ -11,8 +11,7 @@ use Rattle.checkframes.proofs.Turns.{has_ended}
 use Rattle.checkframes.proofs.check_all.Goals as goal
 
 pub loop-turns-init : goal.loop-turns-init
-loop-turns-init c =
-    (
+loop-turns-init c = (
   record { room = c.requires; kept = omega arith; few = omega arith; wants = λ e. omega arith; refused = λ e. absurd (omega arith) },
   ([], fed_none),
 )
