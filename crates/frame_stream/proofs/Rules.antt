@@ -6,7 +6,7 @@ use mathlib.Core.List.{List, ◌∷◌, ◌++◌}
 use Prim.Native.Nat.{ℕ, ◌+◌, ◌<◌}
 use Rattle.protocol.specs.Floor.{Product, Floor, limits_of, just_started, is_held}
 use Rattle.protocol.specs.Events.{Event, Report, start, accepted}
-use Rattle.protocol.specs.Step.{step, answer, floor_after}
+use Rattle.protocol.specs.Step.{answer, floor_after}
 use Rattle.protocol.specs.SumRule.{total, gains, taken_away}
 use Rattle.protocol.specs.Route.{sendings_of, retires_none}
 use Rattle.protocol.specs.TwoLists.{both_empty, lists_after, owes, TwoListRule}

@@ -3,7 +3,7 @@
 // and `hand_on`. All the others are about slices and numbers, and what they come to is the written stream (specs/Stream).
 #![tactic(auto)]
 
-ghost use Rattle.std.specs.Prelude.{◌≡◌, false, not, ◌&&◌, [], ◌+◌, ◌≤◌, ◌<◌, eqb, ltb, length, take};
+ghost use Rattle.std.specs.Prelude.{◌≡◌, false, not, ◌&&◌, [], ◌+◌, ◌^◌, ◌≤◌, ◌<◌, eqb, ltb, pos, negsuc, IfOk, OnErr, length, take};
 ghost use Rattle.stations.specs.View.{head_in};
 ghost use Rattle.frame_lines.specs.Lines.{Tabled};
 ghost use Rattle.protocol.specs.Floor.{whole_floor, kit};
@@ -111,7 +111,10 @@ fn got_of(answer: isize, rest: &[u8]) -> Got
 }
 
 // A read's answer as one number: how many octets it brought, and a negative one where it failed.
-fn answer_of(answer: Result<usize>) -> isize {
+fn answer_of(answer: Result<usize>) -> isize
+    ensures brought { IfOk answer (λ n. n < 2 ^ 63 → result ≡ pos n) }
+    ensures failed { OnErr answer (result ≡ negsuc 0) }
+{
     match answer {
         Ok(count) => count.cast_signed(),
         Err(_) => -1,

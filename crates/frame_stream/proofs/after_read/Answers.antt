@@ -1,6 +1,5 @@
 -- `frame_stream::after_read` meets its contract.
 use Rattle.frame_stream.proofs.Feeds.{failed_is, brought_is}
-use borrow.Author.Rules.{rules}
 use Rattle.frame_stream.proofs.after_read.Goals as goal
 
 pub returns-then-got : goal.returns-then-got

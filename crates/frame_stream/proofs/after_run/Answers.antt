@@ -1,7 +1,6 @@
 -- `frame_stream::after_run` meets its contract.
 use mathlib.Core.Path.{ap}
 use Prim.Native.Nat.{ℕ, ◌+◌}
-use borrow.Author.Rules.{rules}
 use Rattle.frame_stream.proofs.after_run.Goals as goal
 
 pub returns : goal.returns

@@ -2,7 +2,6 @@
 use lib.ListN.{length}
 use mir.Facts.{to_z-of_z}
 use Rattle.frame_stream.proofs.Feeds.{got_is}
-use borrow.Author.Rules.{rules}
 use Rattle.frame_stream.proofs.got_of.Goals as goal
 
 pub returns : goal.returns

@@ -2,11 +2,10 @@
 use native.Mathlib.Omega.{arith}
 use Rattle.protocol.specs.Floor.{whole_floor}
 use Rattle.frame_stream.proofs.Fresh.{fresh_ready, streamed, floor_lengths}
-use borrow.Author.Rules.{rules}
 use Rattle.frame_stream.proofs.run.Goals as goal
 
 pub run_over-requires : goal.run_over-requires
-run_over-requires c =
+run_over-requires g c =
     let s = c.no_stations-stations in
     let k = c.no_carts-carts in
     let m = c.no_messages-messages in
@@ -18,7 +17,7 @@ run_over-requires c =
     (omega (arith, numbers.held_is), (whole_floor, numbers, fresh_ready whole_floor _ _ _ _ _ _ s.ensures.1 long))
 
 pub returns : goal.returns
-returns c =
+returns g c =
     let s = c.no_stations-stations in
     let k = c.no_carts-carts in
     let m = c.no_messages-messages in

@@ -1,25 +1,20 @@
-use mathlib.Core.Path.{◌≡◌, refl, sym, ◌∙◌}
+use mathlib.Core.Path.{refl, sym, ◌∙◌}
 use native.Mathlib.Omega.{arith}
-use lib.ListN.{length}
-use borrow.Author.Rules.{rules}
-use Rattle.event_answers.specs.Met.{Ready}
 use Rattle.view.specs.View.{lent, floor_in}
-use Rattle.frame_run.specs.CanRun.{ByEach}
 use Rattle.frame_run.proofs.Loop.{same_stations, same_carts, same_messages, same_lines, same_texts, same_store}
-use Rattle.frame_stream.specs.Feed.{Inside, stream_of}
-use Rattle.frame_stream.proofs.Loop.{Came, came_first, came_next, goes, ran_all}
+use Rattle.frame_stream.proofs.Loop.{came_first, came_next, goes, ran_all}
 use Rattle.frame_stream.proofs.run_all.Goals as goal
 
 pub loop-bounds-init : goal.loop-bounds-init
-loop-bounds-init c =
+loop-bounds-init g c =
     let a = c.args in
     (λ P n R. (R, came_first P (floor_in (lent P a.stations.now a.carts.now a.messages.now a.lines.now a.texts.now a.store.now))), record { run = omega arith; read = omega arith; few = λ z. omega arith }, c.requires.2, c.requires.3)
 
 pub overflow_sub-turns : goal.overflow_sub-turns
-overflow_sub-turns c = let l = c.loop-bounds in omega (arith, (goes l.turns l.f _ c.goes_on.ensures c.loop-bounds-test.true).0)
+overflow_sub-turns g c = let l = c.loop-bounds in omega (arith, (goes l.turns l.f _ c.goes_on.ensures c.loop-bounds-test.true).0)
 
 pub turn-f-requires : goal.turn-f-requires
-turn-f-requires c =
+turn-f-requires g c =
     let l = c.loop-bounds in
     let g = goes l.turns l.f _ c.goes_on.ensures c.loop-bounds-test.true in
     let i = l.invariant in
@@ -30,10 +25,10 @@ turn-f-requires c =
     }
 
 pub loop-bounds-smaller : goal.loop-bounds-smaller
-loop-bounds-smaller c = let l = c.loop-bounds in omega (arith, (goes l.turns l.f _ c.goes_on.ensures c.loop-bounds-test.true).0)
+loop-bounds-smaller g c = let l = c.loop-bounds in omega (arith, (goes l.turns l.f _ c.goes_on.ensures c.loop-bounds-test.true).0)
 
 pub loop-bounds-preserved : goal.loop-bounds-preserved
-loop-bounds-preserved c =
+loop-bounds-preserved g c =
     let l = c.loop-bounds in
     let g = goes l.turns l.f _ c.goes_on.ensures c.loop-bounds-test.true in
     let i = l.invariant in
@@ -41,51 +36,51 @@ loop-bounds-preserved c =
     (λ P n R. (let x = i.0 P n R in let y = t.by_each P n x.0 in (y.0, came_next P _ _ _ _ l.turns _ x.1 y.1 (omega (arith, g.0)))), t.inside_2, t.input_len_unchanged.0 ∙ i.2, t.input_len_unchanged.1 ∙ i.3)
 
 pub overflow_sub-left : goal.overflow_sub-left
-overflow_sub-left c = omega (arith, c.loop-bounds.invariant.1.run)
+overflow_sub-left g c = omega (arith, c.loop-bounds.invariant.1.run)
 
 pub shape_of-input : goal.shape_of-input
-shape_of-input c = c.loop-bounds.invariant.2 ∙ sym c.requires.2
+shape_of-input g c = c.loop-bounds.invariant.2 ∙ sym c.requires.2
 
 pub shape_of-output : goal.shape_of-output
-shape_of-output c = c.loop-bounds.invariant.3 ∙ sym c.requires.3
+shape_of-output g c = c.loop-bounds.invariant.3 ∙ sym c.requires.3
 
 pub shape_of-stations : goal.shape_of-stations
-shape_of-stations c =
+shape_of-stations g c =
     let a = c.args in
     let w = c.requires.0.1 in
     same_stations (lent w.0 a.stations.now a.carts.now a.messages.now a.lines.now a.texts.now a.store.now) _ w.2 (c.loop-bounds.invariant.0 w.0 w.1 w.2).0 refl
 
 pub shape_of-carts : goal.shape_of-carts
-shape_of-carts c =
+shape_of-carts g c =
     let a = c.args in
     let w = c.requires.0.1 in
     same_carts (lent w.0 a.stations.now a.carts.now a.messages.now a.lines.now a.texts.now a.store.now) _ w.2 (c.loop-bounds.invariant.0 w.0 w.1 w.2).0 refl
 
 pub shape_of-messages : goal.shape_of-messages
-shape_of-messages c =
+shape_of-messages g c =
     let a = c.args in
     let w = c.requires.0.1 in
     same_messages (lent w.0 a.stations.now a.carts.now a.messages.now a.lines.now a.texts.now a.store.now) _ w.2 (c.loop-bounds.invariant.0 w.0 w.1 w.2).0 refl
 
 pub shape_of-lines : goal.shape_of-lines
-shape_of-lines c =
+shape_of-lines g c =
     let a = c.args in
     let w = c.requires.0.1 in
     same_lines (lent w.0 a.stations.now a.carts.now a.messages.now a.lines.now a.texts.now a.store.now) _ w.2 (c.loop-bounds.invariant.0 w.0 w.1 w.2).0 refl
 
 pub shape_of-texts : goal.shape_of-texts
-shape_of-texts c =
+shape_of-texts g c =
     let a = c.args in
     let w = c.requires.0.1 in
     same_texts (lent w.0 a.stations.now a.carts.now a.messages.now a.lines.now a.texts.now a.store.now) _ w.2 (c.loop-bounds.invariant.0 w.0 w.1 w.2).0 refl
 
 pub shape_of-store : goal.shape_of-store
-shape_of-store c =
+shape_of-store g c =
     let a = c.args in
     let w = c.requires.0.1 in
     same_store (lent w.0 a.stations.now a.carts.now a.messages.now a.lines.now a.texts.now a.store.now) _ w.2 (c.loop-bounds.invariant.0 w.0 w.1 w.2).0 refl
 
 pub returns : goal.returns
-returns c =
+returns g c =
     let l = c.loop-bounds in
     λ P n R. ran_all _ _ l.input l.turns l.f _ _ (l.invariant.0 P n R).0 l.invariant.1 (l.invariant.0 P n R).1 refl c.goes_on.ensures c.loop-bounds-test.false

@@ -3,11 +3,10 @@ use mathlib.Core.Path.{refl}
 use native.Mathlib.Omega.{arith}
 use Rattle.view.specs.View.{lent}
 use Rattle.frame_stream.proofs.Feeds.{no_lines}
-use borrow.Author.Rules.{rules}
 use Rattle.frame_stream.proofs.turn.Goals as goal
 
 pub returns-then-f-eq-WANTS : goal.returns-then-f-eq-WANTS
-returns-then-f-eq-WANTS c =
+returns-then-f-eq-WANTS g c =
     let a = c.args in
     let m = c.more.ensures in
     record {
@@ -17,7 +16,7 @@ returns-then-f-eq-WANTS c =
     }
 
 pub run_piece-requires : goal.run_piece-requires
-run_piece-requires c =
+run_piece-requires g c =
     let p = c.requires.inside in
     record {
       can_run = c.requires.can_run;
@@ -25,7 +24,7 @@ run_piece-requires c =
     }
 
 pub returns : goal.returns
-returns c =
+returns g c =
     let r = c.run_piece.ensures in
     record {
       by_each = r.by_each;
