@@ -26,8 +26,8 @@ loop-m-preserved c =
     let b = c.begin_from-begin in (
       omega arith,
       elim c.if-begin-least.branch [
-        | then-begin-least w ↦ rw (w.room-is, w.least-is) (best_take a.held R a.from l.m l.least l.room b.result l.invariant.1 b.ensures w.if-begin-least.true)
-        | else-begin-least w ↦ rw (w.room-is, w.least-is) (best_skip a.held R a.from l.m l.least l.room b.result l.invariant.1 b.ensures w.if-begin-least.false)
+        | then-begin-least w ↦ rw (w.least-is, w.room-is) (best_take a.held R a.from l.m l.least l.room b.result l.invariant.1 b.ensures w.if-begin-least.true)
+        | else-begin-least w ↦ rw (w.least-is, w.room-is) (best_skip a.held R a.from l.m l.least l.room b.result l.invariant.1 b.ensures w.if-begin-least.false)
       ],
     )
 

@@ -69,36 +69,6 @@ loop-left-smaller-then-next-number c =
     let after = c.without_first-left.ensures c.first-cart.result c.first-cart.ensures in
     omega arith
 
-pub loop-left-preserved-then-next-number : goal.loop-left-preserved-then-next-number
-loop-left-preserved-then-next-number c =
-    let hand = at_hand c.args.local c.loop-left.left c.first-cart.result c.loop-left.invariant.rest (omega arith) c.first-cart.ensures in
-    let a = c.args in
-    let l = c.loop-left in
-    let i = l.invariant in
-    let k = c.first-cart.result in
-    let r = c.without_first-left in
-    let n = c.next_of-next in
-    let equal = c.if-next-number.true in
-    let h = c.has in
-    let b = c.rise_of-rises in
-    let p = c.put_next in
-    let own : ℕ → ℕ = λ d. (carts_in a.carts.now).next d a.initiator.0 in
-    let rest : r.result ≡ without l.left k = r.ensures k c.first-cart.ensures in
-    let fresh = gather_fresh a.local (λ d. eqb (own d) a.number) l.left i.due k hand i.met in
-    let kept : n.result ≡ own k = n.ensures ∙ next_kept a.carts.now a.named a.initiator.0 a.number l.carts i.due k fresh i.raises in
-    let is : eqb (own k) a.number ≡ true = eq-eqb (own k) a.number (sym kept ∙ equal) in
-    record {
-      due = with i.due k;
-      rest = left_turn a.local l.left r.result k rest i.rest;
-      met = gather_turn a.local (λ d. eqb (own d) a.number) l.left r.result i.due (with i.due k) k true rest (sym is) refl hand i.met;
-      unmet = gather_turn a.local (λ d. not (eqb (own d) a.number)) l.left r.result l.others l.others k false rest (sym (ap not is)) refl hand i.unmet;
-      beyond = gather_turn a.local (λ d. ltb a.number (own d)) l.left r.result l.past l.past k false rest (sym (le-ltb a.number (own k) (omega arith))) refl hand i.beyond;
-      raises = raise_turn a.carts.now a.named a.initiator.0 a.number l.carts i.due k fresh i.raises p.new.carts (with i.due k) n.result b.result h.result
-          n.ensures equal h.ensures b.ensures refl p.ensures;
-      counts = size_turn a.carts.now a.named a.initiator.0 a.number l.carts i.due k fresh i.raises p.new.carts (with i.due k) n.result b.result h.result
-          n.ensures equal h.ensures b.ensures refl l.passed hand.below i.counts;
-    }
-
 pub with_member-others-requires : goal.with_member-others-requires
 with_member-others-requires c =
     let hand = at_hand c.args.local c.loop-left.left c.first-cart.result c.loop-left.invariant.rest (omega arith) c.first-cart.ensures in
