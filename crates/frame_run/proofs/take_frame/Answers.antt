@@ -42,7 +42,6 @@ pub returns : goal.returns
 returns c =
     let f = c.frame_at-reading in
     let a = c.args in
-    let g = c.reading-1.given in
-    let i = event_inside a.input.now a.p.read f.result f.ensures _ g.1 in
+    let i = event_inside a.input.now a.p.read f.result f.ensures _ c.in-Taken.is in
     λ P n R. turned_taken Ready a.input.now a.index a.last (lent P a.stations.now a.carts.now a.messages.now a.lines.now a.texts.now a.store.now) a.output.now a.p R c.requires.state_value.0 c.requires.state_value.1 c.requires.state_value.2 c.requires.frames_le_read.0 _ _ _ _ _
-    (taken_there a.input.now a.p.read a.last f.result f.ensures _ g.1) (least_size g.0.0) i.0 (c.take_event.ensures P n R)
+    (taken_there a.input.now a.p.read a.last f.result f.ensures _ c.in-Taken.is) (least_size c.in-Taken.e) i.0 (c.take_event.ensures P n R)

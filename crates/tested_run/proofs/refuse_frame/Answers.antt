@@ -49,13 +49,12 @@ pub returns : goal.returns
 returns c =
     let a = c.args in
     let f = c.frame_at-reading in
-    let g = c.reading-1.given in
-    let i = event_inside a.input.now a.p.read f.result f.ensures _ g.1 in
-    let fits = text_fits a.input.now a.p.read f.result f.ensures _ g.1 in
+    let i = event_inside a.input.now a.p.read f.result f.ensures _ c.in-Taken.is in
+    let fits = text_fits a.input.now a.p.read f.result f.ensures _ c.in-Taken.is in
     let r = c.refuse_event.ensures in
     record {
       turned_on = λ L k. turned_taken (Stuck a.lengths) a.input.now a.index a.last L a.output.now a.p k c.requires.state_value.0 c.requires.state_value.1 c.requires.state_value.2 c.requires.frames_le_read.0 _ _ _ _ _
-          (taken_there a.input.now a.p.read a.last f.result f.ensures _ g.1) (least_size g.0.0) i.0
-          (stuck_took a.lengths L k a.index a.input.now a.output.now _ a.p _ g.0.0 _ _ c.number_of.ensures c.size_of-size.ensures fits i.0 r.wrote r.read_value);
+          (taken_there a.input.now a.p.read a.last f.result f.ensures _ c.in-Taken.is) (least_size c.in-Taken.e) i.0
+          (stuck_took a.lengths L k a.index a.input.now a.output.now _ a.p _ c.in-Taken.e _ _ c.number_of.ensures c.size_of-size.ensures fits i.0 r.wrote r.read_value);
       output_len_unchanged = r.wrote.kept;
     }
