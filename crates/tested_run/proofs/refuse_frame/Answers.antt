@@ -1,4 +1,5 @@
 -- `tested_run::refuse_frame` meets its contract.
+use borrow.Enum.Refused.{opened}
 use mathlib.Core.Path.{refl}
 use native.Mathlib.Omega.{arith}
 use borrow.Author.Rules.{rules}
@@ -14,7 +15,7 @@ returns-then-none_whole c =
     let f = c.frame_at-reading in
     record {
       turned_on = λ L k. turned_waits (Stuck a.lengths) a.input.now a.index a.last L a.output.now a.p k c.requires.state_value.0 c.requires.state_value.1 c.requires.state_value.2 c.requires.frames_le_read.0 _
-          c.waiting.ensures (waits_there a.input.now a.p.read a.last f.result f.ensures c.in_default.in_default-own.keys2 _ _ c.refusal-number.ensures c.none_whole.ensures c.if-none_whole.true);
+          c.waiting.ensures (waits_there a.input.now a.p.read a.last f.result f.ensures (opened c.in_default.in_default-own.keys2) _ _ c.refusal-number.ensures c.none_whole.ensures c.if-none_whole.true);
       output_len_unchanged = refl;
     }
 
@@ -22,7 +23,7 @@ pub returns-in_default : goal.returns-in_default
 returns-in_default c =
     let a = c.args in
     let f = c.frame_at-reading in
-    let t = refused_there a.input.now a.p.read a.last f.result f.ensures c.in_default.in_default-own.keys2 _ _ c.refusal-number.ensures c.none_whole.ensures c.if-none_whole.false in
+    let t = refused_there a.input.now a.p.read a.last f.result f.ensures (opened c.in_default.in_default-own.keys2) _ _ c.refusal-number.ensures c.none_whole.ensures c.if-none_whole.false in
     let r = c.refuse.ensures in
     record {
       turned_on = λ L k. turned_refused (Stuck a.lengths) a.input.now a.index a.last L a.output.now a.p k c.requires.state_value.0 c.requires.state_value.1 c.requires.state_value.2 c.requires.frames_le_read.0 _ _ _
