@@ -14,15 +14,5 @@ use Rattle.carts.specs.contracts.Place.{the_type}
 use Rattle.form_lines.specs.Pass.{is_travelling}
 use Rattle.form_lines.proofs.is_travelling.Goals as goal
 
--- in every other place it is not
-other : (p : Place) (x y : ℕ) → OneOf (0 ∷ 1 ∷ 2 ∷ []) (tag_of the_type p) → false ≡ is_travelling (seen p) x y
-other Outside x y h = refl
-other (At s) x y h = refl
-other (Leaving s t) x y h = refl
-other (Travelling s t) x y h = absurd (miss (0 ∷ 1 ∷ 2 ∷ []) 3 tt h)
-
 pub returns-in-Travelling : goal.returns-in-Travelling
 returns-in-Travelling c = c.both.ensures ∙ sym (ap (λ (p : Place). is_travelling (seen p) c.args.s c.args.u) c.in-Travelling.is)
-
-pub returns-in_default : goal.returns-in_default
-returns-in_default c = other c.args.place c.args.s c.args.u c.in_default.in_default-own.keys2

@@ -1,10 +1,10 @@
 use mathlib.Core.Path.{◌≡◌}
-use mathlib.Core.Logic.{⊎_elim}
 use Prim.Native.Nat.{◌-◌, ◌≤◌}
 use native.Mathlib.Omega.{arith}
 use Rattle.messages.specs.View.{rooms_in}
 use Rattle.store.proofs.Lowest.{Best, best_start, best_take, best_skip, best_end}
 use Rattle.store.proofs.lowest_from.Goals as goal
+use Rattle.store.proofs.lowest_from.Goals.{then-begin-least, else-begin-least}
 
 pub loop-m-init : goal.loop-m-init
 loop-m-init c = let a = c.args in (omega arith, best_start a.held (rooms_in a.messages.now) a.from)
@@ -25,10 +25,10 @@ loop-m-preserved c =
     let l = c.loop-m in
     let b = c.begin_from-begin in (
       omega arith,
-      ⊎_elim
-          (λ w. rw (w.1, w.2) (best_take a.held R a.from l.m l.least l.room b.result l.invariant.1 b.ensures w.0.taken))
-          (λ w. rw (w.1, w.2) (best_skip a.held R a.from l.m l.least l.room b.result l.invariant.1 b.ensures w.0.left))
-          c.if-begin-least.branch,
+      elim c.if-begin-least.branch [
+        | then-begin-least w ↦ rw (w.least-is, w.room-is) (best_take a.held R a.from l.m l.least l.room b.result l.invariant.1 b.ensures w.if-begin-least.true)
+        | else-begin-least w ↦ rw (w.least-is, w.room-is) (best_skip a.held R a.from l.m l.least l.room b.result l.invariant.1 b.ensures w.if-begin-least.false)
+      ],
     )
 
 pub returns : goal.returns

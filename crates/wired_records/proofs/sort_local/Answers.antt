@@ -94,7 +94,7 @@ loop-left-preserved-then-next-number c =
       unmet = gather_turn a.local (λ d. not (eqb (own d) a.number)) l.left r.result l.others l.others k false rest (sym (ap not is)) refl hand i.unmet;
       beyond = gather_turn a.local (λ d. ltb a.number (own d)) l.left r.result l.past l.past k false rest (sym (le-ltb a.number (own k) (omega arith))) refl hand i.beyond;
       raises = raise_turn a.carts.now a.named a.initiator.0 a.number l.carts i.due k fresh i.raises p.new.carts (with i.due k) n.result b.result h.result
-          n.ensures equal h.ensures b.ensures refl p.ensures;
+          n.ensures equal h.ensures b.ensures refl (p.ensures.carts_after, (p.ensures.carts_unchanged, p.ensures.carts_len_unchanged));
       counts = size_turn a.carts.now a.named a.initiator.0 a.number l.carts i.due k fresh i.raises p.new.carts (with i.due k) n.result b.result h.result
           n.ensures equal h.ensures b.ensures refl l.passed hand.below i.counts;
     }

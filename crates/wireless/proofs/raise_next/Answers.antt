@@ -7,11 +7,6 @@ use Rattle.carts.proofs.StepLaws.{receive_entry}
 use borrow.Author.Rules.{rules}
 use Rattle.wireless.proofs.raise_next.Goals as goal
 
-pub returns-then-s-ge-INITIATORS : goal.returns-then-s-ge-INITIATORS
-returns-then-s-ge-INITIATORS c =
-    let whole = absurd (omega (arith, c.requires.1, c.if-s-ge-INITIATORS.true)) in
-    record { value = whole.0; carts_after = whole.1.0; carts_unchanged = whole.1.1.0; carts_len_unchanged = whole.1.1.1 }
-
 pub returns : goal.returns
 returns c =
     let a = c.args in
