@@ -360,7 +360,7 @@ fn put_text(out: &mut [u8], at: usize, room: &[u8], size: usize) -> usize
 {
     out[at] = b' ';
     if size == 0 {
-        out[at + 1] = b'_';
+        out[at + 1] = b'-';
         return at + 2;
     }
     let mut digits = [0u8; TEXT_DIGITS];

@@ -73,8 +73,8 @@ fn sum_answer(count: usize, totals: Tally) -> Totalled
     Totalled::Of(totals)
 }
 
-// The totals of a lent list, or "22 a list longer than 4,096, before any adding". A slice of structs is outside what the borrow checker
-// covers, so this is all that is done over one: each element is handed to `add_result`.
+// The totals of a lent list, or "22 a list longer than 4,096, before any adding". Each element is handed to `add_result`; that its two
+// numbers fit 32 bits is said for the proof alone, which has it of a field that is read and not of a whole element.
 pub fn sum(results: &[CartResult]) -> Totalled
     ensures { result ≡ totals_of results.now }
 {
@@ -86,6 +86,8 @@ pub fn sum(results: &[CartResult]) -> Totalled
     };
     let mut i = 0;
     while i < taken {
+        prove!(results[i].received <= u32::MAX);
+        prove!(results[i].passed <= u32::MAX);
         totals = add_result(totals, results[i]);
         i = i + 1;
     }

@@ -1,16 +1,14 @@
 use mathlib.Core.Path.{sym, ap, ◌∙◌, ◌≡◌}
-use Prim.Native.Nat.{ℕ, ◌+◌, ◌-◌, ◌*◌, ◌≤◌}
+use Prim.Native.Nat.{ℕ, ◌+◌, ◌*◌}
 use native.Mathlib.Omega.{arith}
-use lib.ListN.{length}
 use borrow.Author.Tests.{not-true, not-false}
 use Rattle.carts.specs.View.{carts_in}
 use Rattle.messages.specs.View.{rooms_in}
 use Rattle.stations.specs.View.{stations_in}
 use Rattle.form_lines.specs.Pass.{from_each}
-use Rattle.form_lines.specs.Ways.{met_of, Whole}
+use Rattle.form_lines.specs.Ways.{met_of}
 use Rattle.form_lines.proofs.PassLaws.{each_none, each_next}
 use Rattle.form_lines.proofs.Chained.{whole_at, checked, broken}
-use mathlib.Core.Bool.{not}
 use Rattle.form_lines.proofs.from_each.Goals as goal
 
 pub loop-i-init : goal.loop-i-init
@@ -38,7 +36,7 @@ returns-then-not-walk c =
     let a = c.loop-i in
     let o = c.from_station-walk in
     record {
-      checked = broken c.args.lines.now (256) o.new.seen (met_of o.result.met o.new.masks) (from_each c.args.n c.args.k (carts_in c.args.carts.now) (rooms_in c.args.messages.now) (stations_in c.args.stations.now) c.args.lines.now (met_of c.args.way c.args.masks.now) 16) (o.ensures.0.bad (not-true _ (ap not c.if-not-walk.true)));
+      checked = broken c.args.lines.now (256) o.new.seen (met_of o.result.met o.new.masks) (from_each c.args.n c.args.k (carts_in c.args.carts.now) (rooms_in c.args.messages.now) (stations_in c.args.stations.now) c.args.lines.now (met_of c.args.way c.args.masks.now) 16) (o.ensures.0.bad (not-true _ c.if-not-walk.true));
       masks_len_unchanged = (o.ensures.1.0 ∙ a.invariant.1 ∙ sym c.requires.0, o.ensures.1.1 ∙ a.invariant.2 ∙ sym c.requires.1);
     }
 
@@ -52,7 +50,7 @@ pub loop-i-preserved : goal.loop-i-preserved
 loop-i-preserved c =
     let a = c.loop-i in
     let o = c.from_station-walk in
-    let q = not-false _ (ap not c.if-not-walk.false) in (
+    let q = not-false _ c.if-not-walk.false in (
       omega (arith, c.loop-i-test.true),
       o.ensures.1.0 ∙ a.invariant.1,
       o.ensures.1.1 ∙ a.invariant.2,

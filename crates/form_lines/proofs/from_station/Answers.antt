@@ -1,16 +1,14 @@
 use mathlib.Core.Path.{sym, ap, ◌∙◌, ◌≡◌}
-use Prim.Native.Nat.{ℕ, ◌+◌, ◌-◌, ◌*◌, ◌≤◌}
+use Prim.Native.Nat.{ℕ, ◌+◌, ◌*◌}
 use native.Mathlib.Omega.{arith}
-use lib.ListN.{length}
 use borrow.Author.Tests.{not-true, not-false}
 use Rattle.carts.specs.View.{carts_in}
 use Rattle.messages.specs.View.{rooms_in}
 use Rattle.stations.specs.View.{stations_in}
 use Rattle.form_lines.specs.Pass.{from_station}
-use Rattle.form_lines.specs.Ways.{met_of, Whole}
+use Rattle.form_lines.specs.Ways.{met_of}
 use Rattle.form_lines.proofs.PassLaws.{row_none, row_next}
 use Rattle.form_lines.proofs.Chained.{whole_at, whole_more, whole_fails, checked, broken}
-use mathlib.Core.Bool.{not}
 use Rattle.form_lines.proofs.from_station.Goals as goal
 
 pub loop-j-init : goal.loop-j-init
@@ -37,7 +35,7 @@ pub returns-then-not-walk : goal.returns-then-not-walk
 returns-then-not-walk c =
     let a = c.loop-j in
     let o = c.on_line-walk in (
-      broken c.args.lines.now (c.args.i * 16 + 16) o.new.seen (met_of o.result.met o.new.masks) (from_station c.args.n c.args.k (carts_in c.args.carts.now) (rooms_in c.args.messages.now) (stations_in c.args.stations.now) c.args.lines.now (met_of c.args.way c.args.masks.now) c.args.i 16) (whole_fails c.args.lines.now a.seen o.new.seen (c.args.i * 16) a.j o.result.whole (omega (arith, c.loop-j-test.true, c.requires.7)) a.invariant.3 o.ensures.walked (not-true _ (ap not c.if-not-walk.true))),
+      broken c.args.lines.now (c.args.i * 16 + 16) o.new.seen (met_of o.result.met o.new.masks) (from_station c.args.n c.args.k (carts_in c.args.carts.now) (rooms_in c.args.messages.now) (stations_in c.args.stations.now) c.args.lines.now (met_of c.args.way c.args.masks.now) c.args.i 16) (whole_fails c.args.lines.now a.seen o.new.seen (c.args.i * 16) a.j o.result.whole (omega (arith, c.loop-j-test.true, c.requires.7)) a.invariant.3 o.ensures.walked (not-true _ c.if-not-walk.true)),
       (o.ensures.masks_len_unchanged.0 ∙ a.invariant.1 ∙ sym c.requires.0, o.ensures.masks_len_unchanged.1 ∙ a.invariant.2 ∙ sym c.requires.1),
     )
 
@@ -51,7 +49,7 @@ pub loop-j-preserved : goal.loop-j-preserved
 loop-j-preserved c =
     let a = c.loop-j in
     let o = c.on_line-walk in
-    let q = not-false _ (ap not c.if-not-walk.false) in (
+    let q = not-false _ c.if-not-walk.false in (
       omega (arith, c.loop-j-test.true),
       o.ensures.masks_len_unchanged.0 ∙ a.invariant.1,
       o.ensures.masks_len_unchanged.1 ∙ a.invariant.2,

@@ -1,28 +1,9 @@
 -- `form_lines::is_travelling` meets its contract.
-use borrow.Author.Rules.{rules}
-use mathlib.Core.Path.{refl, sym, ap, ◌∙◌, ◌≡◌}
-use mathlib.Core.Bool.{false}
-use mathlib.Core.List.{[], ◌∷◌}
-use Prim.Native.Nat.{ℕ}
-use Prim.{tt}
-use denote.Enum.Declared.{tag_of}
-use types.Run.{OneOf, miss}
+use mathlib.Core.Path.{sym, ap, ◌∙◌}
 use Rattle.carts.specs.declared.Place.{Place}
-use Rattle.carts.specs.declared.Place.TheVariants.{Outside, At, Leaving, Travelling}
 use Rattle.carts.specs.Records.{seen}
-use Rattle.carts.specs.contracts.Place.{the_type}
 use Rattle.form_lines.specs.Pass.{is_travelling}
 use Rattle.form_lines.proofs.is_travelling.Goals as goal
 
--- in every other place it is not
-other : (p : Place) (x y : ℕ) → OneOf (0 ∷ 1 ∷ 2 ∷ []) (tag_of the_type p) → false ≡ is_travelling (seen p) x y
-other Outside x y h = refl
-other (At s) x y h = refl
-other (Leaving s t) x y h = refl
-other (Travelling s t) x y h = absurd (miss (0 ∷ 1 ∷ 2 ∷ []) 3 tt h)
-
 pub returns-in-Travelling : goal.returns-in-Travelling
 returns-in-Travelling c = c.both.ensures ∙ sym (ap (λ (p : Place). is_travelling (seen p) c.args.s c.args.u) c.in-Travelling.is)
-
-pub returns-in_default : goal.returns-in_default
-returns-in_default c = other c.args.place c.args.s c.args.u c.in_default.in_default-own.keys2

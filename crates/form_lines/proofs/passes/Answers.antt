@@ -2,7 +2,6 @@
 use mathlib.Core.Path.{refl, sym, ◌∙◌}
 use native.Mathlib.Omega.{arith}
 use lib.ListN.{replicate}
-use borrow.Author.Rules.{rules}
 use borrow.Author.Tests.{not-true, not-false}
 use Rattle.carts.specs.View.{carts_in}
 use Rattle.messages.specs.View.{rooms_in}
@@ -27,12 +26,12 @@ from_each-walk-requires c =
 pub returns-then-not-walk : goal.returns-then-not-walk
 returns-then-not-walk c =
     let f = c.from_each-walk in
-    unformed c.args.lines.now (passes c.args.n c.args.k (stations_in c.args.stations.now) (carts_in c.args.carts.now) (rooms_in c.args.messages.now) c.args.lines.now) (f.ensures.checked.bad (not-true _ (ap not c.if-not-walk.true)))
+    unformed c.args.lines.now (passes c.args.n c.args.k (stations_in c.args.stations.now) (carts_in c.args.carts.now) (rooms_in c.args.messages.now) c.args.lines.now) (f.ensures.checked.bad (not-true _ c.if-not-walk.true))
 
 pub rest_ok-requires : goal.rest_ok-requires
 rest_ok-requires c =
     let f = c.from_each-walk in
-    (c.requires.3, f.auto.seen, whole_end c.args.lines.now f.new.seen (f.ensures.checked.good (not-false _ (ap not c.if-not-walk.false))).0)
+    (c.requires.3, f.auto.seen, whole_end c.args.lines.now f.new.seen (f.ensures.checked.good (not-false _ c.if-not-walk.false)).0)
 
 pub returns-then-not-rest_ok : goal.returns-then-not-rest_ok
 returns-then-not-rest_ok c =
@@ -52,4 +51,4 @@ returns c =
     let x = c.both in
     let y = c.both-2 in
     formed c.args.lines.now y.result (passes c.args.n c.args.k (stations_in c.args.stations.now) (carts_in c.args.carts.now) (rooms_in c.args.messages.now) c.args.lines.now) (sym r.ensures ∙ not-false _ (ap not c.if-not-rest_ok.false))
-    (passing c.args.n c.args.k (carts_in c.args.carts.now) (rooms_in c.args.messages.now) (stations_in c.args.stations.now) c.args.lines.now b.result e.result x.result y.result m.result f.result.met b.new.masks f.new.masks b.ensures.value b.ensures.masks_after (f.ensures.checked.good (not-false _ (ap not c.if-not-walk.false))).1 e.ensures m.ensures x.ensures y.ensures)
+    (passing c.args.n c.args.k (carts_in c.args.carts.now) (rooms_in c.args.messages.now) (stations_in c.args.stations.now) c.args.lines.now b.result e.result x.result y.result m.result f.result.met b.new.masks f.new.masks b.ensures.value b.ensures.masks_after (f.ensures.checked.good (not-false _ c.if-not-walk.false)).1 e.ensures m.ensures x.ensures y.ensures)

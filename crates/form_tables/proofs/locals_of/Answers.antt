@@ -1,11 +1,9 @@
 use mathlib.Core.Path.{◌≡◌, refl, ◌∙◌}
-use mathlib.Core.Logic.{⊎_elim}
-use Prim.Native.Nat.{◌-◌, ◌≤◌}
 use native.Mathlib.Omega.{arith}
-use lib.ListN.{length}
 use Rattle.carts.specs.View.{carts_in}
 use Rattle.form_tables.proofs.Locals.{LocalsTo, locals_none, locals_stay, locals_join, locals_all}
 use Rattle.form_tables.proofs.locals_of.Goals as goal
+use Rattle.form_tables.proofs.locals_of.Goals.{then-home-lt16, else-home-lt16}
 
 pub loop-number-init : goal.loop-number-init
 loop-number-init c = (omega arith, refl, locals_none (carts_in c.args.carts.now).place)
@@ -39,12 +37,14 @@ loop-number-preserved c =
     let place = (carts_in c.args.carts.now).place in
     let a = c.loop-number in
     let home = c.home_of-home in
-    ⊎_elim
-    (λ w. let z = locals_join place a.locals a.number home.result a.invariant.2 home.ensures c.if-home-lt16.locals w.1.result w.2 w.0.taken a.invariant.1 w.1.ensures in
-    (omega arith, z.0, z.1))
-    (λ w. let z = locals_stay place a.locals a.number home.result a.invariant.2 home.ensures c.if-home-lt16.locals w.1 w.0.left a.invariant.1 in
-    (omega arith, z.0, z.1))
-    c.if-home-lt16.branch
+    elim c.if-home-lt16.branch [
+      | then-home-lt16 w ↦
+          let z = locals_join place a.locals a.number home.result a.invariant.2 home.ensures c.if-home-lt16.locals w.with_member.result w.locals-is w.if-home-lt16.true a.invariant.1 w.with_member.ensures in
+          (omega arith, z.0, z.1)
+      | else-home-lt16 w ↦
+          let z = locals_stay place a.locals a.number home.result a.invariant.2 home.ensures c.if-home-lt16.locals w.locals-is w.if-home-lt16.false a.invariant.1 in
+          (omega arith, z.0, z.1)
+    ]
 
 pub returns : goal.returns
 returns c =

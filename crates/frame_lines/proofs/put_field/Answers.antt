@@ -14,6 +14,3 @@ put_decimal-requires c = simp length-set (omega arith)
 
 pub returns : goal.returns
 returns c = field_written c.args.n c.args.out.now c.args.at c.requires c.put_decimal.ensures
-
-pub shape_of-out : goal.shape_of-out
-shape_of-out c = (returns_2 c).kept

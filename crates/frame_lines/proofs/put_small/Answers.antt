@@ -29,9 +29,6 @@ returns-then-n-lt1000 c =
     (digit_written a.out.now a.at (a.n / 100) c.digit-then-n-lt1000.result (a.at + 1) (omega arith) (omega arith) c.digit-then-n-lt1000.ensures refl)
     c.put_pair-then-n-lt1000.ensures
 
-pub shape_of-out-then-n-lt1000 : goal.shape_of-out-then-n-lt1000
-shape_of-out-then-n-lt1000 c = (returns_3 c).kept
-
 pub returns : goal.returns
 returns c =
     let a = c.args in

@@ -18,6 +18,3 @@ pub returns : goal.returns
 returns c =
     text_some c.args.room.now _ c.args.out.now _ c.args.at c.args.size c.if-size-eq0.false c.requires.2 c.requires.1 (omega arith)
     c.room_digits.ensures c.copy_digits.ensures
-
-pub shape_of-out : goal.shape_of-out
-shape_of-out c = (returns_2 c).kept

@@ -12,40 +12,33 @@ use Rattle.handoff.proofs.RiseLaws.{joins_none, no_depth}
 use Rattle.handoff.proofs.RoomByRoom.{struck_none}
 use Rattle.handoff.proofs.dock_unnamed.Goals as goal
 
-known : (c : tie.After-levels)
-    → Known (tables_floor c.before.before.before.before.args.stations.now c.before.before.before.before.args.messages.now) c.before.before.before.before.args.station.0 c.before.before.before.before.args.cart.0 c.before.before.before.before.args.row 32 c.levels.result none_near
-known c =
-    let s = c.before.before.before.before in
-    let a = s.args in
-    let F = tables_floor a.stations.now a.messages.now in
-    known_skips F a.station.0 a.cart.0 a.row c.levels.result none_near 0 32 (omega arith) (λ m h n. s.requires.1.1.others m (has_zero m))
-    (known_start F a.station.0 a.cart.0 a.row c.levels.result c.levels.ensures)
-
 pub passed_over-requires : goal.passed_over-requires
 passed_over-requires c =
-    let l = c in
     let a = c.args in
     let F = tables_floor a.stations.now a.messages.now in
-    rises_little F a.station.0 a.cart.0 a.row none_near (known l).rooms c.levels-upto.result
-    (known_all F a.station.0 a.cart.0 a.row c.levels-upto.result none_near (known l)) c.requires.by_index
+    let known = known_skips F a.station.0 a.cart.0 a.row c.levels-upto.result none_near 0 32 (omega arith) (λ m h n. c.requires.covers.others m (has_zero m))
+    (known_start F a.station.0 a.cart.0 a.row c.levels-upto.result c.levels-upto.ensures) in
+    rises_little F a.station.0 a.cart.0 a.row none_near known.rooms c.levels-upto.result
+    (known_all F a.station.0 a.cart.0 a.row c.levels-upto.result none_near known) c.requires.by_index
 
 pub returns : goal.returns
 returns c =
-    let l = c in
     let a = c.args in
     let S = a.stations.now in
     let F = tables_floor S a.messages.now in
-    let stops = known_all F a.station.0 a.cart.0 a.row c.levels-upto.result none_near (known l) in
+    let known = known_skips F a.station.0 a.cart.0 a.row c.levels-upto.result none_near 0 32 (omega arith) (λ m h n. c.requires.covers.others m (has_zero m))
+    (known_start F a.station.0 a.cart.0 a.row c.levels-upto.result c.levels-upto.ensures) in
+    let stops = known_all F a.station.0 a.cart.0 a.row c.levels-upto.result none_near known in
     let p = c.passed_over in
     record {
       struck = S;
       is_struck_lem = struck_none (stations_in S) (rooms_in a.messages.now) a.station.0 a.cart.0 a.row c.requires.covers;
       nearest = none_near;
-      is_nearest = (known l).rooms;
+      is_nearest = known.rooms;
       stations = joins_none (stations_in S) a.station.0 a.cart.0 c.settle.ensures.0;
       head = c.settle.ensures.1.0;
       table = c.settle.ensures.1.1;
       caught_up_lem = stops;
-      count = rise_is F a.station.0 a.cart.0 a.row none_near (known l).rooms c.levels-upto.result stops p.result p.ensures;
+      count = rise_is F a.station.0 a.cart.0 a.row none_near known.rooms c.levels-upto.result stops p.result p.ensures;
       deepest = no_depth (stations_in S) (rooms_in a.messages.now) a.station.0 a.cart.0 (room_count a.messages.now);
     }

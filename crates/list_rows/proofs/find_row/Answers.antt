@@ -10,13 +10,13 @@ use Rattle.list_rows.specs.Rows.{rows_in, waits}
 use Rattle.list_rows.proofs.find_row.Goals as goal
 
 pub loop-row-init : goal.loop-row-init
-loop-row-init c = absurd (omega arith)
+loop-row-init c r l = absurd (omega arith)
 
 pub is_waiting-requires : goal.is_waiting-requires
 is_waiting-requires c = (omega arith, omega arith)
 
 pub returns-then-is_waiting : goal.returns-then-is_waiting
-returns-then-is_waiting c =
+returns-then-is_waiting c octets =
     let a = c.args in
     let l = c.loop-row in
     sym (ap (λ (o : Option ℕ). by_option o a.used (λ m. m)) (first_is a.used (λ r. waits a.station.0 a.cart.0 (rows_in a.sends.now octets r)) l.row c.loop-row-test.true (sym (c.is_waiting.ensures octets) ∙ c.if-is_waiting.true) l.invariant))
@@ -28,7 +28,7 @@ pub loop-row-smaller : goal.loop-row-smaller
 loop-row-smaller c = omega arith
 
 pub loop-row-preserved : goal.loop-row-preserved
-loop-row-preserved c =
+loop-row-preserved c r h =
     let a = c.args in
     let l = c.loop-row in
     by_eq r l.row
@@ -36,7 +36,7 @@ loop-row-preserved c =
     (λ q. l.invariant r (omega arith))
 
 pub returns : goal.returns
-returns c =
+returns c octets =
     let a = c.args in
     let l = c.loop-row in
     sym (ap (λ (o : Option ℕ). by_option o a.used (λ m. m)) (first_nowhere a.used (λ r. waits a.station.0 a.cart.0 (rows_in a.sends.now octets r)) (λ r h. l.invariant r (omega arith))))

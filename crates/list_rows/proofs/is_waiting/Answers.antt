@@ -7,13 +7,13 @@ use borrow.Author.Rules.{rules}
 use Rattle.list_rows.proofs.is_waiting.Goals as goal
 
 pub returns-then-station-message : goal.returns-then-station-message
-returns-then-station-message c =
+returns-then-station-message c octets =
     let a = c.args in
     let its = ap (λ (m : Message). m.initiator.0) (c.message_at-message.ensures octets) in
     rw (ne_eqb a.station.0 _ (λ e. c.if-station-message.true (e ∙ sym its)))
 
 pub returns : goal.returns
-returns c =
+returns c octets =
     let a = c.args in
     let message = c.message_at-message.ensures octets in
     rw (eq-eqb a.station.0 _ (c.if-station-message.false ∙ ap (λ (m : Message). m.initiator.0) message))

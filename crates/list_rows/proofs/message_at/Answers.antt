@@ -3,7 +3,7 @@ use borrow.Author.Rules.{rules}
 use Rattle.list_rows.proofs.message_at.Goals as goal
 
 pub returns : goal.returns
-returns c =
+returns c octets =
     λ i. record {
       initiator = record { 0 = c.word_at.ensures i };
       number = record { 0 = c.word_at-2.ensures i };

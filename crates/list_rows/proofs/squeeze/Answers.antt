@@ -16,7 +16,7 @@ pub keep_row-kept-requires : goal.keep_row-kept-requires
 keep_row-kept-requires c =
     let l = c.loop-row in
     let T = rows_in c.args.sends.now c.args.octets.now in
-    let low : l.auto ≤ l.row = rw (ap (λ (U : Used). U.used) l.invariant.3) (squeezed_used T l.row) in
+    let low : l.kept ≤ l.row = rw (ap (λ (U : Used). U.used) l.invariant.3) (squeezed_used T l.row) in
     let same = ap (λ (U : Used). (U.rows l.row).size) l.invariant.3 ∙ ap (λ (x : Row). x.size) (squeezed_rest T l.row l.row (omega arith)) in
     let small = c.requires.2 l.row c.loop-row-test.true in
     (omega arith, omega arith, low, omega arith)

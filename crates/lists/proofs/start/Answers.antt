@@ -14,46 +14,46 @@ use Rattle.lists.proofs.start.Goals as goal
 pub returns-then-not-lengths_ok : goal.returns-then-not-lengths_ok
 returns-then-not-lengths_ok c =
     let a = c.args in
-    start_lengths (lent_lists a.counts.now a.sends.now a.octets.now) a.n a.k (sym c.lengths_ok.ensures ∙ not-true _ (ap not c.if-not-lengths_ok.true))
+    start_lengths (lent_lists a.counts.now a.sends.now a.octets.now) a.n a.k (sym c.lengths_ok.ensures ∙ c.if-not-lengths_ok.true)
 
 pub bounds-counts-0 : goal.bounds-counts-0
 bounds-counts-0 c =
     let a = c.args in
-    let sized = lengths_of (lent_lists a.counts.now a.sends.now a.octets.now) (sym c.lengths_ok.ensures ∙ not-false _ (ap not c.if-not-lengths_ok.false)) in
+    let sized = lengths_of (lent_lists a.counts.now a.sends.now a.octets.now) (sym c.lengths_ok.ensures ∙ c.if-not-lengths_ok.false) in
     omega (arith, sized.counts)
 
 pub returns-then-counts-eq-STARTED : goal.returns-then-counts-eq-STARTED
 returns-then-counts-eq-STARTED c =
     let a = c.args in
-    start_begun (lent_lists a.counts.now a.sends.now a.octets.now) a.n a.k (sym c.lengths_ok.ensures ∙ not-false _ (ap not c.if-not-lengths_ok.false)) c.if-counts-eq-STARTED.true
+    start_begun (lent_lists a.counts.now a.sends.now a.octets.now) a.n a.k (sym c.lengths_ok.ensures ∙ c.if-not-lengths_ok.false) c.if-counts-eq-STARTED.true
 
 pub returns-then-wrong_size : goal.returns-then-wrong_size
 returns-then-wrong_size c =
     let a = c.args in
-    start_size (lent_lists a.counts.now a.sends.now a.octets.now) a.n a.k (sym c.lengths_ok.ensures ∙ not-false _ (ap not c.if-not-lengths_ok.false)) c.if-counts-eq-STARTED.false (sym c.wrong_size.ensures ∙ c.if-wrong_size.true)
+    start_size (lent_lists a.counts.now a.sends.now a.octets.now) a.n a.k (sym c.lengths_ok.ensures ∙ c.if-not-lengths_ok.false) c.if-counts-eq-STARTED.false (sym c.wrong_size.ensures ∙ c.if-wrong_size.true)
 
 pub bounds-counts-0-2 : goal.bounds-counts-0-2
 bounds-counts-0-2 c =
     let a = c.args in
-    let sized = lengths_of (lent_lists a.counts.now a.sends.now a.octets.now) (sym c.lengths_ok.ensures ∙ not-false _ (ap not c.if-not-lengths_ok.false)) in
+    let sized = lengths_of (lent_lists a.counts.now a.sends.now a.octets.now) (sym c.lengths_ok.ensures ∙ c.if-not-lengths_ok.false) in
     omega (arith, sized.counts, c.clear.ensures.words_len_unchanged)
 
 pub bounds-counts-1 : goal.bounds-counts-1
 bounds-counts-1 c =
     let a = c.args in
-    let sized = lengths_of (lent_lists a.counts.now a.sends.now a.octets.now) (sym c.lengths_ok.ensures ∙ not-false _ (ap not c.if-not-lengths_ok.false)) in
+    let sized = lengths_of (lent_lists a.counts.now a.sends.now a.octets.now) (sym c.lengths_ok.ensures ∙ c.if-not-lengths_ok.false) in
     simp length-set (omega (arith, sized.counts, c.clear.ensures.words_len_unchanged))
 
 pub bounds-counts-2 : goal.bounds-counts-2
 bounds-counts-2 c =
     let a = c.args in
-    let sized = lengths_of (lent_lists a.counts.now a.sends.now a.octets.now) (sym c.lengths_ok.ensures ∙ not-false _ (ap not c.if-not-lengths_ok.false)) in
+    let sized = lengths_of (lent_lists a.counts.now a.sends.now a.octets.now) (sym c.lengths_ok.ensures ∙ c.if-not-lengths_ok.false) in
     simp length-set (omega (arith, sized.counts, c.clear.ensures.words_len_unchanged))
 
 pub returns : goal.returns
 returns c =
     let a = c.args in
-    let e = sym c.lengths_ok.ensures ∙ not-false _ (ap not c.if-not-lengths_ok.false) in
+    let e = sym c.lengths_ok.ensures ∙ c.if-not-lengths_ok.false in
     let L = lent_lists a.counts.now a.sends.now a.octets.now in
     let sized = lengths_of L e in
     let cleared = c.clear.new.words in

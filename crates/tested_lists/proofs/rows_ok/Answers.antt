@@ -30,14 +30,14 @@ row_ok-requires c =
     (c.requires.0, rule.1.0.0.1, rule.1.0.1.1, omega (arith, rule.1.1.0, c.requires.1, c.loop-row.invariant.0, c.loop-row-test.true))
 
 pub returns-then-not-row_ok : goal.returns-then-not-row_ok
-returns-then-not-row_ok c =
+returns-then-not-row_ok c octets =
     let a = c.args in
     let l = c.loop-row in
     let N = counts_in a.counts.now in
     let T = rows_in a.sends.now octets in
     let rule = c.requires.2 in
     row_fails N T l.low l.entries l.row (l.invariant.1 octets) rule.1.0.0.1 rule.1.0.1.1 c.loop-row-test.true
-    (λ h. clash _ ((reflect (fits_here N T l.low l.row)).1 h) (sym (c.row_ok.ensures octets) ∙ not-true _ (ap not c.if-not-row_ok.true)))
+    (λ h. clash _ ((reflect (fits_here N T l.low l.row)).1 h) (sym (c.row_ok.ensures octets) ∙ c.if-not-row_ok.true))
 
 pub message_at-message-requires : goal.message_at-message-requires
 message_at-message-requires c = omega (arith, c.requires.2.1.1.0, c.requires.1, c.loop-row.invariant.0, c.loop-row-test.true)
@@ -46,7 +46,7 @@ pub overflow_add-low : goal.overflow_add-low
 overflow_add-low c =
     let a = c.args in
     let l = c.loop-row in
-    let fits = (reflect (fits_here (counts_in a.counts.now) (rows_in a.sends.now []) l.low l.row)).0 (sym (c.row_ok.ensures []) ∙ not-false _ (ap not c.if-not-row_ok.false)) in
+    let fits = (reflect (fits_here (counts_in a.counts.now) (rows_in a.sends.now []) l.low l.row)).0 (sym (c.row_ok.ensures []) ∙ c.if-not-row_ok.false) in
     let number = ap (λ (m : Message). m.number.0) (c.message_at-message.ensures []) in
     omega (arith, number, fits.1.1.0, c.requires.2.1.1.1.1 _ fits.0)
 
@@ -54,7 +54,7 @@ pub offset_bounds-low-s : goal.offset_bounds-low-s
 offset_bounds-low-s c =
     let a = c.args in
     let l = c.loop-row in
-    let fits = (reflect (fits_here (counts_in a.counts.now) (rows_in a.sends.now []) l.low l.row)).0 (sym (c.row_ok.ensures []) ∙ not-false _ (ap not c.if-not-row_ok.false)) in
+    let fits = (reflect (fits_here (counts_in a.counts.now) (rows_in a.sends.now []) l.low l.row)).0 (sym (c.row_ok.ensures []) ∙ c.if-not-row_ok.false) in
     let station = ap (λ (m : Message). m.initiator.0) (c.message_at-message.ensures []) in
     omega (arith, station, fits.0, c.requires.2.1.0.0.1)
 
@@ -62,7 +62,7 @@ pub bounds-low-s : goal.bounds-low-s
 bounds-low-s c =
     let a = c.args in
     let l = c.loop-row in
-    let fits = (reflect (fits_here (counts_in a.counts.now) (rows_in a.sends.now []) l.low l.row)).0 (sym (c.row_ok.ensures []) ∙ not-false _ (ap not c.if-not-row_ok.false)) in
+    let fits = (reflect (fits_here (counts_in a.counts.now) (rows_in a.sends.now []) l.low l.row)).0 (sym (c.row_ok.ensures []) ∙ c.if-not-row_ok.false) in
     let station = ap (λ (m : Message). m.initiator.0) (c.message_at-message.ensures []) in
     omega (arith, station, fits.0, c.requires.2.1.0.0.1, (l.invariant.1 []).long)
 
@@ -89,7 +89,7 @@ loop-row-preserved c =
       omega (arith, c.loop-row-test.true),
       λ octets.
           let T = rows_in a.sends.now octets in
-          let fits = (reflect (fits_here N T l.low l.row)).0 (sym (c.row_ok.ensures octets) ∙ not-false _ (ap not c.if-not-row_ok.false)) in
+          let fits = (reflect (fits_here N T l.low l.row)).0 (sym (c.row_ok.ensures octets) ∙ c.if-not-row_ok.false) in
           let message = c.message_at-message.ensures octets in
           passed_on N T l.low l.entries l.row (l.invariant.1 octets) rule.1.0.0.1 rule.1.0.1.1 fits _ _ c.count-entries.result
           (ap (λ (m : Message). m.initiator.0) message) (ap (λ (m : Message). m.number.0) message) (c.count-entries.ensures ∙ ap (λ (m : Message). size 64 m.carts) message),
@@ -99,7 +99,7 @@ pub bounds-counts-4 : goal.bounds-counts-4
 bounds-counts-4 c = omega (arith, c.requires.0)
 
 pub returns : goal.returns
-returns c =
+returns c octets =
     let a = c.args in
     let l = c.loop-row in
     let rule = c.requires.2 in

@@ -16,9 +16,9 @@ returns-then-text-gt-TEXT c =
 pub returns-then-not-passes : goal.returns-then-not-passes
 returns-then-not-passes c =
     let a = c.args in
-    broken_send (lent_lists a.counts.now a.sends.now a.octets.now) a.station.0 a.set a.text.now c.if-text-gt-TEXT.false (sym c.passes.ensures ∙ not-true _ (ap not c.if-not-passes.true))
+    broken_send (lent_lists a.counts.now a.sends.now a.octets.now) a.station.0 a.set a.text.now c.if-text-gt-TEXT.false (sym c.passes.ensures ∙ c.if-not-passes.true)
 
 pub send-requires : goal.send-requires
 send-requires c =
     let a = c.args in
-    tested_ready (lent_lists a.counts.now a.sends.now a.octets.now) (sym c.passes.ensures ∙ not-false _ (ap not c.if-not-passes.false))
+    tested_ready (lent_lists a.counts.now a.sends.now a.octets.now) (sym c.passes.ensures ∙ c.if-not-passes.false)

@@ -11,9 +11,9 @@ use Rattle.tested_lists.proofs.take.Goals as goal
 pub returns-then-not-passes : goal.returns-then-not-passes
 returns-then-not-passes c =
     let a = c.args in
-    broken_take (lent_lists a.counts.now a.sends.now a.octets.now) a.station.0 a.cart.0 a.buffer.now (sym c.passes.ensures ∙ not-true _ (ap not c.if-not-passes.true))
+    broken_take (lent_lists a.counts.now a.sends.now a.octets.now) a.station.0 a.cart.0 a.buffer.now (sym c.passes.ensures ∙ c.if-not-passes.true)
 
 pub take-requires : goal.take-requires
 take-requires c =
     let a = c.args in
-    tested_ready (lent_lists a.counts.now a.sends.now a.octets.now) (sym c.passes.ensures ∙ not-false _ (ap not c.if-not-passes.false))
+    tested_ready (lent_lists a.counts.now a.sends.now a.octets.now) (sym c.passes.ensures ∙ c.if-not-passes.false)

@@ -27,9 +27,8 @@ returns-in-Start c =
 pub returns-in-Send : goal.returns-in-Send
 returns-in-Send c =
     let a = c.args in
-    let g = c.call-in-Send-1.given in
     let L = lent_lists a.counts.now a.sends.now a.octets.now in
-    by_call a.input.now a.call _ L _ a.index a.output.now a.output.now a.at a.at g.1 (part_sent a.input.now g.0.1.1.0 g.0.1.1.1.0 L _ _ _ c.send.result a.index a.output.now a.at c.requires.lists_ready.0 c.send.ensures)
+    by_call a.input.now a.call _ L _ a.index a.output.now a.output.now a.at a.at c.in-Send.is (part_sent a.input.now c.in-Send.from c.in-Send.size L _ _ _ c.send.result a.index a.output.now a.at c.requires.lists_ready.0 c.send.ensures)
 
 pub returns-in-Take : goal.returns-in-Take
 returns-in-Take c =

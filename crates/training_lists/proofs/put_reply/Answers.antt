@@ -6,7 +6,7 @@ use Rattle.training_lists.proofs.put_reply.Goals as goal
 pub returns-in_default : goal.returns-in_default
 returns-in_default c =
     let a = c.args in
-    no_reply a.index a.station.0 a.reply c.in_default.in_default-own.keys2 a.output.now a.at
+    no_reply a.index a.station.0 a.reply c.in_default.not-Took a.output.now a.at
 
 pub returns : goal.returns
 returns c =
