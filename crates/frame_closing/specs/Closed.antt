@@ -1,6 +1,5 @@
 -- THE CLOSING OF A RUN: the line behind the lines of its frames, and what all of them are together.
 use Rattle.std.specs.Prelude.{◌≡◌, Bool, cond, not, ◌&&◌, List, [], ◌∷◌, ◌++◌, ℕ, ◌+◌, eqb, length}
-use Rattle.protocol.specs.Folds.{count}
 use Rattle.protocol.specs.Floor.{Floor, whole_floor, limits}
 use Rattle.protocol.specs.Quiet.{QuietAnswer}
 use Rattle.protocol.specs.Closing.{quiet_word, closing_fields, closing_line, printed_closing}

@@ -3,11 +3,10 @@ use native.Mathlib.Omega.{arith}
 use Rattle.protocol.specs.Floor.{whole_floor}
 use Rattle.frame_stream.proofs.Fresh.{fresh, fresh_ready, floor_lengths}
 use Rattle.frame_closing.proofs.Closings.{closed}
-use borrow.Author.Rules.{rules}
 use Rattle.frame_closing.proofs.close.Goals as goal
 
 pub run_over-run-requires : goal.run_over-run-requires
-run_over-run-requires c =
+run_over-run-requires g c =
     let s = c.no_stations-stations in
     let k = c.no_carts-carts in
     let m = c.no_messages-messages in
@@ -19,7 +18,7 @@ run_over-run-requires c =
     (omega (arith, numbers.held_is), (whole_floor, numbers, fresh_ready whole_floor _ _ _ _ _ _ s.ensures.1 long))
 
 pub hand_line-handed-requires : goal.hand_line-handed-requires
-hand_line-handed-requires c =
+hand_line-handed-requires g c =
     let s = c.no_stations-stations in
     let k = c.no_carts-carts in
     let m = c.no_messages-messages in
@@ -31,7 +30,7 @@ hand_line-handed-requires c =
     ((c.run_over-run.ensures whole_floor numbers (fresh_ready whole_floor _ _ _ _ _ _ s.ensures.1 long)).ready, omega arith)
 
 pub returns : goal.returns
-returns c =
+returns g c =
     let s = c.no_stations-stations in
     let k = c.no_carts-carts in
     let m = c.no_messages-messages in

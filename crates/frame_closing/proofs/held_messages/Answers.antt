@@ -1,10 +1,6 @@
-use mathlib.Core.Path.{◌≡◌}
-use Prim.Native.Nat.{◌-◌, ◌≤◌}
 use native.Mathlib.Omega.{arith}
-use Rattle.protocol.specs.Folds.{count}
 use Rattle.frame_closing.specs.Closed.{is_taken}
 use Rattle.frame_closing.proofs.Lines.{count_none, count_more, count_all}
-use borrow.Author.Rules.{rules}
 use Rattle.frame_closing.proofs.held_messages.Goals as goal
 
 pub loop-m-init : goal.loop-m-init

@@ -1,11 +1,8 @@
 -- `frame_closing::held_messages` meets its contract. The invariant: so many of the rooms asked are taken.
 use mathlib.Core.Path.{◌≡◌}
 use Prim.Native.Nat.{◌-◌, ◌≤◌}
-use native.Mathlib.Omega.{arith}
 use Rattle.protocol.specs.Folds.{count}
 use Rattle.frame_closing.specs.Closed.{is_taken}
-use Rattle.frame_closing.proofs.Lines.{count_none, count_more, count_all}
-use borrow.Author.Rules.{rules}
 use Rattle.frame_closing.proofs.held_messages.Given as goal
 
 abbrev pub invariant-loop-m : goal.invariant-loop-m

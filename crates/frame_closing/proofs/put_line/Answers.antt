@@ -6,7 +6,6 @@ use Rattle.view.specs.View.{lent}
 use Rattle.view.proofs.Lengths.{lengths_of}
 use Rattle.event_answers.proofs.Readies.{has_head, started_passes}
 use Rattle.frame_closing.proofs.Lines.{wrote_refused, wrote_quiet}
-use borrow.Author.Rules.{rules}
 use mathlib.Core.Bool.{not}
 use mathlib.Core.Path.{ap}
 use Rattle.frame_closing.proofs.put_line.Goals as goal

@@ -2,7 +2,6 @@
 use native.Mathlib.Omega.{arith}
 use lib.ListN.{length-set}
 use Rattle.frame_closing.proofs.Lines.{word_written}
-use borrow.Author.Rules.{rules}
 use Rattle.frame_closing.proofs.put_quiet.Goals as goal
 
 pub bounds-line-1 : goal.bounds-line-1

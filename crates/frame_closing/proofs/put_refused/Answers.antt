@@ -1,6 +1,5 @@
 -- `frame_closing::put_refused` meets its contract.
 use Rattle.frame_closing.proofs.Lines.{refused_written}
-use borrow.Author.Rules.{rules}
 use Rattle.frame_closing.proofs.put_refused.Goals as goal
 
 pub returns : goal.returns

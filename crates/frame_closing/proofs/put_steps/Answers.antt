@@ -1,6 +1,5 @@
 -- `frame_closing::put_steps` meets its contract.
 use Rattle.frame_closing.proofs.Lines.{steps_written}
-use borrow.Author.Rules.{rules}
 use Rattle.frame_closing.proofs.put_steps.Goals as goal
 
 pub returns : goal.returns

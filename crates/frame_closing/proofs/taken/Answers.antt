@@ -1,6 +1,5 @@
 -- `frame_closing::taken` meets its contract.
 use Rattle.frame_closing.proofs.Lines.{room_free, room_taken}
-use borrow.Author.Rules.{rules}
 use Rattle.frame_closing.proofs.taken.Goals as goal
 
 pub returns-then-waiting_of-eq0 : goal.returns-then-waiting_of-eq0
