@@ -1,11 +1,11 @@
 -- ONE TURN OF A CHECK: what a piece comes to.
 use mathlib.Core.Path.{◌≡◌, refl, sym, ap, ap₂, ◌∙◌, subst}
 use mathlib.Core.Bool.{Bool, true, false}
-use mathlib.Core.List.{List, [], ◌∷◌, ◌++◌}
-use Prim.Native.Nat.{ℕ, zero, suc, ◌+◌, ◌-◌, ◌≤◌, ◌<◌}
+use mathlib.Core.List.{List, ◌++◌}
+use Prim.Native.Nat.{ℕ, ◌+◌, ◌-◌, ◌≤◌, ◌<◌}
 use native.Mathlib.Omega.{arith}
 use lib.ListN.{length, take, drop, length-drop}
-use lib.Seq.{paste, take-add, take_at, drop_at, length-take-le}
+use lib.Seq.{paste, take-add, drop_at, length-take-le}
 use borrow.Author.Tests.{lt-ltb, le-ltb, eq-eqb, ne_eqb}
 use Rattle.frame_reader.specs.Checks.{Found, after, checked, check_in, Fed}
 use Rattle.frame_reader.specs.declared.Checked.{Checked}
@@ -47,19 +47,6 @@ front_is l x at have h k e =
     kept_front l x at (have - at) (omega arith) e
     ∙ sym (drop_at (take at l) (take (have - at) (drop at l)) at (length-take-le at l (omega arith)))
     ∙ ap (drop at) (sym (take-add at (have - at) l) ∙ ap (λ (n : ℕ). take n l) sum)
-
--- A READ behind the octets that were kept
-pub read_behind_is : (P l ys : List ℕ) (kept n count : ℕ) → P ≡ take kept l ++ ys → kept ≤ length l → length P ≡ length l → count ≤ length (take n (drop kept P))
-    → ((kept + count ≤ length P) × (take kept P ≡ take kept l)) × (length P ≡ length l)
-read_behind_is P l ys kept n count e h same few =
-    let left = length-drop kept P in
-    let part = length_take_most n (drop kept P) in
-    ((omega arith, ap (take kept) e ∙ take_at (take kept l) ys kept (length-take-le kept l h)), same)
-  where
-    length_take_most : (m : ℕ) (k : List ℕ) → length (take m k) ≤ length k
-    length_take_most zero k = omega arith
-    length_take_most (suc m) [] = omega arith
-    length_take_most (suc m) (x ∷ k) = let z = length_take_most m k in omega arith
 
 -- A PIECE of this number of octets, read behind those that were kept: the input was l, then l₁, and is l₂ when the octets that the piece leaves are at its front
 module _ (l l₁ : List ℕ) (p : Progress) (count : ℕ) (inside : Inside l p) (there : p.kept + count ≤ length l₁) (same : take p.kept l₁ ≡ take p.kept l)

@@ -188,8 +188,7 @@ fn check_reader<P: Print + Eprint, R: Read + Drop>(rt: &P, from: R, name: &str) 
         why: None,
     };
     let p = check_all(&mut noted, &mut input);
-    if p.state == FAILED {
-        let why = noted.why.unwrap_or(io::Error::from(io::ErrorKind::Other));
+    if let Some(why) = noted.why {
         fail(rt, name, why);
         return;
     }

@@ -1,18 +1,13 @@
 -- `checkframes::check_all` meets its contract. The invariant: what was found and kept is that of all octets so far. The turns fall.
-use mathlib.Core.Path.{sym, ◌∙◌}
-use mathlib.Core.List.{List, [], ◌++◌}
+use mathlib.Core.List.{List}
 use Prim.Native.Nat.{ℕ}
-use native.Mathlib.Omega.{arith}
 use lib.ListN.{take}
-use borrow.Author.Rules.{rules}
 use Rattle.frame_reader.specs.Checks.{check_in, Fed}
-use Rattle.frame_reader.proofs.Pieces.{fed_none}
 use Rattle.checkframes.specs.Progress.{Inside}
-use Rattle.checkframes.proofs.Turns.{has_ended}
 use Rattle.checkframes.proofs.check_all.Given as goal
 
 abbrev pub invariant-loop-turns : goal.invariant-loop-turns
-invariant-loop-turns l = Inside l.input l.p × ((all : List ℕ) × Fed all (take l.p.kept l.input) (check_in l.p.found))
+invariant-loop-turns g l = Inside l.input l.p × ((all : List ℕ) × Fed all (take l.p.kept l.input) (check_in l.p.found))
 
 abbrev pub decreases-loop-turns : goal.decreases-loop-turns
-decreases-loop-turns l = l.turns
+decreases-loop-turns g l = l.turns

@@ -2,7 +2,6 @@
 use mathlib.Core.Path.{refl}
 use mathlib.Core.Bool.{false}
 use Rattle.protocol.proofs.Tests.{clash}
-use borrow.Author.Rules.{rules}
 use Rattle.checkframes.proofs.goes_on.Goals as goal
 
 pub returns-then-turns-eq0 : goal.returns-then-turns-eq0

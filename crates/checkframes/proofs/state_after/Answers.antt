@@ -1,6 +1,5 @@
 -- `checkframes::state_after` meets its contract.
 use native.Mathlib.Omega.{arith}
-use borrow.Author.Rules.{rules}
 use Rattle.checkframes.proofs.Turns.{state_refused, state_ended, state_wants}
 use Rattle.checkframes.proofs.state_after.Goals as goal
 
