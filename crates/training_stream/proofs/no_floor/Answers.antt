@@ -1,7 +1,6 @@
 -- `training_stream::no_floor` meets its contract.
 use Rattle.protocol.specs.Floor.{whole_floor}
 use Rattle.frame_stream.proofs.Fresh.{fresh, fresh_ready, floor_lengths}
-use borrow.Author.Rules.{rules}
 use Rattle.training_stream.proofs.no_floor.Goals as goal
 
 pub returns : goal.returns

@@ -1,7 +1,6 @@
 -- `training_stream::run_floor` meets its contract.
 use native.Mathlib.Omega.{arith}
 use Rattle.protocol.specs.Floor.{whole_floor}
-use borrow.Author.Rules.{rules}
 use Rattle.training_stream.proofs.run_floor.Goals as goal
 
 pub take_frames-progress-requires : goal.take_frames-progress-requires

@@ -2,11 +2,10 @@ use mathlib.Core.Path.{◌≡◌, refl, sym}
 use native.Mathlib.Omega.{arith}
 use lib.ListN.{length}
 use Rattle.training_stream.proofs.Fresh.{fresh_lists, unstarted_lists}
-use borrow.Author.Rules.{rules}
 use Rattle.training_stream.proofs.run_over.Goals as goal
 
 pub run_all-requires : goal.run_all-requires
-run_all-requires c =
+run_all-requires g c =
     let a = c.args in
     let octets : length a.octets.now ≡ 1048576 = omega arith in
     let ready = fresh_lists a.counts.now a.sends.now a.octets.now (c.requires.1, c.requires.2) c.requires.3 octets in

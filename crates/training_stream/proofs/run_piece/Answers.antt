@@ -5,52 +5,51 @@ use lib.Seq.{length-take-le}
 use Rattle.lists.specs.View.{lent_lists}
 use Rattle.frame_stream.proofs.Feeds.{part_length}
 use Rattle.training_stream.proofs.Turns.{run_made, run_inside}
-use borrow.Author.Rules.{rules}
 use Rattle.training_stream.proofs.run_piece.Goals as goal
 
 pub slice_bounds-make_calls-count : goal.slice_bounds-make_calls-count
-slice_bounds-make_calls-count c = omega (arith, c.requires.inside.0.run)
+slice_bounds-make_calls-count g c = omega (arith, c.requires.inside.0.run)
 
 pub slice_bounds-make_calls-start : goal.slice_bounds-make_calls-start
-slice_bounds-make_calls-start c = omega (arith, c.requires.inside.0.run, c.requires.inside.0.read)
+slice_bounds-make_calls-start g c = omega (arith, c.requires.inside.0.run, c.requires.inside.0.read)
 
 pub slice_bounds-make_calls-end : goal.slice_bounds-make_calls-end
-slice_bounds-make_calls-end c = omega (arith, c.requires.inside.0.run, c.requires.inside.0.read)
+slice_bounds-make_calls-end g c = omega (arith, c.requires.inside.0.run, c.requires.inside.0.read)
 
 pub make_calls-n-requires : goal.make_calls-n-requires
-make_calls-n-requires c =
-    let g = c.run_floor-run.ensures in
+make_calls-n-requires g c =
+    let ran = c.run_floor-run.ensures in
     record {
-      lists_ready = (c.requires.ready.1, c.requires.ready.2, g.gone.texts);
-      width_in_bounds = (omega (arith, g.gone.few, g.calls_len_unchanged, c.requires.inside.5), omega (arith, g.gone.few, c.requires.inside.4), omega (arith, g.gone.few, c.requires.inside.2));
+      lists_ready = (c.requires.ready.1, c.requires.ready.2, ran.gone.texts);
+      width_in_bounds = (omega (arith, ran.gone.few, ran.calls_len_unchanged, c.requires.inside.5), omega (arith, ran.gone.few, c.requires.inside.4), omega (arith, ran.gone.few, c.requires.inside.2));
     }
 
 pub slice_bounds-hand_on-end : goal.slice_bounds-hand_on-end
-slice_bounds-hand_on-end c =
+slice_bounds-hand_on-end g c =
     let m = c.make_calls-n.ensures in
     omega (arith, m.1, m.0.kept, c.run_floor-run.ensures.gone.few, c.requires.inside.4)
 
 pub slice_bounds-hand_on-end-2 : goal.slice_bounds-hand_on-end-2
-slice_bounds-hand_on-end-2 c =
+slice_bounds-hand_on-end-2 g c =
     let m = c.make_calls-n.ensures in
     sym (length-take-le _ _ (omega (arith, m.1, m.0.kept, c.run_floor-run.ensures.gone.few, c.requires.inside.4)))
 
 pub after_run-feed-requires : goal.after_run-feed-requires
-after_run-feed-requires c =
+after_run-feed-requires g c =
     let a = c.args in
-    let g = c.run_floor-run.ensures.gone in
+    let gone = c.run_floor-run.ensures.gone in
     let part = part_length a.input.now a.f c.requires.inside.0 in
-    (omega (arith, part, g.inside, c.requires.inside.0.run, c.requires.inside.0.read, c.requires.inside.3), omega (arith, g.few, c.requires.inside.2))
+    (omega (arith, part, gone.inside, c.requires.inside.0.run, c.requires.inside.0.read, c.requires.inside.3), omega (arith, gone.few, c.requires.inside.2))
 
 pub returns : goal.returns
-returns c =
+returns g c =
     let a = c.args in
     let run = c.run_floor-run in
     let m = c.make_calls-n in
     let h = c.hand_on-handed in
     let r = c.after_run-feed in
     let K = lent_lists a.counts.now a.sends.now a.octets.now in
-    let size = h.ensures ∙ sym (slice_aggregate_hand_on c) in
+    let size = h.ensures ∙ length-take-le _ m.new.output (omega (arith, m.ensures.1, m.ensures.0.kept, run.ensures.gone.few, c.requires.inside.4)) in
     record {
       ready_2 = (run.ensures.gone.ready, m.ensures.0.ready, run_made a.input.now a.floor run.result.floor _ a.output.now _ K _ a.f r.result run.result.progress m.result h.result c.requires.inside.0 c.requires.inside.1 run.ensures.gone m.ensures.0 size r.ensures);
       inside_2 = run_inside a.input.now a.floor run.result.floor _ a.output.now _ K _ a.f r.result run.result.progress m.result h.result c.requires.inside.0 c.requires.inside.1 run.ensures.gone m.ensures.0 size r.ensures;

@@ -4,11 +4,10 @@ use native.Mathlib.Omega.{arith}
 use Rattle.lists.specs.View.{lent_lists, lists_in}
 use Rattle.training_stream.specs.Memory.{lent_in}
 use Rattle.training_stream.proofs.Turns.{read_made}
-use borrow.Author.Rules.{rules}
 use Rattle.training_stream.proofs.turn.Goals as goal
 
 pub returns-then-f-eq-WANTS : goal.returns-then-f-eq-WANTS
-returns-then-f-eq-WANTS c =
+returns-then-f-eq-WANTS g c =
     let a = c.args in
     let m = c.more-feed.ensures in
     record {
@@ -18,7 +17,7 @@ returns-then-f-eq-WANTS c =
     }
 
 pub run_piece-requires : goal.run_piece-requires
-run_piece-requires c =
+run_piece-requires g c =
     let p = c.requires.inside in
     record {
       ready = c.requires.ready;
@@ -26,7 +25,7 @@ run_piece-requires c =
     }
 
 pub returns : goal.returns
-returns c =
+returns g c =
     let r = c.run_piece.ensures in
     record {
       ready_2 = r.ready_2;
