@@ -2,11 +2,9 @@
 #![tactic(auto)]
 
 use std::env::{Env, FillError};
-use std::fs;
-use std::io;
 use std::io::{Read, Write};
 use std::rt::Files;
-use std::str;
+use std::{fs, io, str};
 
 // Which program it is that the file is an input of: `floor`, `demo`, `closing` or `training`.
 #[derive(Clone, Copy)]
