@@ -3,7 +3,6 @@ use mathlib.Core.Path.{refl, ap, ◌∙◌}
 use Prim.Native.Nat.{◌+◌, ◌*◌}
 use native.Mathlib.Omega.{arith}
 use borrow.Rule.Slice.PartMut.{mid_len}
-use borrow.Author.Rules.{rules}
 use Rattle.protocol.specs.Folds.{update}
 use Rattle.list_rows.specs.Rows.{text_room, part_in}
 use Rattle.list_rows.proofs.TextLaws.{part_put, text_before}

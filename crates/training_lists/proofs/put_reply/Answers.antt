@@ -1,5 +1,4 @@
 -- `training_lists::put_reply` meets its contract.
-use borrow.Author.Rules.{rules}
 use Rattle.training_lists.proofs.LineLaws.{no_reply, took_written}
 use Rattle.training_lists.proofs.put_reply.Goals as goal
 
