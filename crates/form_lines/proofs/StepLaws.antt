@@ -1,7 +1,7 @@
 -- One record, and one line, as the functions go: each test in its turn.
 use mathlib.Core.Path.{refl, sym, ap, ap₂, ◌∙◌, ◌≡◌}
 use mathlib.Core.Bool.{Bool, true, false, ◌&&◌, not}
-use mathlib.Core.List.{List, [], map}
+use mathlib.Core.List.{List, map}
 use Prim.Native.Nat.{ℕ, suc, ◌+◌, ◌-◌, ◌*◌, ◌^◌, ◌≤◌, ◌<◌}
 use native.Mathlib.Omega.{arith}
 use lib.Dec.{eqb, ltb}

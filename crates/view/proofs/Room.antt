@@ -10,7 +10,6 @@ use Rattle.protocol.specs.Floor.{Record, put, on_the_lines}
 use Rattle.protocol.specs.Form.{bit}
 use Rattle.protocol.proofs.Tests.{by_test}
 use Rattle.protocol.proofs.Counting.{sum_ext, sum_add, sum_nil}
-use Rattle.lines.specs.declared.Record as word
 use Rattle.lines.specs.Lines.{records_on, used, registers_in}
 use Rattle.view.specs.Records.{record_in, lines_in}
 use Rattle.view.proofs.LinesView.{line_in}

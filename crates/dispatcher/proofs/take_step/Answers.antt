@@ -8,32 +8,28 @@ pub wire-answer-requires : goal.wire-answer-requires
 wire-answer-requires c =
     let a = c.args in
     let P = c.requires.0.0 in
-    let w = c.next-1.given in
-    (P, wire_ready (lent P a.stations.now a.carts.now a.messages.now a.lines.now a.texts.now a.store.now) a.next c.requires.0.1 w.0.0 w.0.1.0 w.1)
+    (P, wire_ready (lent P a.stations.now a.carts.now a.messages.now a.lines.now a.texts.now a.store.now) a.next c.requires.0.1 c.in-Wire.from c.in-Wire.to c.in-Wire.is)
 
 pub radio_into-answer-requires : goal.radio_into-answer-requires
 radio_into-answer-requires c =
     let a = c.args in
     let P = c.requires.0.0 in
-    let w = c.next-in-Radio-1.given in
-    (P, radio_ready (lent P a.stations.now a.carts.now a.messages.now a.lines.now a.texts.now a.store.now) a.next c.requires.0.1 w.0.0 w.0.1.0 w.1)
+    (P, radio_ready (lent P a.stations.now a.carts.now a.messages.now a.lines.now a.texts.now a.store.now) a.next c.requires.0.1 c.in-Radio.station c.in-Radio.cart c.in-Radio.is)
 
 pub returns-in-Wire : goal.returns-in-Wire
 returns-in-Wire c =
     let a = c.args in
-    let w = c.next-1.given in
     λ P e d q.
-    wire_comes (lent P a.stations.now a.carts.now a.messages.now a.lines.now a.texts.now a.store.now) a.next d w.0.0 w.0.1.0 w.1 _ c.wire-answer.result
-    (c.wire-answer.ensures P (wire_ready (lent P a.stations.now a.carts.now a.messages.now a.lines.now a.texts.now a.store.now) a.next d w.0.0 w.0.1.0 w.1))
+    wire_comes (lent P a.stations.now a.carts.now a.messages.now a.lines.now a.texts.now a.store.now) a.next d c.in-Wire.from c.in-Wire.to c.in-Wire.is _ c.wire-answer.result
+    (c.wire-answer.ensures P (wire_ready (lent P a.stations.now a.carts.now a.messages.now a.lines.now a.texts.now a.store.now) a.next d c.in-Wire.from c.in-Wire.to c.in-Wire.is))
     a.buffer.now _ c.records_of.ensures e q
 
 pub returns-in-Radio : goal.returns-in-Radio
 returns-in-Radio c =
     let a = c.args in
-    let w = c.next-in-Radio-1.given in
     λ P e d q.
-    radio_comes (lent P a.stations.now a.carts.now a.messages.now a.lines.now a.texts.now a.store.now) a.next d w.0.0 w.0.1.0 w.1 _ c.radio_into-answer.result _ _
-    (c.radio_into-answer.ensures P (radio_ready (lent P a.stations.now a.carts.now a.messages.now a.lines.now a.texts.now a.store.now) a.next d w.0.0 w.0.1.0 w.1))
+    radio_comes (lent P a.stations.now a.carts.now a.messages.now a.lines.now a.texts.now a.store.now) a.next d c.in-Radio.station c.in-Radio.cart c.in-Radio.is _ c.radio_into-answer.result _ _
+    (c.radio_into-answer.ensures P (radio_ready (lent P a.stations.now a.carts.now a.messages.now a.lines.now a.texts.now a.store.now) a.next d c.in-Radio.station c.in-Radio.cart c.in-Radio.is))
     c.requires.1 _ c.records_of-in-Radio.ensures e q
 
 pub returns-in-Nothing : goal.returns-in-Nothing

@@ -1,4 +1,5 @@
 -- `event_carts::flag_refusal` meets its contract.
+use borrow.Enum.Refused.{opened}
 use native.Mathlib.Omega.{arith}
 use Rattle.event_carts.proofs.FlagChecks.{flag_no_cart, flag_outside, flag_passes}
 use borrow.Author.Rules.{rules}
@@ -14,4 +15,4 @@ pub returns-in-Outside : goal.returns-in-Outside
 returns-in-Outside c = let a = c.args in λ P M W T O b. flag_outside a.stations.now a.carts.now a.cart.0 P M W T O b (omega (arith, c.cart_count.ensures, c.if-cart_count-cart.false)) c.place_of-place.result c.place_of-place.ensures c.in-Outside.in-Outside-own.keys1
 
 pub returns-in_default : goal.returns-in_default
-returns-in_default c = let a = c.args in λ P M W T O b. flag_passes a.stations.now a.carts.now a.cart.0 P M W T O b (omega (arith, c.cart_count.ensures, c.if-cart_count-cart.false)) c.place_of-place.result c.place_of-place.ensures c.in_default.in_default-own.keys2
+returns-in_default c = let a = c.args in λ P M W T O b. flag_passes a.stations.now a.carts.now a.cart.0 P M W T O b (omega (arith, c.cart_count.ensures, c.if-cart_count-cart.false)) c.place_of-place.result c.place_of-place.ensures (opened c.in_default.in_default-own.keys2)

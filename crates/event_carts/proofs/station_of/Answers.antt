@@ -5,6 +5,3 @@ use Rattle.event_carts.proofs.station_of.Goals as goal
 
 pub returns-in-At : goal.returns-in-At
 returns-in-At c = λ s q. at_there c.place_of-place.result _ c.in-At.here s c.place_of-place.ensures c.in-At.is q
-
-pub returns-in_default : goal.returns-in_default
-returns-in_default c = λ s q. never_at c.place_of-place.result _ s c.place_of-place.ensures c.in_default.in_default-own.keys2 q

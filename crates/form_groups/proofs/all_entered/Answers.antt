@@ -1,7 +1,6 @@
-use Prim.Native.Nat.{◌<◌}
 use native.Mathlib.Omega.{arith}
 use Rattle.carts.specs.View.{carts_in}
-use Rattle.form_tables.proofs.Walks.{Walked, walk_start, walk_end, walk_member, walk_below, walk_no, walk_on, walk_less}
+use Rattle.form_tables.proofs.Walks.{walk_start, walk_end, walk_member, walk_below, walk_no, walk_on, walk_less}
 use Rattle.form_groups.proofs.Entered.{has_entered, stays_out, came_in}
 use Rattle.form_groups.proofs.all_entered.Goals as goal
 

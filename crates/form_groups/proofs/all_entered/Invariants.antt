@@ -1,9 +1,8 @@
 -- `form_groups::all_entered` meets its contract. The invariant: the carts taken out have entered. The rest falls with each.
 use Prim.Native.Nat.{◌<◌}
-use native.Mathlib.Omega.{arith}
 use Rattle.carts.specs.View.{carts_in}
-use Rattle.form_tables.proofs.Walks.{Walked, walk_start, walk_end, walk_member, walk_below, walk_no, walk_on, walk_less}
-use Rattle.form_groups.proofs.Entered.{has_entered, stays_out, came_in}
+use Rattle.form_tables.proofs.Walks.{Walked}
+use Rattle.form_groups.proofs.Entered.{has_entered}
 use Rattle.form_groups.proofs.all_entered.Given as goal
 
 abbrev pub invariant-loop-rest : goal.invariant-loop-rest

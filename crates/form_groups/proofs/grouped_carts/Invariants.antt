@@ -1,12 +1,8 @@
 -- `form_groups::grouped_carts` meets its contract. The invariant: the members of the groups passed are collected.
-use mathlib.Core.Path.{◌≡◌, subst}
-use Prim.Native.Nat.{ℕ, ◌-◌, ◌≤◌}
-use native.Mathlib.Omega.{arith}
-use borrow.Author.Rules.{rules}
+use Prim.Native.Nat.{◌-◌, ◌≤◌}
 use Rattle.protocol.specs.Groups.{group_count}
 use Rattle.stations.specs.View.{head_in}
 use Rattle.form_tables.specs.Parts.{Collects}
-use Rattle.form_tables.proofs.Sets.{collect_none, collect_more}
 use Rattle.form_groups.proofs.grouped_carts.Given as goal
 
 abbrev pub invariant-loop-group : goal.invariant-loop-group

@@ -1,6 +1,5 @@
 -- `form_groups::groups_pass` meets its contract.
 use native.Mathlib.Omega.{arith}
-use borrow.Author.Rules.{rules}
 use Rattle.protocol.proofs.SetLaws.{member_below}
 use Rattle.stations.specs.View.{head_in}
 use Rattle.form_groups.proofs.Entered.{all_of, within_all}

@@ -1,6 +1,5 @@
 -- `form_groups::is_outside` meets its contract.
 use Rattle.form_groups.proofs.Entered.{met_outside, met_at, met_leaving, met_travelling}
-use borrow.Author.Rules.{rules}
 use Rattle.form_groups.proofs.is_outside.Goals as goal
 
 pub returns-in-Outside : goal.returns-in-Outside

@@ -1,13 +1,10 @@
 -- `form_lines::all_ended` meets its contract.
-use borrow.Author.Rules.{rules}
-use mathlib.Core.Path.{refl, ap, ◌∙◌, ◌≡◌}
-use Prim.Native.Nat.{ℕ, ◌-◌, ◌≤◌}
-use native.Mathlib.Omega.{arith}
+use mathlib.Core.Path.{◌≡◌}
+use Prim.Native.Nat.{◌-◌, ◌≤◌}
 use Rattle.protocol.specs.Folds.{every}
 use Rattle.carts.specs.View.{carts_in}
 use Rattle.messages.specs.View.{rooms_in}
 use Rattle.form_lines.specs.Pass.{ended}
-use Rattle.form_lines.proofs.PassLaws.{every_next}
 use Rattle.form_lines.proofs.all_ended.Given as goal
 
 abbrev pub invariant-loop-m : goal.invariant-loop-m

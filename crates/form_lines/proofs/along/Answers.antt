@@ -1,15 +1,14 @@
-use mathlib.Core.Path.{sym, ◌∙◌, ◌≡◌}
-use mathlib.Core.List.{List, map}
+use mathlib.Core.Path.{sym, ◌∙◌}
+use mathlib.Core.List.{List}
 use Prim.Native.Nat.{ℕ, ◌+◌, ◌*◌}
 use native.Mathlib.Omega.{arith}
-use lib.ListN.{length}
 use Rattle.carts.specs.View.{carts_in}
 use Rattle.messages.specs.View.{rooms_in}
-use Rattle.lines.specs.Lines.{records_from, registers_in}
+use Rattle.lines.specs.Lines.{registers_in}
 use Rattle.lines.proofs.Sums.{false_true}
 use Rattle.lines.proofs.Formed.{sized_of}
 use Rattle.lines.proofs.Test as chains
-use Rattle.form_lines.specs.Said.{said, said_on}
+use Rattle.form_lines.specs.Said.{said_on}
 use Rattle.form_lines.specs.Pass.{along}
 use Rattle.form_lines.specs.Ways.{met_of}
 use Rattle.form_lines.proofs.StepLaws as steps

@@ -1,20 +1,16 @@
 -- `form_lines::along` meets its contract. The invariant: what is still to come of the line and the marks make up the whole line, and from what
 -- was met so far the rest of it leads where the whole of it does.
-use mathlib.Core.Path.{sym, ◌∙◌, ◌≡◌}
-use mathlib.Core.List.{List, map}
-use Prim.Native.Nat.{ℕ, ◌+◌, ◌*◌}
-use native.Mathlib.Omega.{arith}
+use mathlib.Core.Path.{◌≡◌}
+use mathlib.Core.List.{map}
+use Prim.Native.Nat.{◌+◌, ◌*◌}
 use lib.ListN.{length}
 use Rattle.carts.specs.View.{carts_in}
 use Rattle.messages.specs.View.{rooms_in}
 use Rattle.lines.specs.Lines.{records_from, registers_in}
-use Rattle.lines.proofs.Sums.{false_true}
-use Rattle.lines.proofs.Formed.{sized_of}
 use Rattle.lines.proofs.Test as chains
 use Rattle.form_lines.specs.Said.{said, said_on}
 use Rattle.form_lines.specs.Pass.{along}
 use Rattle.form_lines.specs.Ways.{met_of}
-use Rattle.form_lines.proofs.StepLaws as steps
 use Rattle.form_lines.proofs.along.Given as goal
 
 abbrev pub invariant-loop-left : goal.invariant-loop-left

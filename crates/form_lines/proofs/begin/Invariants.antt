@@ -1,16 +1,13 @@
 -- `form_lines::begin` meets its contract.
-use borrow.Author.Rules.{rules}
-use mathlib.Core.Path.{refl, sym, ap, ◌∙◌, ◌≡◌}
+use mathlib.Core.Path.{◌≡◌}
 use mathlib.Core.Bool.{◌||◌, not}
-use Prim.Native.Nat.{ℕ, ◌-◌, ◌≤◌}
-use native.Mathlib.Omega.{arith}
-use lib.ListN.{length, length-set}
+use Prim.Native.Nat.{◌-◌, ◌≤◌}
+use lib.ListN.{length}
 use Rattle.protocol.specs.Folds.{every}
-use Rattle.rows.proofs.WordByWord.{ReadTo, read_one, read_all}
+use Rattle.rows.proofs.WordByWord.{ReadTo}
 use Rattle.messages.specs.View.{rooms_in}
 use Rattle.stations.specs.View.{stations_in}
 use Rattle.form_lines.specs.Pass.{gathered, apart, is_taken}
-use Rattle.form_lines.proofs.PassLaws.{every_next, taken_test}
 use Rattle.form_lines.proofs.begin.Given as goal
 
 abbrev pub invariant-loop-m : goal.invariant-loop-m

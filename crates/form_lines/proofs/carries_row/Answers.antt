@@ -1,6 +1,6 @@
 use mathlib.Core.Path.{◌≡◌, refl, ap, ap₂, ◌∙◌}
 use mathlib.Core.List.{List}
-use Prim.Native.Nat.{ℕ, ◌-◌, ◌≤◌}
+use Prim.Native.Nat.{ℕ}
 use native.Mathlib.Omega.{arith}
 use lib.Dec.{eqb}
 use lib.ListN.{get_or}
@@ -9,7 +9,6 @@ use Rattle.protocol.proofs.Tests.{list_of_at}
 use Rattle.lines.specs.Lines.{registers_in}
 use Rattle.carts.specs.View.{carts_in}
 use Rattle.form_lines.proofs.PassLaws.{every_next}
-use borrow.Author.Rules.{rules}
 use Rattle.form_lines.proofs.carries_row.Goals as goal
 
 pub loop-s-init : goal.loop-s-init

@@ -1,16 +1,10 @@
 -- `form_lines::carries_row` meets its contract. The invariant: the numbers passed are the same.
-use mathlib.Core.Path.{◌≡◌, refl, ap, ap₂, ◌∙◌}
-use mathlib.Core.List.{List}
-use Prim.Native.Nat.{ℕ, ◌-◌, ◌≤◌}
-use native.Mathlib.Omega.{arith}
+use mathlib.Core.Path.{◌≡◌}
+use Prim.Native.Nat.{◌-◌, ◌≤◌}
 use lib.Dec.{eqb}
-use lib.ListN.{get_or}
 use Rattle.protocol.specs.Folds.{every}
-use Rattle.protocol.proofs.Tests.{list_of_at}
 use Rattle.lines.specs.Lines.{registers_in}
 use Rattle.carts.specs.View.{carts_in}
-use Rattle.form_lines.proofs.PassLaws.{every_next}
-use borrow.Author.Rules.{rules}
 use Rattle.form_lines.proofs.carries_row.Given as goal
 
 abbrev pub invariant-loop-s : goal.invariant-loop-s

@@ -1,7 +1,6 @@
 -- `form_lines::expected_by` meets its contract. Beyond the table's rows there is nothing.
 use mathlib.Core.Path.{sym}
 use native.Mathlib.Omega.{arith}
-use borrow.Author.Rules.{rules}
 use Rattle.stations.proofs.TableLaws.{expected_past}
 use Rattle.form_lines.proofs.expected_by.Goals as goal
 

@@ -1,16 +1,14 @@
 use mathlib.Core.Path.{sym, ap, ◌∙◌, ◌≡◌}
-use Prim.Native.Nat.{ℕ, ◌+◌, ◌-◌, ◌*◌, ◌≤◌}
+use Prim.Native.Nat.{ℕ, ◌+◌, ◌*◌}
 use native.Mathlib.Omega.{arith}
-use lib.ListN.{length}
 use borrow.Author.Tests.{not-true, not-false}
 use Rattle.carts.specs.View.{carts_in}
 use Rattle.messages.specs.View.{rooms_in}
 use Rattle.stations.specs.View.{stations_in}
 use Rattle.form_lines.specs.Pass.{from_each}
-use Rattle.form_lines.specs.Ways.{met_of, Whole}
+use Rattle.form_lines.specs.Ways.{met_of}
 use Rattle.form_lines.proofs.PassLaws.{each_none, each_next}
 use Rattle.form_lines.proofs.Chained.{whole_at, checked, broken}
-use mathlib.Core.Bool.{not}
 use Rattle.form_lines.proofs.from_each.Goals as goal
 
 pub loop-i-init : goal.loop-i-init

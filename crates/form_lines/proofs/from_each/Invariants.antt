@@ -1,17 +1,12 @@
 -- `form_lines::from_each` meets its contract.
-use mathlib.Core.Path.{sym, ap, ◌∙◌, ◌≡◌}
-use Prim.Native.Nat.{ℕ, ◌+◌, ◌-◌, ◌*◌, ◌≤◌}
-use native.Mathlib.Omega.{arith}
+use mathlib.Core.Path.{◌≡◌}
+use Prim.Native.Nat.{◌-◌, ◌*◌, ◌≤◌}
 use lib.ListN.{length}
-use borrow.Author.Tests.{not-true, not-false}
 use Rattle.carts.specs.View.{carts_in}
 use Rattle.messages.specs.View.{rooms_in}
 use Rattle.stations.specs.View.{stations_in}
 use Rattle.form_lines.specs.Pass.{from_each}
 use Rattle.form_lines.specs.Ways.{met_of, Whole}
-use Rattle.form_lines.proofs.PassLaws.{each_none, each_next}
-use Rattle.form_lines.proofs.Chained.{whole_at, checked, broken}
-use mathlib.Core.Bool.{not}
 use Rattle.form_lines.proofs.from_each.Given as goal
 
 abbrev pub invariant-loop-i : goal.invariant-loop-i

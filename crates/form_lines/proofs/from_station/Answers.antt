@@ -1,16 +1,14 @@
 use mathlib.Core.Path.{sym, ap, ◌∙◌, ◌≡◌}
-use Prim.Native.Nat.{ℕ, ◌+◌, ◌-◌, ◌*◌, ◌≤◌}
+use Prim.Native.Nat.{ℕ, ◌+◌, ◌*◌}
 use native.Mathlib.Omega.{arith}
-use lib.ListN.{length}
 use borrow.Author.Tests.{not-true, not-false}
 use Rattle.carts.specs.View.{carts_in}
 use Rattle.messages.specs.View.{rooms_in}
 use Rattle.stations.specs.View.{stations_in}
 use Rattle.form_lines.specs.Pass.{from_station}
-use Rattle.form_lines.specs.Ways.{met_of, Whole}
+use Rattle.form_lines.specs.Ways.{met_of}
 use Rattle.form_lines.proofs.PassLaws.{row_none, row_next}
 use Rattle.form_lines.proofs.Chained.{whole_at, whole_more, whole_fails, checked, broken}
-use mathlib.Core.Bool.{not}
 use Rattle.form_lines.proofs.from_station.Goals as goal
 
 pub loop-j-init : goal.loop-j-init

@@ -1,14 +1,11 @@
 -- `form_lines::gather_acks` meets its contract.
-use borrow.Author.Rules.{rules}
-use mathlib.Core.Path.{refl, ap, ap₂, ◌∙◌, ◌≡◌}
-use Prim.Native.Nat.{ℕ, ◌-◌, ◌≤◌}
-use native.Mathlib.Omega.{arith}
+use mathlib.Core.Path.{◌≡◌}
+use Prim.Native.Nat.{◌-◌, ◌≤◌}
 use Rattle.protocol.specs.Folds.{every}
 use Rattle.sets.specs.Masks.{disjoint}
 use Rattle.messages.specs.View.{rooms_in}
 use Rattle.stations.specs.View.{stations_in}
-use Rattle.form_lines.specs.Pass.{gathered, apart}
-use Rattle.form_lines.proofs.PassLaws.{every_next, gathered_next}
+use Rattle.form_lines.specs.Pass.{gathered}
 use Rattle.form_lines.proofs.gather_acks.Given as goal
 
 abbrev pub invariant-loop-t : goal.invariant-loop-t

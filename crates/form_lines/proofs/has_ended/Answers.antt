@@ -1,5 +1,4 @@
 -- `form_lines::has_ended` meets its contract. A free room passes, a cart that is not named does not, and else the walk over the carts decides.
-use borrow.Author.Rules.{rules}
 use borrow.Author.Tests.{not-true, not-false}
 use mathlib.Core.Path.{ap, ◌∙◌}
 use mathlib.Core.Bool.{◌&&◌}

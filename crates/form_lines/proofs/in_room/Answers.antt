@@ -1,5 +1,4 @@
 -- `form_lines::in_room` meets its contract.
-use borrow.Author.Rules.{rules}
 use native.Mathlib.Omega.{arith}
 use Rattle.messages.specs.View.{rooms_in}
 use Rattle.form_lines.proofs.CodeLaws.{high_room, low_room, no_room}

@@ -1,5 +1,5 @@
 -- `form_lines::is_right` meets its contract.
-use borrow.Author.Rules.{rules}
+use native.Mathlib.Omega.{arith}
 use mathlib.Core.Path.{sym, ap, ◌∙◌}
 use Rattle.carts.specs.View.{carts_in}
 use Rattle.messages.specs.View.{rooms_in}
@@ -31,4 +31,4 @@ returns-in-5 c = λ n. c.register_right.ensures ∙ sym (ap (λ (q : Said). righ
 
 pub returns-in_default : goal.returns-in_default
 unfolding right
-returns-in_default c = λ n. sym (ap (λ (q : Said). right n c.args.k (carts_in c.args.carts.now) (rooms_in c.args.messages.now) (registers_in c.args.lines.now) c.args.i c.args.j q) (says_nothing c.args.r c.kind_of-kind.result c.index_of-index.result c.number_of-number.result c.kind_of-kind.ensures c.index_of-index.ensures c.number_of-number.ensures c.in_default.in_default-own.rest.0.0.0.0.1 c.in_default.in_default-own.rest.0.0.0.1 c.in_default.in_default-own.rest.0.0.1 c.in_default.in_default-own.rest.0.1 c.in_default.in_default-own.rest.1))
+returns-in_default c = λ n. sym (ap (λ (q : Said). right n c.args.k (carts_in c.args.carts.now) (rooms_in c.args.messages.now) (registers_in c.args.lines.now) c.args.i c.args.j q) (says_nothing c.args.r c.kind_of-kind.result c.index_of-index.result c.number_of-number.result c.kind_of-kind.ensures c.index_of-index.ensures c.number_of-number.ensures (omega arith) (omega arith) (omega arith) (omega arith) (omega arith)))

@@ -1,5 +1,4 @@
 -- `form_lines::joined` meets its contract.
-use borrow.Author.Rules.{rules}
 use Rattle.form_lines.proofs.joined.Goals as goal
 
 pub returns-then-joins : goal.returns-then-joins

@@ -1,5 +1,4 @@
 -- `form_lines::meet` meets its contract.
-use borrow.Author.Rules.{rules}
 use mathlib.Core.Path.{sym, ◌∙◌}
 use Rattle.protocol.proofs.Tests.{and_right}
 use Rattle.carts.specs.View.{carts_in}

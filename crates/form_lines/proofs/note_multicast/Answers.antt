@@ -1,5 +1,4 @@
 -- `form_lines::note_multicast` meets its contract.
-use borrow.Author.Rules.{rules}
 use mathlib.Core.Bool.{◌&&◌}
 use lib.Dec.{eqb}
 use Rattle.form_lines.specs.Said.{a_multicast}

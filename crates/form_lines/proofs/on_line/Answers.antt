@@ -1,5 +1,4 @@
 -- `form_lines::on_line` meets its contract.
-use borrow.Author.Rules.{rules}
 use Rattle.carts.specs.View.{carts_in}
 use Rattle.messages.specs.View.{rooms_in}
 use Rattle.stations.specs.View.{stations_in}

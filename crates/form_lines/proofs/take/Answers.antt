@@ -1,5 +1,5 @@
 -- `form_lines::take` meets its contract.
-use borrow.Author.Rules.{rules}
+use native.Mathlib.Omega.{arith}
 use mathlib.Core.Path.{refl, subst}
 use Rattle.form_lines.specs.Said.{a_multicast, an_ack_list, a_delete, a_deregister, a_register, said}
 use Rattle.form_lines.specs.Pass.{fresh, note}
@@ -58,6 +58,6 @@ returns-in-5 c =
 pub returns-in_default : goal.returns-in_default
 returns-in_default c =
     record {
-      masks_after = told_nothing c.args.right (met_of c.args.way c.args.masks.now) (met_of c.failed.result c.args.masks.now) (said c.args.r) c.index_of-index.result (says_nothing c.args.r c.kind_of-kind.result c.index_of-index.result c.number_of-number.result c.kind_of-kind.ensures c.index_of-index.ensures c.number_of-number.ensures c.in_default.in_default-own.rest.0.0.0.0.1 c.in_default.in_default-own.rest.0.0.0.1 c.in_default.in_default-own.rest.0.0.1 c.in_default.in_default-own.rest.0.1 c.in_default.in_default-own.rest.1) (c.failed.ensures c.args.masks.now);
+      masks_after = told_nothing c.args.right (met_of c.args.way c.args.masks.now) (met_of c.failed.result c.args.masks.now) (said c.args.r) c.index_of-index.result (says_nothing c.args.r c.kind_of-kind.result c.index_of-index.result c.number_of-number.result c.kind_of-kind.ensures c.index_of-index.ensures c.number_of-number.ensures (omega arith) (omega arith) (omega arith) (omega arith) (omega arith)) (c.failed.ensures c.args.masks.now);
       masks_len_unchanged = refl;
     }

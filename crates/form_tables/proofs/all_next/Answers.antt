@@ -1,8 +1,7 @@
 use mathlib.Core.Path.{sym, ◌∙◌}
-use Prim.Native.Nat.{◌<◌}
 use native.Mathlib.Omega.{arith}
 use Rattle.carts.specs.View.{carts_in}
-use Rattle.form_tables.proofs.Walks.{next_is, Walked, walk_start, walk_end, walk_below, walk_member, walk_no, walk_on, walk_less}
+use Rattle.form_tables.proofs.Walks.{next_is, walk_start, walk_end, walk_below, walk_member, walk_no, walk_on, walk_less}
 use Rattle.form_tables.proofs.all_next.Goals as goal
 
 pub loop-rest-init : goal.loop-rest-init

@@ -1,9 +1,7 @@
 -- `form_tables::all_next` meets its contract. The invariant: the carts taken out passed. The rest falls with each.
-use mathlib.Core.Path.{sym, ◌∙◌}
 use Prim.Native.Nat.{◌<◌}
-use native.Mathlib.Omega.{arith}
 use Rattle.carts.specs.View.{carts_in}
-use Rattle.form_tables.proofs.Walks.{next_is, Walked, walk_start, walk_end, walk_below, walk_member, walk_no, walk_on, walk_less}
+use Rattle.form_tables.proofs.Walks.{next_is, Walked}
 use Rattle.form_tables.proofs.all_next.Given as goal
 
 abbrev pub invariant-loop-rest : goal.invariant-loop-rest

@@ -1,7 +1,6 @@
-use Prim.Native.Nat.{◌<◌}
 use native.Mathlib.Omega.{arith}
 use Rattle.carts.specs.View.{carts_in}
-use Rattle.form_tables.proofs.Walks.{next_above, Walked, walk_start, walk_end, walk_below, walk_past, walk_no, walk_on, walk_less}
+use Rattle.form_tables.proofs.Walks.{next_above, walk_start, walk_end, walk_below, walk_past, walk_no, walk_on, walk_less}
 use Rattle.form_tables.proofs.all_past.Goals as goal
 
 pub loop-rest-init : goal.loop-rest-init

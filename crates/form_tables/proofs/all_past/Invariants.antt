@@ -1,8 +1,7 @@
 -- `form_tables::all_past` meets its contract. The invariant: the carts taken out passed. The rest falls with each.
 use Prim.Native.Nat.{◌<◌}
-use native.Mathlib.Omega.{arith}
 use Rattle.carts.specs.View.{carts_in}
-use Rattle.form_tables.proofs.Walks.{next_above, Walked, walk_start, walk_end, walk_below, walk_past, walk_no, walk_on, walk_less}
+use Rattle.form_tables.proofs.Walks.{next_above, Walked}
 use Rattle.form_tables.proofs.all_past.Given as goal
 
 abbrev pub invariant-loop-rest : goal.invariant-loop-rest

@@ -1,9 +1,7 @@
 use mathlib.Core.List.{[]}
-use Prim.Native.Nat.{◌-◌, ◌≤◌}
 use native.Mathlib.Omega.{arith}
 use borrow.Author.Tests.{not-true, not-false}
 use Rattle.protocol.specs.Floor.{limits}
-use Rattle.protocol.specs.Claims.{True, all}
 use Rattle.protocol.specs.Form.{cart_rule}
 use Rattle.protocol.proofs.Answers.{passed, refused, one_more, all_yes, all_no}
 use Rattle.form_tables.specs.Tables.{tables}

@@ -1,15 +1,10 @@
 -- `form_tables::carts_ok` meets its contract. The invariant: the carts passed keep the rule.
 use mathlib.Core.List.{[]}
 use Prim.Native.Nat.{◌-◌, ◌≤◌}
-use native.Mathlib.Omega.{arith}
-use borrow.Author.Tests.{not-true, not-false}
 use Rattle.protocol.specs.Floor.{limits}
 use Rattle.protocol.specs.Claims.{True, all}
 use Rattle.protocol.specs.Form.{cart_rule}
-use Rattle.protocol.proofs.Answers.{passed, refused, one_more, all_yes, all_no}
 use Rattle.form_tables.specs.Tables.{tables}
-use mathlib.Core.Bool.{not}
-use mathlib.Core.Path.{ap}
 use Rattle.form_tables.proofs.carts_ok.Given as goal
 
 abbrev pub invariant-loop-number : goal.invariant-loop-number

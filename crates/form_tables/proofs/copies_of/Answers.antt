@@ -1,12 +1,10 @@
 use mathlib.Core.Path.{◌≡◌, sym, ◌∙◌}
 use mathlib.Core.Logic.{⊎_elim, inl, inr}
-use Prim.Native.Nat.{◌-◌, ◌≤◌}
 use native.Mathlib.Omega.{arith}
-use borrow.Author.Rules.{rules}
 use borrow.Author.Tests.{not-true, not-false}
 use Rattle.form_tables.proofs.Names.{held_of}
 use Rattle.protocol.proofs.Answers.{passed, refused}
-use Rattle.form_tables.proofs.Copies.{Missing, missing_start, missing_more, copies_free, copies_no, copies_end, copy_past, expected_past}
+use Rattle.form_tables.proofs.Copies.{missing_start, missing_more, copies_free, copies_no, copies_end, copy_past, expected_past}
 use Rattle.form_tables.specs.Tables.{tables, copy_named}
 use mathlib.Core.Bool.{not}
 use mathlib.Core.Path.{ap}

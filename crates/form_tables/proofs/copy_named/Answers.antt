@@ -2,7 +2,6 @@
 use mathlib.Core.Path.{ap, ◌∙◌}
 use mathlib.Core.List.{[]}
 use Prim.Native.Nat.{ℕ}
-use borrow.Author.Rules.{rules}
 use Rattle.protocol.specs.Claims.{test}
 use Rattle.form_tables.proofs.Copies.{none_below, copy_named_lem}
 use Rattle.form_tables.specs.Tables.{tables}

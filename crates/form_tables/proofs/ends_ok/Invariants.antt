@@ -1,12 +1,7 @@
 -- `form_tables::ends_ok` meets its contract. The invariant: the stations passed keep the rule.
 use Prim.Native.Nat.{◌-◌, ◌≤◌}
-use native.Mathlib.Omega.{arith}
-use borrow.Author.Tests.{not-true, not-false}
 use Rattle.protocol.specs.Claims.{True, all}
-use Rattle.protocol.proofs.Answers.{passed, refused, one_more, all_yes, all_no}
 use Rattle.form_tables.specs.Tables.{rooms_end}
-use mathlib.Core.Bool.{not}
-use mathlib.Core.Path.{ap}
 use Rattle.form_tables.proofs.ends_ok.Given as goal
 
 abbrev pub invariant-loop-t : goal.invariant-loop-t

@@ -1,7 +1,6 @@
 -- `form_tables::entries_of` meets its contract. Each `return` names what the rule refuses, and the queued carts decide.
 use mathlib.Core.Path.{◌≡◌, sym, ◌∙◌}
 use native.Mathlib.Omega.{arith}
-use borrow.Author.Rules.{rules}
 use borrow.Author.Tests.{not-true, not-false}
 use Rattle.form_tables.proofs.Names.{held_of}
 use Rattle.form_tables.proofs.Sets.{within_most}

@@ -1,10 +1,9 @@
 use mathlib.Core.Path.{ap, ◌∙◌}
-use Prim.Native.Nat.{ℕ, ◌-◌, ◌≤◌}
+use Prim.Native.Nat.{ℕ}
 use native.Mathlib.Omega.{arith}
-use borrow.Author.Rules.{rules}
 use borrow.Author.Tests.{not-true, not-false}
 use Rattle.protocol.specs.Floor.{limits}
-use Rattle.protocol.specs.Claims.{Claim, True, all}
+use Rattle.protocol.specs.Claims.{Claim, all}
 use Rattle.protocol.specs.Form.{entry_rule}
 use Rattle.protocol.proofs.Answers.{passed, refused, one_more, all_yes, all_no}
 use Rattle.form_tables.specs.Tables.{tables}

@@ -1,7 +1,6 @@
 -- `form_tables::expected_by` meets its contract.
 use mathlib.Core.Path.{sym}
 use native.Mathlib.Omega.{arith}
-use borrow.Author.Rules.{rules}
 use Rattle.stations.proofs.TableLaws.{expected_beyond}
 use Rattle.form_tables.proofs.expected_by.Goals as goal
 

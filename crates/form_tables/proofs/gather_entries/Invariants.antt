@@ -1,11 +1,7 @@
 -- `form_tables::gather_entries` meets its contract. The invariant: the entries at the stations passed are collected.
-use Prim.Native.Nat.{ℕ, ◌-◌, ◌≤◌}
-use native.Mathlib.Omega.{arith}
-use borrow.Author.Rules.{rules}
-use mathlib.Core.Path.{◌≡◌, subst}
+use Prim.Native.Nat.{◌-◌, ◌≤◌}
 use Rattle.stations.specs.View.{stations_in}
 use Rattle.form_tables.specs.Parts.{Entries}
-use Rattle.form_tables.proofs.Queues.{entries_none, entries_more}
 use Rattle.form_tables.proofs.gather_entries.Given as goal
 
 abbrev pub invariant-loop-t : goal.invariant-loop-t

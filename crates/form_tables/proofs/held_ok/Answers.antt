@@ -2,7 +2,6 @@
 use mathlib.Core.Path.{sym, ap, ◌∙◌}
 use mathlib.Core.List.{[]}
 use native.Mathlib.Omega.{arith}
-use borrow.Author.Rules.{rules}
 use borrow.Author.Tests.{not-true, not-false}
 use Rattle.form_tables.proofs.Names.{held_of, names_as, delete_as, held_free, held_not_sent, held_twice, held_end}
 use Rattle.protocol.proofs.Answers.{passed, refused}

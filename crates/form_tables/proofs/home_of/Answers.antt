@@ -1,6 +1,5 @@
 -- `form_tables::home_of` meets its contract.
 use mathlib.Core.Path.{sym, ap, ◌∙◌}
-use borrow.Author.Rules.{rules}
 use Rattle.carts.specs.Records.{seen}
 use Rattle.form_tables.proofs.Locals.{home_outside, home_travelling, home_at, home_leaving}
 use Rattle.form_tables.proofs.home_of.Goals as goal

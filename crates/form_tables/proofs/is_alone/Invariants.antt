@@ -1,14 +1,9 @@
 -- `form_tables::is_alone` meets its contract. The invariant: the rooms passed have another message, or none.
-use mathlib.Core.Path.{sym, ap, ◌∙◌}
 use mathlib.Core.Bool.{not}
 use mathlib.Core.List.{[]}
 use Prim.Native.Nat.{◌-◌, ◌≤◌}
-use native.Mathlib.Omega.{arith}
-use borrow.Author.Tests.{not-true}
 use Rattle.protocol.specs.Floor.{is_message}
 use Rattle.protocol.specs.Claims.{True, all, is}
-use Rattle.protocol.proofs.Tests.{clash}
-use Rattle.protocol.proofs.Answers.{one_more, all_yes, all_no}
 use Rattle.form_tables.specs.Tables.{tables}
 use Rattle.form_tables.proofs.is_alone.Given as goal
 

@@ -1,7 +1,6 @@
 -- `form_tables::is_message` meets its contract.
 use mathlib.Core.Path.{sym, ◌∙◌}
 use mathlib.Core.List.{[]}
-use borrow.Author.Rules.{rules}
 use Rattle.form_tables.proofs.Names.{held_of, free_not, message_yes, message_held, message_initiator, message_number, message_no}
 use Rattle.form_tables.specs.Tables.{tables}
 use Rattle.form_tables.proofs.is_message.Goals as goal

@@ -1,7 +1,5 @@
 use mathlib.Core.Path.{◌≡◌, refl, ◌∙◌}
-use Prim.Native.Nat.{◌-◌, ◌≤◌}
 use native.Mathlib.Omega.{arith}
-use lib.ListN.{length}
 use Rattle.carts.specs.View.{carts_in}
 use Rattle.form_tables.proofs.Locals.{LocalsTo, locals_none, locals_stay, locals_join, locals_all}
 use Rattle.form_tables.proofs.locals_of.Goals as goal

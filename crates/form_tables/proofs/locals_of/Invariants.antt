@@ -1,11 +1,9 @@
 -- `form_tables::locals_of` meets its contract. The invariant: the masks are those of the carts passed.
-use mathlib.Core.Path.{◌≡◌, refl, ◌∙◌}
-use mathlib.Core.Logic.{⊎_elim}
+use mathlib.Core.Path.{◌≡◌}
 use Prim.Native.Nat.{◌-◌, ◌≤◌}
-use native.Mathlib.Omega.{arith}
 use lib.ListN.{length}
 use Rattle.carts.specs.View.{carts_in}
-use Rattle.form_tables.proofs.Locals.{LocalsTo, locals_none, locals_stay, locals_join, locals_all}
+use Rattle.form_tables.proofs.Locals.{LocalsTo}
 use Rattle.form_tables.proofs.locals_of.Given as goal
 
 abbrev pub invariant-loop-number : goal.invariant-loop-number

@@ -1,9 +1,7 @@
 use mathlib.Core.List.{[]}
-use Prim.Native.Nat.{◌-◌, ◌≤◌}
 use native.Mathlib.Omega.{arith}
-use borrow.Author.Rules.{rules}
 use Rattle.protocol.specs.Floor.{whole_floor}
-use Rattle.protocol.specs.Claims.{True, all, is}
+use Rattle.protocol.specs.Claims.{is}
 use Rattle.view.specs.View.{lent, local_right}
 use Rattle.form_tables.proofs.Locals.{mask_right}
 use Rattle.protocol.proofs.Answers.{one_more, all_yes, all_no}

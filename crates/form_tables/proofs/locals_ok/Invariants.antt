@@ -1,13 +1,9 @@
 -- `form_tables::locals_ok` meets its contract. The invariant: the masks passed are right.
 use mathlib.Core.List.{[]}
 use Prim.Native.Nat.{◌-◌, ◌≤◌}
-use native.Mathlib.Omega.{arith}
-use borrow.Author.Rules.{rules}
 use Rattle.protocol.specs.Floor.{whole_floor}
 use Rattle.protocol.specs.Claims.{True, all, is}
 use Rattle.view.specs.View.{lent, local_right}
-use Rattle.form_tables.proofs.Locals.{mask_right}
-use Rattle.protocol.proofs.Answers.{one_more, all_yes, all_no}
 use Rattle.form_tables.proofs.locals_ok.Given as goal
 
 abbrev pub invariant-loop-t : goal.invariant-loop-t

@@ -1,9 +1,7 @@
 use mathlib.Core.Path.{◌∙◌}
 use mathlib.Core.List.{[]}
-use Prim.Native.Nat.{◌-◌, ◌≤◌}
 use native.Mathlib.Omega.{arith}
 use borrow.Author.Tests.{not-true, not-false}
-use Rattle.protocol.specs.Claims.{True, all}
 use Rattle.form_tables.proofs.Names.{names_alone}
 use Rattle.protocol.proofs.Answers.{passed, refused, one_more, all_yes, all_no}
 use Rattle.form_tables.specs.Tables.{tables}

@@ -1,16 +1,9 @@
 -- `form_tables::messages_ok` meets its contract. The invariant: the rooms passed keep the rule, each with the rooms before it.
-use mathlib.Core.Path.{◌∙◌}
 use mathlib.Core.List.{[]}
 use Prim.Native.Nat.{◌-◌, ◌≤◌}
-use native.Mathlib.Omega.{arith}
-use borrow.Author.Tests.{not-true, not-false}
 use Rattle.protocol.specs.Claims.{True, all}
-use Rattle.form_tables.proofs.Names.{names_alone}
-use Rattle.protocol.proofs.Answers.{passed, refused, one_more, all_yes, all_no}
 use Rattle.form_tables.specs.Tables.{tables}
 use Rattle.form_tables.specs.Parts.{held_before}
-use mathlib.Core.Bool.{not}
-use mathlib.Core.Path.{ap}
 use Rattle.form_tables.proofs.messages_ok.Given as goal
 
 abbrev pub invariant-loop-m : goal.invariant-loop-m

@@ -2,7 +2,6 @@
 use mathlib.Core.Path.{refl, ap}
 use mathlib.Core.List.{[]}
 use native.Mathlib.Omega.{arith}
-use borrow.Author.Rules.{rules}
 use Rattle.form_tables.proofs.Copies.{copy_missing, none_missing}
 use Rattle.form_tables.specs.Tables.{tables}
 use Rattle.form_tables.proofs.missing_at.Goals as goal

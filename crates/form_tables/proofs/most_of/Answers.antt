@@ -1,6 +1,5 @@
 -- `form_tables::most_of` meets its contract.
 use native.Mathlib.Omega.{arith}
-use borrow.Author.Rules.{rules}
 use Rattle.form_tables.proofs.Sets.{most_few, most_all}
 use Rattle.form_tables.proofs.most_of.Goals as goal
 

@@ -1,7 +1,6 @@
 -- `form_tables::next_by` meets its contract.
 use mathlib.Core.Path.{sym}
 use native.Mathlib.Omega.{arith}
-use borrow.Author.Rules.{rules}
 use Rattle.carts.proofs.TableLaws.{next_beyond}
 use Rattle.form_tables.proofs.next_by.Goals as goal
 

@@ -1,6 +1,5 @@
 -- `form_tables::none_below` meets its contract.
 use native.Mathlib.Omega.{arith}
-use borrow.Author.Rules.{rules}
 use Rattle.form_tables.proofs.Copies.{none_empty, none_one, none_beyond}
 use Rattle.form_tables.proofs.none_below.Goals as goal
 

@@ -1,6 +1,5 @@
 -- `form_tables::place_ok` meets its contract.
 use mathlib.Core.Path.{ap}
-use borrow.Author.Rules.{rules}
 use Rattle.carts.specs.Records.{seen}
 use Rattle.form_tables.proofs.Places.{inside_outside, inside_at, inside_leaving, inside_travelling}
 use Rattle.form_tables.proofs.place_ok.Goals as goal

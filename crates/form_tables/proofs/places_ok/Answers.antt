@@ -1,8 +1,7 @@
 use mathlib.Core.Path.{sym, ◌∙◌}
-use Prim.Native.Nat.{◌-◌, ◌≤◌}
 use native.Mathlib.Omega.{arith}
 use borrow.Author.Tests.{not-true, not-false}
-use Rattle.protocol.specs.Claims.{True, all, is}
+use Rattle.protocol.specs.Claims.{is}
 use Rattle.protocol.proofs.Tests.{clash}
 use Rattle.carts.specs.View.{canonical_in}
 use Rattle.protocol.proofs.Answers.{one_more, all_yes, all_no}

@@ -2,7 +2,6 @@
 use mathlib.Core.Path.{ap, ◌∙◌}
 use mathlib.Core.List.{[]}
 use native.Mathlib.Omega.{arith}
-use borrow.Author.Rules.{rules}
 use Rattle.form_tables.proofs.Sets.{within_most, most_within}
 use Rattle.protocol.proofs.Answers.{yes, no}
 use Rattle.form_tables.specs.Tables.{tables, room_sets}

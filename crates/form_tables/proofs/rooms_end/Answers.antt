@@ -1,7 +1,7 @@
 use mathlib.Core.Path.{sym, ◌∙◌}
-use Prim.Native.Nat.{ℕ, ◌-◌, ◌≤◌}
+use Prim.Native.Nat.{ℕ}
 use native.Mathlib.Omega.{arith}
-use Rattle.protocol.specs.Claims.{Claim, True, all, when, le, eq, both}
+use Rattle.protocol.specs.Claims.{Claim, when, le, eq, both}
 use Rattle.stations.specs.View.{stations_in}
 use Rattle.protocol.proofs.Answers.{one_more, all_yes, all_no}
 use Rattle.form_tables.proofs.rooms_end.Goals as goal

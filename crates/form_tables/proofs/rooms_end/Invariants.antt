@@ -1,10 +1,7 @@
 -- `form_tables::rooms_end` meets its contract. The invariant: the rooms passed have no copy and no entry.
-use mathlib.Core.Path.{sym, ◌∙◌}
-use Prim.Native.Nat.{ℕ, ◌-◌, ◌≤◌}
-use native.Mathlib.Omega.{arith}
-use Rattle.protocol.specs.Claims.{Claim, True, all, when, le, eq, both}
+use Prim.Native.Nat.{◌-◌, ◌≤◌}
+use Rattle.protocol.specs.Claims.{True, all, when, le, eq, both}
 use Rattle.stations.specs.View.{stations_in}
-use Rattle.protocol.proofs.Answers.{one_more, all_yes, all_no}
 use Rattle.form_tables.proofs.rooms_end.Given as goal
 
 abbrev pub invariant-loop-m : goal.invariant-loop-m

@@ -1,13 +1,8 @@
 -- `form_tables::rooms_ok` meets its contract. The invariant: the rooms passed keep the rule.
 use mathlib.Core.List.{[]}
 use Prim.Native.Nat.{◌-◌, ◌≤◌}
-use native.Mathlib.Omega.{arith}
-use borrow.Author.Tests.{not-true, not-false}
 use Rattle.protocol.specs.Claims.{True, all}
-use Rattle.protocol.proofs.Answers.{passed, refused, one_more, all_yes, all_no}
 use Rattle.form_tables.specs.Tables.{tables, room_sets}
-use mathlib.Core.Bool.{not}
-use mathlib.Core.Path.{ap}
 use Rattle.form_tables.proofs.rooms_ok.Given as goal
 
 abbrev pub invariant-loop-m : goal.invariant-loop-m

@@ -1,7 +1,5 @@
-use Prim.Native.Nat.{◌-◌, ◌≤◌}
 use native.Mathlib.Omega.{arith}
-use borrow.Author.Rules.{rules}
-use Rattle.protocol.specs.Claims.{True, all, when, le, eq}
+use Rattle.protocol.specs.Claims.{when, le, eq}
 use Rattle.carts.specs.View.{carts_in}
 use Rattle.protocol.proofs.Answers.{one_more, all_yes, all_no}
 use Rattle.form_tables.proofs.row_ends.Goals as goal

@@ -1,10 +1,7 @@
 -- `form_tables::row_ends` meets its contract. The invariant: the next numbers passed are 0.
 use Prim.Native.Nat.{◌-◌, ◌≤◌}
-use native.Mathlib.Omega.{arith}
-use borrow.Author.Rules.{rules}
 use Rattle.protocol.specs.Claims.{True, all, when, le, eq}
 use Rattle.carts.specs.View.{carts_in}
-use Rattle.protocol.proofs.Answers.{one_more, all_yes, all_no}
 use Rattle.form_tables.proofs.row_ends.Given as goal
 
 abbrev pub invariant-loop-s : goal.invariant-loop-s

@@ -1,10 +1,8 @@
-use Prim.Native.Nat.{◌-◌, ◌≤◌}
 use native.Mathlib.Omega.{arith}
 use mathlib.Core.Path.{◌∙◌}
-use borrow.Author.Rules.{rules}
 use Rattle.protocol.proofs.Tests.{by_lt}
 use Rattle.stations.proofs.TableLaws.{sent_past}
-use Rattle.protocol.specs.Claims.{True, all, le, when, eq}
+use Rattle.protocol.specs.Claims.{all, le, when, eq}
 use Rattle.stations.specs.View.{stations_in}
 use Rattle.carts.specs.View.{carts_in}
 use Rattle.protocol.proofs.Answers.{one_more, all_no, same_answer}

@@ -1,14 +1,8 @@
 -- `form_tables::row_sent` meets its contract. The invariant: the next numbers passed are at most what was sent.
 use Prim.Native.Nat.{◌-◌, ◌≤◌}
-use native.Mathlib.Omega.{arith}
-use mathlib.Core.Path.{◌∙◌}
-use borrow.Author.Rules.{rules}
-use Rattle.protocol.proofs.Tests.{by_lt}
-use Rattle.stations.proofs.TableLaws.{sent_past}
-use Rattle.protocol.specs.Claims.{True, all, le, when, eq}
+use Rattle.protocol.specs.Claims.{True, all, le}
 use Rattle.stations.specs.View.{stations_in}
 use Rattle.carts.specs.View.{carts_in}
-use Rattle.protocol.proofs.Answers.{one_more, all_no, same_answer}
 use Rattle.form_tables.proofs.row_sent.Given as goal
 
 abbrev pub invariant-loop-s : goal.invariant-loop-s

@@ -1,7 +1,6 @@
 -- `form_tables::sent_by` meets its contract.
 use mathlib.Core.Path.{sym}
 use native.Mathlib.Omega.{arith}
-use borrow.Author.Rules.{rules}
 use Rattle.stations.proofs.TableLaws.{sent_past}
 use Rattle.form_tables.proofs.sent_by.Goals as goal
 

@@ -1,7 +1,6 @@
 -- `form_tables::station_ok` meets its contract.
 use mathlib.Core.List.{[]}
 use native.Mathlib.Omega.{arith}
-use borrow.Author.Rules.{rules}
 use Rattle.protocol.specs.Form.{station_rule}
 use Rattle.protocol.proofs.Answers.{yes, no}
 use Rattle.form_tables.specs.Tables.{tables}

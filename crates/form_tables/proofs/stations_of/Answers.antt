@@ -1,7 +1,6 @@
 -- `form_tables::stations_of` meets its contract.
 use mathlib.Core.Logic.{inl, inr}
 use native.Mathlib.Omega.{arith}
-use borrow.Author.Rules.{rules}
 use Rattle.form_tables.proofs.stations_of.Goals as goal
 
 pub returns-then-n-lt16 : goal.returns-then-n-lt16

@@ -1,16 +1,11 @@
 -- `form_tables::stations_ok` meets its contract. The invariant: the stations passed keep the rule.
 use mathlib.Core.List.{[]}
 use Prim.Native.Nat.{◌-◌, ◌≤◌}
-use native.Mathlib.Omega.{arith}
-use borrow.Author.Tests.{not-true, not-false}
 use mathlib.Core.Path.{◌≡◌}
 use Rattle.protocol.specs.Floor.{Limits}
 use Rattle.protocol.specs.Claims.{True, all}
 use Rattle.protocol.specs.Form.{station_rule}
-use Rattle.protocol.proofs.Answers.{passed, refused, one_more, all_yes, all_no}
 use Rattle.form_tables.specs.Tables.{tables}
-use mathlib.Core.Bool.{not}
-use mathlib.Core.Path.{ap}
 use Rattle.form_tables.proofs.stations_ok.Given as goal
 
 abbrev pub invariant-loop-s : goal.invariant-loop-s

@@ -1,5 +1,4 @@
 -- `store::begin_from` meets its contract.
-use borrow.Author.Rules.{rules}
 use Rattle.messages.specs.View.{rooms_in}
 use Rattle.store.proofs.Looks.{begins_nowhere, begins_before, begins_there}
 use mathlib.Core.Bool.{not}

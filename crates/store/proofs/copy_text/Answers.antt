@@ -4,7 +4,6 @@ use mathlib.Core.List.{List, ◌++◌}
 use native.Mathlib.Omega.{arith}
 use Prim.Native.Nat.{ℕ}
 use lib.ListN.{length, drop}
-use borrow.Author.Rules.{rules}
 use Rattle.messages.specs.View.{rooms_in}
 use Rattle.store.proofs.TextLaws.{no_text, is_stored_lem, short_read, long_read, part_fits, copied_text}
 use Rattle.store.proofs.copy_text.Goals as goal
@@ -26,7 +25,7 @@ returns-then-n-le-TEXT c =
     let a = c.args in
     record {
       buffer_after = c.copy.ensures.front ∙ copied_text _ _ _ (short_read a.texts.now a.store.now (rooms_in a.messages.now) a.m _ _ c.waiting_of.ensures c.if-waiting_of-eq0.false c.length_of-n.ensures _ (omega arith) c.part.ensures);
-      buffer_len_unchanged = c.buffer-1.given;
+      buffer_len_unchanged = omega arith;
     }
 
 pub part-requires-2 : goal.part-requires-2
@@ -44,5 +43,5 @@ returns c =
     let a = c.args in
     record {
       buffer_after = c.copy-2.ensures.front ∙ copied_text _ _ _ (long_read a.texts.now a.store.now (rooms_in a.messages.now) a.m _ _ c.waiting_of.ensures c.if-waiting_of-eq0.false c.length_of-n.ensures _ (omega arith) _ c.offset_of-offset.ensures c.part-2.ensures);
-      buffer_len_unchanged = c.buffer-2-1.given;
+      buffer_len_unchanged = omega arith;
     }

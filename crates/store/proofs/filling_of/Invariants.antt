@@ -1,14 +1,8 @@
 -- `store::filling_of` meets its contract. The invariant: both of the rooms passed.
-use mathlib.Core.Path.{◌≡◌, refl, sym, ap, ap₂, ◌∙◌}
-use Prim.Native.Nat.{ℕ, ◌+◌, ◌-◌, ◌≤◌, max}
-use native.Mathlib.Omega.{arith}
-use Rattle.protocol.specs.Folds.{sum}
+use mathlib.Core.Path.{◌≡◌}
+use Prim.Native.Nat.{◌-◌, ◌≤◌}
 use Rattle.messages.specs.View.{rooms_in}
 use Rattle.store.specs.Layout.{used_in, end_in}
-use Rattle.store.proofs.Taken.{used_one, end_one}
-use Rattle.store.proofs.Apart.{text_within}
-use Rattle.store.proofs.Fits.{texts_fit, first_fit}
-use Rattle.store.proofs.Room.{end_within}
 use Rattle.store.proofs.filling_of.Given as goal
 
 abbrev pub invariant-loop-m : goal.invariant-loop-m

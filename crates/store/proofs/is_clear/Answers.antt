@@ -4,7 +4,6 @@ use Prim.Native.Nat.{ℕ, ◌+◌}
 use native.Mathlib.Omega.{arith}
 use lib.Dec.{leb}
 use borrow.Author.Tests.{not-true, not-false, le-leb}
-use borrow.Author.Rules.{rules}
 use Rattle.protocol.specs.Claims.{test, is, when}
 use Rattle.protocol.proofs.Tests.{clash, or_left}
 use Rattle.protocol.proofs.Answers.{yes}

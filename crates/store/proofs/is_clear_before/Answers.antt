@@ -1,7 +1,7 @@
-use Prim.Native.Nat.{ℕ, ◌-◌, ◌≤◌}
+use Prim.Native.Nat.{ℕ}
 use native.Mathlib.Omega.{arith}
 use borrow.Author.Tests.{not-true, not-false}
-use Rattle.protocol.specs.Claims.{Claim, True, all, is, when}
+use Rattle.protocol.specs.Claims.{Claim, is, when}
 use Rattle.protocol.proofs.Answers.{one_more, all_yes, all_no, passed, refused}
 use Rattle.messages.specs.View.{rooms_in}
 use Rattle.store.specs.Texts.{is_stored}

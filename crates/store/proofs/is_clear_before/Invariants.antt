@@ -1,14 +1,9 @@
 -- `store::is_clear_before` meets its contract. The invariant: the rooms passed are clear.
-use Prim.Native.Nat.{ℕ, ◌-◌, ◌≤◌}
-use native.Mathlib.Omega.{arith}
-use borrow.Author.Tests.{not-true, not-false}
-use Rattle.protocol.specs.Claims.{Claim, True, all, is, when}
-use Rattle.protocol.proofs.Answers.{one_more, all_yes, all_no, passed, refused}
+use Prim.Native.Nat.{◌-◌, ◌≤◌}
+use Rattle.protocol.specs.Claims.{True, all, is, when}
 use Rattle.messages.specs.View.{rooms_in}
 use Rattle.store.specs.Texts.{is_stored}
 use Rattle.store.specs.Layout.{apart}
-use mathlib.Core.Bool.{not}
-use mathlib.Core.Path.{ap}
 use Rattle.store.proofs.is_clear_before.Given as goal
 
 abbrev pub invariant-loop-k : goal.invariant-loop-k

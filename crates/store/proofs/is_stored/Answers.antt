@@ -1,5 +1,4 @@
 -- `store::is_stored` meets its contract.
-use borrow.Author.Rules.{rules}
 use Rattle.messages.specs.View.{rooms_in}
 use Rattle.store.proofs.Looks.{stored_no, stored_by}
 use Rattle.store.proofs.is_stored.Goals as goal

@@ -1,7 +1,6 @@
 -- `store::lies_right` meets its contract.
 use mathlib.Core.Path.{sym, ◌∙◌}
 use borrow.Author.Tests.{not-true, not-false}
-use borrow.Author.Rules.{rules}
 use Rattle.protocol.specs.Claims.{test}
 use Rattle.protocol.proofs.Tests.{clash}
 use Rattle.protocol.proofs.Answers.{yes, no, passed, refused}

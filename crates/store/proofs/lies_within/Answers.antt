@@ -1,6 +1,5 @@
 -- `store::lies_within` meets its contract.
 use native.Mathlib.Omega.{arith}
-use borrow.Author.Rules.{rules}
 use Rattle.protocol.specs.Claims.{test}
 use Rattle.protocol.proofs.Answers.{no}
 use Rattle.messages.specs.View.{rooms_in}

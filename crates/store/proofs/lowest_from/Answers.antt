@@ -1,8 +1,7 @@
 use mathlib.Core.Path.{◌≡◌}
-use Prim.Native.Nat.{◌-◌, ◌≤◌}
 use native.Mathlib.Omega.{arith}
 use Rattle.messages.specs.View.{rooms_in}
-use Rattle.store.proofs.Lowest.{Best, best_start, best_take, best_skip, best_end}
+use Rattle.store.proofs.Lowest.{best_start, best_take, best_skip, best_end}
 use Rattle.store.proofs.lowest_from.Goals as goal
 use Rattle.store.proofs.lowest_from.Goals.{then-begin-least, else-begin-least}
 

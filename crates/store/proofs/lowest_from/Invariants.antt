@@ -1,10 +1,7 @@
 -- `store::lowest_from` meets its contract. The invariant: the best of the rooms passed.
-use mathlib.Core.Path.{◌≡◌}
-use mathlib.Core.Logic.{⊎_elim}
 use Prim.Native.Nat.{◌-◌, ◌≤◌}
-use native.Mathlib.Omega.{arith}
 use Rattle.messages.specs.View.{rooms_in}
-use Rattle.store.proofs.Lowest.{Best, best_start, best_take, best_skip, best_end}
+use Rattle.store.proofs.Lowest.{Best}
 use Rattle.store.proofs.lowest_from.Given as goal
 
 abbrev pub invariant-loop-m : goal.invariant-loop-m

@@ -1,6 +1,5 @@
 -- `store::make_room` meets its contract.
 use native.Mathlib.Omega.{arith}
-use borrow.Author.Rules.{rules}
 use Rattle.store.proofs.Room.{made_still, made_moved}
 use Rattle.store.proofs.make_room.Goals as goal
 

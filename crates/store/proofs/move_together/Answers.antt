@@ -1,6 +1,5 @@
-use Prim.Native.Nat.{◌-◌}
 use native.Mathlib.Omega.{arith}
-use Rattle.store.proofs.Turns.{Turning, first_turn, turns_down, turns_within, turns_long, next_turn, last_turn}
+use Rattle.store.proofs.Turns.{first_turn, turns_down, turns_within, turns_long, next_turn, last_turn}
 use Rattle.store.proofs.move_together.Goals as goal
 
 pub lowest_from-m-requires : goal.lowest_from-m-requires

@@ -1,7 +1,6 @@
 -- `store::move_together` meets its contract. The invariant: the texts moved, and which is the next.
 use Prim.Native.Nat.{◌-◌}
-use native.Mathlib.Omega.{arith}
-use Rattle.store.proofs.Turns.{Turning, first_turn, turns_down, turns_within, turns_long, next_turn, last_turn}
+use Rattle.store.proofs.Turns.{Turning}
 use Rattle.store.proofs.move_together.Given as goal
 
 abbrev pub invariant-loop-m : goal.invariant-loop-m

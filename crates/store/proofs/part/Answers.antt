@@ -1,5 +1,4 @@
 -- `store::part` meets its contract.
-use borrow.Author.Rules.{rules}
 use Rattle.store.proofs.Octets.{part_is}
 use Rattle.store.proofs.part.Goals as goal
 

@@ -1,7 +1,6 @@
 -- `store::put_text` meets its contract.
 use mathlib.Core.Path.{refl}
 use native.Mathlib.Omega.{arith}
-use borrow.Author.Rules.{rules}
 use Rattle.store.proofs.Octets.{copied_is}
 use Rattle.store.proofs.put_text.Goals as goal
 
@@ -9,8 +8,7 @@ pub returns : goal.returns
 returns c =
     let a = c.args in
     let part = c.copy.new.to in
-    let g = c.store-1.given in
     record {
       store_after = copied_is a.store.now a.text.now part a.offset _ refl (omega arith) c.copy.ensures.front;
-      store_len_unchanged = g.1;
+      store_len_unchanged = omega arith;
     }

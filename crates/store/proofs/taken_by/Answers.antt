@@ -1,5 +1,4 @@
 -- `store::taken_by` meets its contract.
-use borrow.Author.Rules.{rules}
 use Rattle.store.proofs.Looks.{none_where_not, its_own}
 use mathlib.Core.Bool.{not}
 use mathlib.Core.Path.{ap}

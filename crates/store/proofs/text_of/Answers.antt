@@ -1,7 +1,6 @@
 -- `store::text_of` meets its contract.
 use mathlib.Core.Path.{sym, ◌∙◌}
 use native.Mathlib.Omega.{arith}
-use borrow.Author.Rules.{rules}
 use Rattle.messages.specs.View.{rooms_in}
 use Rattle.store.proofs.TextLaws.{no_text, is_stored_lem, short_read, long_read}
 use Rattle.store.proofs.text_of.Goals as goal

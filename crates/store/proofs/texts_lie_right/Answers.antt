@@ -1,10 +1,8 @@
-use Prim.Native.Nat.{◌-◌, ◌≤◌}
 use native.Mathlib.Omega.{arith}
 use borrow.Author.Tests.{not-true, not-false}
-use Rattle.protocol.specs.Claims.{True}
 use Rattle.protocol.proofs.Answers.{one_more, all_yes, all_no, passed, refused}
 use Rattle.messages.specs.View.{rooms_in}
-use Rattle.store.specs.Layout.{text_rule, layout_rule}
+use Rattle.store.specs.Layout.{text_rule}
 use mathlib.Core.Bool.{not}
 use mathlib.Core.Path.{ap}
 use Rattle.store.proofs.texts_lie_right.Goals as goal

@@ -1,4 +1,5 @@
 -- `tested_run::refuse_frame` meets its contract.
+use borrow.Enum.Refused.{opened}
 use mathlib.Core.Path.{refl}
 use native.Mathlib.Omega.{arith}
 use borrow.Author.Rules.{rules}
@@ -14,7 +15,7 @@ returns-then-none_whole c =
     let f = c.frame_at-reading in
     record {
       turned_on = λ L k. turned_waits (Stuck a.lengths) a.input.now a.index a.last L a.output.now a.p k c.requires.state_value.0 c.requires.state_value.1 c.requires.state_value.2 c.requires.frames_le_read.0 _
-          c.waiting.ensures (waits_there a.input.now a.p.read a.last f.result f.ensures c.in_default.in_default-own.keys2 _ _ c.refusal-number.ensures c.none_whole.ensures c.if-none_whole.true);
+          c.waiting.ensures (waits_there a.input.now a.p.read a.last f.result f.ensures (opened c.in_default.in_default-own.keys2) _ _ c.refusal-number.ensures c.none_whole.ensures c.if-none_whole.true);
       output_len_unchanged = refl;
     }
 
@@ -22,7 +23,7 @@ pub returns-in_default : goal.returns-in_default
 returns-in_default c =
     let a = c.args in
     let f = c.frame_at-reading in
-    let t = refused_there a.input.now a.p.read a.last f.result f.ensures c.in_default.in_default-own.keys2 _ _ c.refusal-number.ensures c.none_whole.ensures c.if-none_whole.false in
+    let t = refused_there a.input.now a.p.read a.last f.result f.ensures (opened c.in_default.in_default-own.keys2) _ _ c.refusal-number.ensures c.none_whole.ensures c.if-none_whole.false in
     let r = c.refuse.ensures in
     record {
       turned_on = λ L k. turned_refused (Stuck a.lengths) a.input.now a.index a.last L a.output.now a.p k c.requires.state_value.0 c.requires.state_value.1 c.requires.state_value.2 c.requires.frames_le_read.0 _ _ _
@@ -49,13 +50,12 @@ pub returns : goal.returns
 returns c =
     let a = c.args in
     let f = c.frame_at-reading in
-    let g = c.reading-1.given in
-    let i = event_inside a.input.now a.p.read f.result f.ensures _ g.1 in
-    let fits = text_fits a.input.now a.p.read f.result f.ensures _ g.1 in
+    let i = event_inside a.input.now a.p.read f.result f.ensures _ c.in-Taken.is in
+    let fits = text_fits a.input.now a.p.read f.result f.ensures _ c.in-Taken.is in
     let r = c.refuse_event.ensures in
     record {
       turned_on = λ L k. turned_taken (Stuck a.lengths) a.input.now a.index a.last L a.output.now a.p k c.requires.state_value.0 c.requires.state_value.1 c.requires.state_value.2 c.requires.frames_le_read.0 _ _ _ _ _
-          (taken_there a.input.now a.p.read a.last f.result f.ensures _ g.1) (least_size g.0.0) i.0
-          (stuck_took a.lengths L k a.index a.input.now a.output.now _ a.p _ g.0.0 _ _ c.number_of.ensures c.size_of-size.ensures fits i.0 r.wrote r.read_value);
+          (taken_there a.input.now a.p.read a.last f.result f.ensures _ c.in-Taken.is) (least_size c.in-Taken.e) i.0
+          (stuck_took a.lengths L k a.index a.input.now a.output.now _ a.p _ c.in-Taken.e _ _ c.number_of.ensures c.size_of-size.ensures fits i.0 r.wrote r.read_value);
       output_len_unchanged = r.wrote.kept;
     }

@@ -1,4 +1,5 @@
 -- `training_calls::take_frame` meets its contract.
+use borrow.Enum.Refused.{opened}
 use mathlib.Core.Path.{ap}
 use native.Mathlib.Omega.{arith}
 use Rattle.view.specs.View.{lent}
@@ -16,7 +17,7 @@ returns-then-none_whole c =
     let e = c.refusal-number.ensures in
     let b = c.none_whole.ensures in
     λ P n R. turned_waits a.input.now a.last (lent P a.stations.now a.carts.now a.messages.now a.lines.now a.texts.now a.store.now) a.calls.now a.p R c.requires.state_value.0 c.requires.state_value.1 c.requires.state_value.2 _
-    c.waiting.ensures (waits_there a.input.now a.p.read a.last f.result f.ensures c.in_default.in_default-own.keys2 _ _ e b c.if-none_whole.true)
+    c.waiting.ensures (waits_there a.input.now a.p.read a.last f.result f.ensures (opened c.in_default.in_default-own.keys2) _ _ e b c.if-none_whole.true)
 
 pub put_row-requires : goal.put_row-requires
 put_row-requires c =
@@ -29,7 +30,7 @@ returns-in_default c =
     let a = c.args in
     let e = c.refusal-number.ensures in
     let b = c.none_whole.ensures in
-    let t = refused_there a.input.now a.p.read a.last f.result f.ensures c.in_default.in_default-own.keys2 _ _ e b c.if-none_whole.false in
+    let t = refused_there a.input.now a.p.read a.last f.result f.ensures (opened c.in_default.in_default-own.keys2) _ _ e b c.if-none_whole.false in
     let m = c.refused_frame in
     let r = c.put_row in
     λ P n R. refused_row a.input.now a.last (lent P a.stations.now a.carts.now a.messages.now a.lines.now a.texts.now a.store.now) a.calls.now a.p R c.requires.state_value.0 c.requires.state_value.1 c.requires.state_value.2 _ r.result m.result _

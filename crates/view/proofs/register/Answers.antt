@@ -1,7 +1,6 @@
 -- `view::register` meets its contract.
 use mathlib.Core.Path.{ap}
 use Prim.Native.Nat.{ℕ}
-use borrow.Author.Rules.{rules}
 use Rattle.lines.specs.declared.Record as word
 use Rattle.view.proofs.register.Goals as goal
 
