@@ -1,6 +1,6 @@
 /* K1 of the scope paper, by the library's calls: two stations, one cart, a correction that reaches the cart although it rolls on before it has it.
  *
- *   rt staticlib mekhturia
+ *   tools/prove mekhturia
  *   cc -Iinclude examples/k1.c target/staticlib/libmekhturia.a -o k1 && ./k1
  *
  * It prints for each event the line that the program `floor` prints for its frame. The exit status is 1 if the lines cannot be written.

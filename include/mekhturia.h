@@ -1,7 +1,7 @@
 /* MEKHTURIA, THE FLOOR CONTROLLER, for C.
  *
  * Corrections of the mass axis to instrument carts, each taken exactly once, also while carts move. The floor lies in memory that you lend; the
- * library has none of its own. Build it with `rt staticlib mekhturia`, and link target/staticlib/libmekhturia.a. It needs memcpy and memset of
+ * library has none of its own. Build it with `tools/prove mekhturia`, and link target/staticlib/libmekhturia.a. It needs memcpy and memset of
  * whatever it is linked with: any libc has them, and without one you bring your own.
  *
  *     static mekhturia_floor lab;

@@ -1,5 +1,5 @@
-//! Links the archive of the proved library, which `rt staticlib mekhturia` writes, and that of the events without their form test,
-//! `rt staticlib exported_events`.
+//! Links the archive of the proved library, which `tools/prove mekhturia` makes, and that of the events without their form test,
+//! `tools/prove exported_events`.
 
 fn main() {
     shared::link("mekhturia");

@@ -1,4 +1,4 @@
-//! Links the archive of the proved leaf functions, which `rt staticlib exported_leaves` writes.
+//! Links the archive of the proved leaf functions, which `tools/prove exported_leaves` makes.
 
 fn main() {
     shared::link("exported_leaves");

@@ -1,4 +1,4 @@
-//! Links the archive of the proved lists, which `rt staticlib exported_lists` writes.
+//! Links the archive of the proved lists, which `tools/prove exported_lists` makes.
 
 fn main() {
     shared::link("exported_lists");

@@ -1,4 +1,4 @@
-//! Links the archive of the proved controller, which `rt staticlib mekhturia` writes.
+//! Links the archive of the proved controller, which `tools/prove mekhturia` makes.
 
 use std::path::Path;
 
@@ -10,7 +10,7 @@ fn main() {
     println!("cargo::rerun-if-env-changed=MEKHTURIA_ARCHIVE");
     println!("cargo::rerun-if-changed={archive}");
     if !Path::new(&archive).exists() {
-        println!("cargo::error=there is no {archive}: make it with `rt staticlib mekhturia`, or name its folder in MEKHTURIA_ARCHIVE");
+        println!("cargo::error=there is no {archive}: make it with `tools/prove mekhturia`, or name its folder in MEKHTURIA_ARCHIVE");
         return;
     }
     println!("cargo::rustc-link-search=native={folder}");

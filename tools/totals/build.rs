@@ -1,4 +1,4 @@
-//! Links the archive of the proved totals, which `rt staticlib exported_totals` writes.
+//! Links the archive of the proved totals, which `tools/prove exported_totals` makes.
 
 fn main() {
     shared::link("exported_totals");

@@ -11,7 +11,7 @@ pub mod progress;
 pub mod rule;
 pub mod wanted;
 
-/// For a build script: links the archive that `rt staticlib NAME` writes, or says that it is to be made.
+/// For a build script: links the archive that `tools/prove NAME` makes, or says that it is to be made.
 pub fn link(name: &str) {
     let package = std::env::var("CARGO_MANIFEST_DIR").expect("cargo says where the package is");
     let folder =
@@ -20,7 +20,7 @@ pub fn link(name: &str) {
     println!("cargo::rerun-if-env-changed=MEKHTURIA_ARCHIVE");
     println!("cargo::rerun-if-changed={archive}");
     if !std::path::Path::new(&archive).exists() {
-        println!("cargo::error=there is no {archive}: make it with `rt staticlib {name}`, or name its folder in MEKHTURIA_ARCHIVE");
+        println!("cargo::error=there is no {archive}: make it with `tools/prove {name}`, or name its folder in MEKHTURIA_ARCHIVE");
         return;
     }
     println!("cargo::rustc-link-search=native={folder}");

@@ -80,7 +80,7 @@ class Install(unittest.TestCase):
         self.clone(archive=False)
         ran = self.install()
         self.assertEqual(ran.returncode, 1)
-        self.assertIn("there is no target/staticlib/libmekhturia.a, and no /nowhere/rt to make it: `rt staticlib mekhturia`", ran.stdout + ran.stderr)
+        self.assertIn("there is no target/staticlib/libmekhturia.a, and no /nowhere/rt to make it: `tools/prove mekhturia`", ran.stdout + ran.stderr)
 
 
 @unittest.skipUnless(shutil.which("mypy"), "there is no mypy")

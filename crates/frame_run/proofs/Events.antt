@@ -78,7 +78,7 @@ numbers_fit P b n =
     let s' = P.stations_fit in
     let k' = P.carts_fit in
     let h' = P.held_fit in
-    let l' = P.last_Fit in
+    let l' = P.last_fit in
     record { few_stations = omega arith; few_carts = omega arith; few_held = omega arith; low_last = omega arith }
 
 pub some_part : (b : Bounds) (S C M W T O : List ℕ) → CanRun b (λ P. lent P S C M W T O) → 32 ≤ length T

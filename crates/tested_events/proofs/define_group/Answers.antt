@@ -10,7 +10,7 @@ use mathlib.Core.Path.{ap}
 use Rattle.tested_events.proofs.define_group.Goals as goal
 
 pub returns-then-not-passes : goal.returns-then-not-passes
-returns-then-not-passes c =
+returns-then-not-passes c P e =
     let a = c.args in
     broken_group (lent P a.stations.now a.carts.now a.messages.now a.lines.now a.texts.now a.store.now) _ (c.passes.ensures P e) (not-true _ (ap not c.if-not-passes.true)) a.group a.set
 
@@ -18,4 +18,4 @@ pub define_group-requires : goal.define_group-requires
 define_group-requires c = (product_of c.args.bounds c.requires, tested_ready _ _ (c.passes.ensures _ (its_numbers c.args.bounds c.requires)) (ap not c.if-not-passes.false))
 
 pub returns : goal.returns
-returns c = c.define_group.ensures P (tested_ready _ _ (c.passes.ensures P e) (ap not c.if-not-passes.false))
+returns c P e = c.define_group.ensures P (tested_ready _ _ (c.passes.ensures P e) (ap not c.if-not-passes.false))

@@ -10,7 +10,7 @@ use mathlib.Core.Path.{ap}
 use Rattle.tested_events.proofs.move_cart.Goals as goal
 
 pub returns-then-not-passes : goal.returns-then-not-passes
-returns-then-not-passes c =
+returns-then-not-passes c P e =
     let a = c.args in
     broken_move (lent P a.stations.now a.carts.now a.messages.now a.lines.now a.texts.now a.store.now) _ (c.passes.ensures P e) (not-true _ (ap not c.if-not-passes.true)) a.cart.0 a.to.0
 
@@ -18,4 +18,4 @@ pub move_cart-requires : goal.move_cart-requires
 move_cart-requires c = (product_of c.args.bounds c.requires, tested_ready _ _ (c.passes.ensures _ (its_numbers c.args.bounds c.requires)) (ap not c.if-not-passes.false))
 
 pub returns : goal.returns
-returns c = c.move_cart.ensures P (tested_ready _ _ (c.passes.ensures P e) (ap not c.if-not-passes.false))
+returns c P e = c.move_cart.ensures P (tested_ready _ _ (c.passes.ensures P e) (ap not c.if-not-passes.false))

@@ -12,7 +12,7 @@ use mathlib.Core.Path.{ap}
 use Rattle.tested_events.proofs.radio.Goals as goal
 
 pub returns-then-not-passes : goal.returns-then-not-passes
-returns-then-not-passes c =
+returns-then-not-passes c P e =
     let a = c.args in
     let L = lent P a.stations.now a.carts.now a.messages.now a.lines.now a.texts.now a.store.now in
     delivers_refused L L a.station.0 a.cart.0 a.buffer.now 5
@@ -22,4 +22,4 @@ pub radio_into-requires : goal.radio_into-requires
 radio_into-requires c = (product_of c.args.bounds c.requires, tested_ready _ _ (c.passes.ensures _ (its_numbers c.args.bounds c.requires)) (ap not c.if-not-passes.false))
 
 pub returns : goal.returns
-returns c = c.radio_into.ensures P (tested_ready _ _ (c.passes.ensures P e) (ap not c.if-not-passes.false))
+returns c P e = c.radio_into.ensures P (tested_ready _ _ (c.passes.ensures P e) (ap not c.if-not-passes.false))

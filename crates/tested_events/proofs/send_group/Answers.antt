@@ -12,12 +12,12 @@ use mathlib.Core.Path.{ap}
 use Rattle.tested_events.proofs.send_group.Goals as goal
 
 pub returns-then-is_too_long : goal.returns-then-is_too_long
-returns-then-is_too_long c =
+returns-then-is_too_long c P e =
     let a = c.args in
     long_send_group (lent P a.stations.now a.carts.now a.messages.now a.lines.now a.texts.now a.store.now) a.station.0 a.group a.text.now (ltb-true 32 (length a.text.now) (sym c.is_too_long.ensures ∙ c.if-is_too_long.true))
 
 pub returns-then-not-passes : goal.returns-then-not-passes
-returns-then-not-passes c =
+returns-then-not-passes c P e =
     let a = c.args in
     broken_send_group (lent P a.stations.now a.carts.now a.messages.now a.lines.now a.texts.now a.store.now) _ (c.passes.ensures P e) (not-true _ (ap not c.if-not-passes.true)) a.station.0 a.group a.text.now
     (ltb-false 32 (length a.text.now) (sym c.is_too_long.ensures ∙ c.if-is_too_long.false))
@@ -32,4 +32,4 @@ send_group-requires c =
     }
 
 pub returns : goal.returns
-returns c = c.send_group.ensures P e (tested_ready _ _ (c.passes.ensures P e) (ap not c.if-not-passes.false))
+returns c P e = c.send_group.ensures P e (tested_ready _ _ (c.passes.ensures P e) (ap not c.if-not-passes.false))

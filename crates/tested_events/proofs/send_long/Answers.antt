@@ -13,12 +13,12 @@ use mathlib.Core.Path.{ap}
 use Rattle.tested_events.proofs.send_long.Goals as goal
 
 pub returns-then-is_not_long : goal.returns-then-is_not_long
-returns-then-is_not_long c =
+returns-then-is_not_long c P e =
     let a = c.args in
     other_length (lent P a.stations.now a.carts.now a.messages.now a.lines.now a.texts.now a.store.now) a.station.0 a.set a.text.now (sym c.is_not_long.ensures ∙ c.if-is_not_long.true)
 
 pub returns-then-not-passes : goal.returns-then-not-passes
-returns-then-not-passes c =
+returns-then-not-passes c P e =
     let a = c.args in
     let long = sym c.is_not_long.ensures ∙ c.if-is_not_long.false in
     broken_send_long (lent P a.stations.now a.carts.now a.messages.now a.lines.now a.texts.now a.store.now) _ (c.passes.ensures P e) (not-true _ (ap not c.if-not-passes.true)) a.station.0 a.set a.text.now
@@ -35,4 +35,4 @@ send_long-requires c =
     }
 
 pub returns : goal.returns
-returns c = c.send_long.ensures P e (tested_ready _ _ (c.passes.ensures P e) (ap not c.if-not-passes.false))
+returns c P e = c.send_long.ensures P e (tested_ready _ _ (c.passes.ensures P e) (ap not c.if-not-passes.false))

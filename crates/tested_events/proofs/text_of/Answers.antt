@@ -13,6 +13,6 @@ lend-requires c =
     (ap (λ (x : Found). x.part) (c.read-found.ensures _ (its_numbers a.bounds c.requires)))
 
 pub returns : goal.returns
-returns c =
+returns c P e =
     let a = c.args in
     text_lent P a.stations.now a.carts.now a.messages.now a.lines.now a.texts a.store a.initiator.0 a.number.0 _ (ap (λ (x : Found). x.part) (c.read-found.ensures P e)) _ c.lend.ensures
