@@ -7,7 +7,6 @@ use Rattle.frames.proofs.Values.{event_inside, text_fits}
 use Rattle.frame_run.proofs.Turns.{waits_there, refused_there, taken_there, least_size}
 use Rattle.training_calls.specs.declared.CallMade.{CallMade}
 use Rattle.training_calls.proofs.Turns.{turned_waits, refused_row, taken_row}
-use borrow.Author.Rules.{rules}
 use Rattle.training_calls.proofs.take_frame.Goals as goal
 
 pub returns-then-none_whole : goal.returns-then-none_whole
