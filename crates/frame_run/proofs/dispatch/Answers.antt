@@ -137,15 +137,6 @@ returns-in-Enter c =
 pub shape_of-output-in-Send : goal.shape_of-output-in-Send
 shape_of-output-in-Send c = c.put_index-next.ensures.kept
 
-pub returns-in-Send : goal.returns-in-Send
-returns-in-Send c =
-    let a = c.args in
-    let began = subst (λ (n : ℕ). Began 3 longest_number (decimal a.index) a.output.now c.put_index-next.new.out a.line n) (sym (ap (λ (r : Dispatched). r.next) c.without_text-in-Send.ensures)) c.put_index-next.ensures in
-    record {
-      within = answered_plainly a.bounds (λ (P : Product). lent P a.stations.now a.carts.now a.messages.now a.lines.now a.texts.now a.store.now) _ _ _ (send_is a.input.now a.at _ a.e _ _ c.in-Send.is) _ _ _ (omega (arith, (c.send-answer.auto.stations, c.send-answer.auto.messages, c.send-answer.auto.lines, c.send-answer.auto.texts), some_part a.bounds _ _ _ _ _ _ c.requires.can_run)) c.send-answer.result _ _ c.without_text-in-Send.result c.without_text-in-Send.ensures c.send-answer.ensures;
-      began = (began, ap (λ (r : Dispatched). r.taken) c.without_text-in-Send.ensures ∙ sym (ap size_of c.in-Send.is));
-    }
-
 pub shape_of-output-in-Wire : goal.shape_of-output-in-Wire
 shape_of-output-in-Wire c = c.put_index-next.ensures.kept
 
@@ -195,15 +186,6 @@ returns-in-Group c =
 
 pub shape_of-output-in-SendGroup : goal.shape_of-output-in-SendGroup
 shape_of-output-in-SendGroup c = c.put_index-next.ensures.kept
-
-pub returns-in-SendGroup : goal.returns-in-SendGroup
-returns-in-SendGroup c =
-    let a = c.args in
-    let began = subst (λ (n : ℕ). Began 3 longest_number (decimal a.index) a.output.now c.put_index-next.new.out a.line n) (sym (ap (λ (r : Dispatched). r.next) c.without_text-in-SendGroup.ensures)) c.put_index-next.ensures in
-    record {
-      within = answered_plainly a.bounds (λ (P : Product). lent P a.stations.now a.carts.now a.messages.now a.lines.now a.texts.now a.store.now) _ _ _ (send_group_is a.input.now a.at _ a.e _ _ c.in-SendGroup.is) _ _ _ (omega (arith, (c.send_group-answer.auto.stations, c.send_group-answer.auto.messages, c.send_group-answer.auto.lines, c.send_group-answer.auto.texts), some_part a.bounds _ _ _ _ _ _ c.requires.can_run)) c.send_group-answer.result _ _ c.without_text-in-SendGroup.result c.without_text-in-SendGroup.ensures c.send_group-answer.ensures;
-      began = (began, ap (λ (r : Dispatched). r.taken) c.without_text-in-SendGroup.ensures ∙ sym (ap size_of c.in-SendGroup.is));
-    }
 
 pub shape_of-output-in-SendLong : goal.shape_of-output-in-SendLong
 shape_of-output-in-SendLong c = c.put_index-next.ensures.kept
