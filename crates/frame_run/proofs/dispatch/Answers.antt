@@ -207,3 +207,21 @@ returns-in-Retire c =
       within = answered_plainly a.bounds (λ (P : Product). lent P a.stations.now a.carts.now a.messages.now a.lines.now a.texts.now a.store.now) _ _ _ (ap (event_in (drop a.at a.input.now)) c.in-Retire.is) _ a.texts.now _ (some_part a.bounds _ _ _ _ _ _ c.requires.can_run) c.retire-answer.result _ _ c.without_text-in-Retire.result c.without_text-in-Retire.ensures (λ P n R. c.retire-answer.ensures P R);
       began = (began, ap (λ (r : Dispatched). r.taken) c.without_text-in-Retire.ensures ∙ sym (ap size_of c.in-Retire.is));
     }
+
+pub returns-in-Send : goal.returns-in-Send
+returns-in-Send c =
+    let a = c.args in
+    let began = subst (λ (n : ℕ). Began 3 longest_number (decimal a.index) a.output.now c.put_index-next.new.out a.line n) (sym (ap (λ (r : Dispatched). r.next) c.without_text-in-Send.ensures)) c.put_index-next.ensures in
+    record {
+      within = answered_plainly a.bounds (λ (P : Product). lent P a.stations.now a.carts.now a.messages.now a.lines.now a.texts.now a.store.now) _ _ _ (send_is a.input.now a.at _ a.e _ _ c.in-Send.is) _ _ _ (omega (arith, c.send-answer.auto.texts, some_part a.bounds _ _ _ _ _ _ c.requires.can_run)) c.send-answer.result _ _ c.without_text-in-Send.result c.without_text-in-Send.ensures c.send-answer.ensures;
+      began = (began, ap (λ (r : Dispatched). r.taken) c.without_text-in-Send.ensures ∙ sym (ap size_of c.in-Send.is));
+    }
+
+pub returns-in-SendGroup : goal.returns-in-SendGroup
+returns-in-SendGroup c =
+    let a = c.args in
+    let began = subst (λ (n : ℕ). Began 3 longest_number (decimal a.index) a.output.now c.put_index-next.new.out a.line n) (sym (ap (λ (r : Dispatched). r.next) c.without_text-in-SendGroup.ensures)) c.put_index-next.ensures in
+    record {
+      within = answered_plainly a.bounds (λ (P : Product). lent P a.stations.now a.carts.now a.messages.now a.lines.now a.texts.now a.store.now) _ _ _ (send_group_is a.input.now a.at _ a.e _ _ c.in-SendGroup.is) _ _ _ (omega (arith, c.send_group-answer.auto.texts, some_part a.bounds _ _ _ _ _ _ c.requires.can_run)) c.send_group-answer.result _ _ c.without_text-in-SendGroup.result c.without_text-in-SendGroup.ensures c.send_group-answer.ensures;
+      began = (began, ap (λ (r : Dispatched). r.taken) c.without_text-in-SendGroup.ensures ∙ sym (ap size_of c.in-SendGroup.is));
+    }
