@@ -2,7 +2,6 @@
 use Rattle.std.specs.Prelude.{◌≡◌, List, [], ◌∷◌, ◌++◌, ℕ, zero, suc, ◌+◌, length, drop}
 use Rattle.protocol.specs.Floor.{limits}
 use Rattle.protocol.specs.Frames.{end, refused_frame, taken, frame_of}
-use Rattle.protocol.specs.Frames as frames
 use Rattle.frame_reader.specs.declared.Checked.{Checked}
 
 -- what a check finds: how many whole frames stand at the front, how many octets they take, and the refusal number of what stands behind them

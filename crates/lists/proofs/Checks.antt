@@ -12,7 +12,7 @@ use Rattle.protocol.specs.Folds.{count, is_empty}
 use Rattle.protocol.specs.CartSets.{has, set_of}
 use Rattle.protocol.specs.Floor.{limits, most_text}
 use Rattle.protocol.specs.Refusals.{check}
-use Rattle.protocol.specs.PlainLists.{PlainCall, plain_send, plain_take, plain_refusal, plain_step, plain_answer, plain_accept, plain_report, entries, most_entries}
+use Rattle.protocol.specs.PlainLists.{PlainCall, plain_send, plain_take, plain_refusal, plain_step, plain_answer, plain_accept, plain_report, most_entries}
 use Rattle.protocol.proofs.Tests.{by_test}
 use Rattle.protocol.proofs.Accepted.{passed_check}
 use Rattle.protocol.proofs.Counting.{count_le}

@@ -21,7 +21,7 @@ use Rattle.event_answers.specs.Met.{Ready}
 use Rattle.frame_run.specs.declared.Progress.{Progress}
 use Rattle.frame_run.specs.Piece.{Ran, run_from}
 use Rattle.frame_run.specs.Went.{NoneWhole, EndsRun}
-use Rattle.frame_run.proofs.Pieces.{more, onward, one_more}
+use Rattle.frame_run.proofs.Pieces.{more, one_more}
 use Rattle.training_rows.specs.declared.Call.{Call}
 use Rattle.training_rows.specs.declared.Call.TheVariants.{Nothing}
 use Rattle.training_rows.specs.Calls.{calls_in, made_in, made_by, TextIn, TextsIn}

@@ -2,9 +2,12 @@
 use mathlib.Core.Path.{◌≡◌, refl, sym, ap, ap₂, ◌∙◌, subst}
 use mathlib.Core.List.{List, [], ◌∷◌, ◌++◌, append-nil, append_assoc}
 use mathlib.Core.Option.{Option, none, some}
+use Prim.{tt}
 use Prim.Native.Nat.{ℕ, zero, suc, ◌+◌, ◌-◌, ◌≤◌}
 use native.Mathlib.Omega.{arith}
 use lib.ListN.{length, set, take, drop, length-append}
+use denote.Enum.Declared.{tag_of}
+use types.Run.{OneOf, miss}
 use Rattle.protocol.specs.Floor.{Limits, limits}
 use Rattle.protocol.specs.PlainLists.{Plain, PlainCall, plain_start, plain_send, plain_take, PlainAnswer, plain_refused, plain_begun, plain_sent, plain_took, plain_answer, Exchange, exchanged, fed, head_line, head_lines}
 use Rattle.protocol.specs.Printed.{decimal, field}
@@ -14,6 +17,7 @@ use Rattle.ids.specs.declared.MessageNumber.{MessageNumber}
 use Rattle.ids.specs.declared.Station.{Station}
 use Rattle.lists.specs.declared.Reply.{Reply}
 use Rattle.lists.specs.declared.Reply.TheVariants.{Refused, Begun, Sent, Took}
+use Rattle.lists.specs.contracts.Reply.{the_type as reply_type}
 use Rattle.lists.specs.View.{LentLists, lists_in}
 use Rattle.lists.specs.Calls.{reply_of, ListsReady, ListsMet}
 use Rattle.lists.proofs.Readies.{stays_ready}
@@ -48,11 +52,11 @@ head_written index s n {l} {l₁} {l₂} {at} {p} {q} room u v =
 pub nothing_written : (l : List ℕ) (at : ℕ) → Wrote head_room [] l l at at
 nothing_written l at = record { octets = sym (written_none l at); behind = omega arith; few = omega arith; kept = refl }
 
-pub no_reply : (index s : ℕ) (reply : Reply) → ((n : MessageNumber) (size : ℕ) → reply ≡ Took n size → ⊥) → (l : List ℕ) (at : ℕ) → Wrote head_room (reply_line index s reply) l l at at
+pub no_reply : (index s : ℕ) (reply : Reply) → OneOf (0 ∷ 1 ∷ 2 ∷ []) (tag_of reply_type reply) → (l : List ℕ) (at : ℕ) → Wrote head_room (reply_line index s reply) l l at at
 no_reply index s (Refused r) k l at = nothing_written l at
 no_reply index s Begun k l at = nothing_written l at
 no_reply index s (Sent n) k l at = nothing_written l at
-no_reply index s (Took n size) k l at = absurd (k n size refl)
+no_reply index s (Took n size) k l at = absurd (miss (0 ∷ 1 ∷ 2 ∷ []) 3 tt k)
 
 -- the line by the reply is that by the written answer
 reply_line_lem : (index s c : ℕ) (a : PlainAnswer) → reply_line index s (reply_of a) ≡ head_line index (plain_take s c) a

@@ -1,7 +1,6 @@
 -- `exported_lists::said_of` meets its contract.
 use mathlib.Core.Path.{ap, sym}
 use Rattle.exported_lists.specs.Said.{said_of}
-use borrow.Author.Rules.{rules}
 use Rattle.exported_lists.proofs.said_of.Goals as goal
 
 pub returns-in-Refused : goal.returns-in-Refused

@@ -1,6 +1,5 @@
 -- `exported_totals::mekhturia_totals_join` meets its contract.
 use mathlib.Core.Path.{ap, ◌∙◌}
-use borrow.Author.Rules.{rules}
 use Rattle.exported_totals.specs.Numbers.{summed_of}
 use Rattle.exported_totals.proofs.mekhturia_totals_join.Goals as goal
 

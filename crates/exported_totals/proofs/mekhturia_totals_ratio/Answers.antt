@@ -1,6 +1,5 @@
 -- `exported_totals::mekhturia_totals_ratio` meets its contract.
 use mathlib.Core.Path.{ap, sym, ◌∙◌}
-use borrow.Author.Rules.{rules}
 use Rattle.exported_totals.specs.Numbers.{terms_of}
 use Rattle.exported_totals.proofs.mekhturia_totals_ratio.Goals as goal
 

@@ -1,6 +1,5 @@
 -- `exported_totals::numbers_of` meets its contract.
 use mathlib.Core.Path.{ap, sym}
-use borrow.Author.Rules.{rules}
 use Rattle.exported_totals.specs.Numbers.{summed_of}
 use Rattle.exported_totals.proofs.numbers_of.Goals as goal
 

@@ -3,7 +3,6 @@ use mathlib.Core.Path.{refl}
 use native.Mathlib.Omega.{arith}
 use Rattle.frame_lines.specs.Lines.{text_digits}
 use Rattle.frame_lines.proofs.Octets.{front_copied}
-use borrow.Author.Rules.{rules}
 use Rattle.frame_lines.proofs.copy_digits.Goals as goal
 
 pub returns : goal.returns

@@ -1,10 +1,8 @@
 -- `frame_lines::copy_part` meets its contract.
-use mathlib.Core.Path.{◌≡◌, refl}
+use mathlib.Core.Path.{◌≡◌}
 use Prim.Native.Nat.{◌-◌, ◌≤◌}
-use native.Mathlib.Omega.{arith}
-use lib.ListN.{length, drop, length-set}
-use lib.Seq.{paste, paste-zero}
-use Rattle.frame_lines.proofs.Octets.{part_more, part_copied}
+use lib.ListN.{length, drop}
+use lib.Seq.{paste}
 use Rattle.frame_lines.proofs.copy_part.Given as goal
 
 abbrev pub invariant-loop-k : goal.invariant-loop-k

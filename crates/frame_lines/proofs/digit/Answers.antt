@@ -1,5 +1,4 @@
 -- `frame_lines::digit` meets its contract.
-use borrow.Author.Rules.{rules}
 use Rattle.frame_lines.proofs.Numbers.{digit_sum}
 use Rattle.frame_lines.proofs.digit.Goals as goal
 

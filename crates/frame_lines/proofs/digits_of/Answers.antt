@@ -1,9 +1,4 @@
-use mathlib.Core.Path.{◌≡◌}
-use Prim.Native.Nat.{◌+◌, ◌≤◌}
 use native.Mathlib.Omega.{arith}
-use lib.ListN.{length}
-use Rattle.protocol.specs.Printed.{decimal}
-use Rattle.frame_lines.specs.Lines.{longest_number}
 use Rattle.frame_lines.proofs.Numbers.{length_one, length_two, length_three, length_four, length_four_more, some_digit, number_long}
 use Rattle.frame_lines.proofs.digits_of.Goals as goal
 

@@ -1,11 +1,9 @@
 -- `frame_lines::digits_of` meets its contract.
 use mathlib.Core.Path.{◌≡◌}
 use Prim.Native.Nat.{◌+◌, ◌≤◌}
-use native.Mathlib.Omega.{arith}
 use lib.ListN.{length}
 use Rattle.protocol.specs.Printed.{decimal}
 use Rattle.frame_lines.specs.Lines.{longest_number}
-use Rattle.frame_lines.proofs.Numbers.{length_one, length_two, length_three, length_four, length_four_more, some_digit, number_long}
 use Rattle.frame_lines.proofs.digits_of.Given as goal
 
 abbrev pub invariant-loop-left : goal.invariant-loop-left

@@ -3,7 +3,6 @@ use native.Mathlib.Omega.{arith}
 use lib.ListN.{take}
 use Rattle.reports.specs.Effects.{report_in}
 use Rattle.frame_lines.proofs.Fields.{accepted_ended}
-use borrow.Author.Rules.{rules}
 use Rattle.frame_lines.proofs.end_accepted.Goals as goal
 
 pub returns : goal.returns

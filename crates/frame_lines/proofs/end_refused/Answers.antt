@@ -1,6 +1,5 @@
 -- `frame_lines::end_refused` meets its contract.
 use Rattle.frame_lines.proofs.Fields.{refused_ended}
-use borrow.Author.Rules.{rules}
 use Rattle.frame_lines.proofs.end_refused.Goals as goal
 
 pub returns : goal.returns

@@ -2,7 +2,6 @@
 use Prim.Native.Nat.{◌+◌}
 use native.Mathlib.Omega.{arith}
 use Rattle.frame_lines.proofs.Numbers.{spelled_four, spelled_low, spelled_first}
-use borrow.Author.Rules.{rules}
 use Rattle.frame_lines.proofs.four_word.Goals as goal
 
 pub overflow_sub-result : goal.overflow_sub-result

@@ -4,7 +4,6 @@ use Prim.Native.Nat.{◌/◌, ◌%◌}
 use native.Mathlib.Omega.{arith}
 use Rattle.frame_lines.specs.Lines.{longest_number}
 use Rattle.frame_lines.proofs.Numbers.{digits_written, split_written}
-use borrow.Author.Rules.{rules}
 use Rattle.frame_lines.proofs.put_decimal.Goals as goal
 
 pub returns-then-n-lt100000000 : goal.returns-then-n-lt100000000

@@ -1,7 +1,7 @@
 use mathlib.Core.Path.{◌≡◌, refl, ap}
-use Prim.Native.Nat.{ℕ, ◌+◌, ◌-◌, ◌≤◌}
+use Prim.Native.Nat.{ℕ, ◌+◌, ◌-◌}
 use native.Mathlib.Omega.{arith}
-use lib.ListN.{length, length-set}
+use lib.ListN.{length-set}
 use Rattle.frame_lines.specs.Lines.{written, last_digits}
 use Rattle.frame_lines.proofs.Numbers.{two_stored, last_stored, digits_done}
 use Rattle.frame_lines.proofs.put_digits.Goals as goal

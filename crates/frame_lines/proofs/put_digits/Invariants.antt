@@ -1,10 +1,8 @@
 -- `frame_lines::put_digits` meets its contract.
-use mathlib.Core.Path.{◌≡◌, refl, ap}
-use Prim.Native.Nat.{ℕ, ◌+◌, ◌-◌, ◌≤◌}
-use native.Mathlib.Omega.{arith}
-use lib.ListN.{length, length-set}
+use mathlib.Core.Path.{◌≡◌}
+use Prim.Native.Nat.{◌-◌, ◌≤◌}
+use lib.ListN.{length}
 use Rattle.frame_lines.specs.Lines.{written, last_digits}
-use Rattle.frame_lines.proofs.Numbers.{two_stored, last_stored, digits_done}
 use Rattle.frame_lines.proofs.put_digits.Given as goal
 
 abbrev pub invariant-loop-i : goal.invariant-loop-i

@@ -3,7 +3,6 @@ use native.Mathlib.Omega.{arith}
 use lib.ListN.{length-set}
 use Rattle.frame_lines.proofs.Octets.{wrote_wider}
 use Rattle.frame_lines.proofs.Fields.{field_written}
-use borrow.Author.Rules.{rules}
 use Rattle.frame_lines.proofs.put_field.Goals as goal
 
 pub returns-then-n-lt10 : goal.returns-then-n-lt10

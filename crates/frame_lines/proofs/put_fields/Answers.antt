@@ -3,7 +3,6 @@ use native.Mathlib.Omega.{arith}
 use lib.ListN.{take}
 use Rattle.reports.specs.Effects.{report_in}
 use Rattle.frame_lines.proofs.Fields.{numbers_spelled, with_text_lem, without_text}
-use borrow.Author.Rules.{rules}
 use Rattle.frame_lines.proofs.put_fields.Goals as goal
 
 pub returns-then-r-eq4 : goal.returns-then-r-eq4

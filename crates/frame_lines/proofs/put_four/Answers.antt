@@ -4,7 +4,6 @@ use mathlib.Core.List.{List}
 use Prim.Native.Nat.{ℕ}
 use Rattle.frame_lines.specs.Lines.{written}
 use Rattle.frame_lines.proofs.Numbers.{four_digits}
-use borrow.Author.Rules.{rules}
 use Rattle.frame_lines.proofs.put_four.Goals as goal
 
 pub returns : goal.returns

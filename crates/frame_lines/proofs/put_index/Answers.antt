@@ -2,7 +2,6 @@
 use native.Mathlib.Omega.{arith}
 use Rattle.frame_lines.proofs.Octets.{wrote_wider, began_all}
 use Rattle.frame_lines.proofs.Numbers.{eight_written}
-use borrow.Author.Rules.{rules}
 use Rattle.frame_lines.proofs.put_index.Goals as goal
 
 pub returns-then-n-lt100000000 : goal.returns-then-n-lt100000000

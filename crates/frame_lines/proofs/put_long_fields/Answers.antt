@@ -2,7 +2,6 @@
 use native.Mathlib.Omega.{arith}
 use Rattle.reports.specs.Effects.{report_in}
 use Rattle.frame_lines.proofs.Fields.{with_text_lem, without_text}
-use borrow.Author.Rules.{rules}
 use Rattle.frame_lines.proofs.put_long_fields.Goals as goal
 
 pub returns-then-r-ne4 : goal.returns-then-r-ne4

@@ -1,9 +1,8 @@
-use mathlib.Core.Path.{◌≡◌, refl}
-use Prim.Native.Nat.{◌+◌, ◌-◌, ◌*◌, ◌≤◌}
+use mathlib.Core.Path.{refl}
+use Prim.Native.Nat.{◌+◌}
 use native.Mathlib.Omega.{arith}
-use lib.ListN.{length, take, length-set}
-use Rattle.protocol.specs.Printed.{hexadecimal}
-use Rattle.frame_lines.specs.Lines.{Wrote, long_digits, longest_text}
+use lib.ListN.{length-set}
+use Rattle.frame_lines.specs.Lines.{long_digits}
 use Rattle.frame_lines.proofs.Numbers.{hex_none, hex_stored}
 use Rattle.frame_lines.proofs.Fields.{text_long}
 use Rattle.frame_lines.proofs.put_long_text.Goals as goal

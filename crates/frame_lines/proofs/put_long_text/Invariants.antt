@@ -1,12 +1,9 @@
 -- `frame_lines::put_long_text` meets its contract.
-use mathlib.Core.Path.{◌≡◌, refl}
+use mathlib.Core.Path.{◌≡◌}
 use Prim.Native.Nat.{◌+◌, ◌-◌, ◌*◌, ◌≤◌}
-use native.Mathlib.Omega.{arith}
-use lib.ListN.{length, take, length-set}
+use lib.ListN.{length, take}
 use Rattle.protocol.specs.Printed.{hexadecimal}
 use Rattle.frame_lines.specs.Lines.{Wrote, long_digits, longest_text}
-use Rattle.frame_lines.proofs.Numbers.{hex_none, hex_stored}
-use Rattle.frame_lines.proofs.Fields.{text_long}
 use Rattle.frame_lines.proofs.put_long_text.Given as goal
 
 abbrev pub invariant-loop-i : goal.invariant-loop-i

@@ -2,7 +2,6 @@
 use native.Mathlib.Omega.{arith}
 use lib.ListN.{length-set}
 use Rattle.frame_lines.proofs.Octets.{three_stored}
-use borrow.Author.Rules.{rules}
 use Rattle.frame_lines.proofs.put_no.Goals as goal
 
 pub bounds-out-at-2 : goal.bounds-out-at-2

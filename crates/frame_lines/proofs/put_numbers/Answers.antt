@@ -3,7 +3,6 @@ use mathlib.Core.List.{[]}
 use native.Mathlib.Omega.{arith}
 use Rattle.reports.specs.Effects.{report_in}
 use Rattle.frame_lines.proofs.Fields.{numbers_paired}
-use borrow.Author.Rules.{rules}
 use Rattle.frame_lines.proofs.put_numbers.Goals as goal
 
 pub returns : goal.returns

@@ -3,7 +3,6 @@ use native.Mathlib.Omega.{arith}
 use Rattle.protocol.specs.Events.{refused}
 use Rattle.frame_lines.proofs.Octets.{began_all}
 use Rattle.frame_lines.proofs.Fields.{line_written}
-use borrow.Author.Rules.{rules}
 use Rattle.frame_lines.proofs.put_refusal.Goals as goal
 
 pub returns : goal.returns

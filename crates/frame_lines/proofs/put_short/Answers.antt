@@ -2,7 +2,6 @@
 use native.Mathlib.Omega.{arith}
 use lib.ListN.{length-set}
 use Rattle.frame_lines.proofs.Fields.{field_spelled}
-use borrow.Author.Rules.{rules}
 use Rattle.frame_lines.proofs.put_short.Goals as goal
 
 pub put_spelled-requires : goal.put_spelled-requires

@@ -5,7 +5,6 @@ use native.Mathlib.Omega.{arith}
 use lib.ListN.{length-set}
 use Rattle.frame_lines.proofs.Octets.{wrote_wider}
 use Rattle.frame_lines.proofs.Numbers.{length_two, length_four, digit_written, digits_written, split_written}
-use borrow.Author.Rules.{rules}
 use Rattle.frame_lines.proofs.put_small.Goals as goal
 
 pub returns-then-n-lt10 : goal.returns-then-n-lt10

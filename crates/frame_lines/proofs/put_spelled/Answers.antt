@@ -2,7 +2,6 @@
 use mathlib.Core.Path.{refl}
 use native.Mathlib.Omega.{arith}
 use Rattle.frame_lines.proofs.Numbers.{at_most_four, spelled_written}
-use borrow.Author.Rules.{rules}
 use Rattle.frame_lines.proofs.put_spelled.Goals as goal
 
 pub overflow_add-result : goal.overflow_add-result

@@ -2,7 +2,6 @@
 use native.Mathlib.Omega.{arith}
 use lib.ListN.{length-set}
 use Rattle.frame_lines.proofs.Fields.{text_empty, text_some}
-use borrow.Author.Rules.{rules}
 use Rattle.frame_lines.proofs.put_text.Goals as goal
 
 pub bounds-out-at-then-size-eq0 : goal.bounds-out-at-then-size-eq0

@@ -2,7 +2,6 @@
 use native.Mathlib.Omega.{arith}
 use Rattle.frame_lines.proofs.Octets.{wrote_then}
 use Rattle.frame_lines.proofs.Fields.{fields_short}
-use borrow.Author.Rules.{rules}
 use Rattle.frame_lines.proofs.put_two_fields.Goals as goal
 
 pub returns-then-y-lt10 : goal.returns-then-y-lt10

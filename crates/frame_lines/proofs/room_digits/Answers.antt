@@ -1,8 +1,7 @@
-use Prim.Native.Nat.{◌+◌, ◌-◌, ◌*◌, ◌≤◌}
+use Prim.Native.Nat.{◌+◌, ◌*◌}
 use native.Mathlib.Omega.{arith}
-use lib.ListN.{take, length-set}
-use Rattle.protocol.specs.Printed.{hexadecimal}
-use Rattle.frame_lines.specs.Lines.{Wrote, text_octets, text_digits}
+use lib.ListN.{length-set}
+use Rattle.frame_lines.specs.Lines.{text_digits}
 use Rattle.frame_lines.proofs.Numbers.{hex_none, hex_stored, hex_done}
 use Rattle.frame_lines.proofs.room_digits.Goals as goal
 

@@ -1,10 +1,8 @@
 -- `frame_lines::room_digits` meets its contract.
-use Prim.Native.Nat.{◌+◌, ◌-◌, ◌*◌, ◌≤◌}
-use native.Mathlib.Omega.{arith}
-use lib.ListN.{take, length-set}
+use Prim.Native.Nat.{◌-◌, ◌*◌, ◌≤◌}
+use lib.ListN.{take}
 use Rattle.protocol.specs.Printed.{hexadecimal}
 use Rattle.frame_lines.specs.Lines.{Wrote, text_octets, text_digits}
-use Rattle.frame_lines.proofs.Numbers.{hex_none, hex_stored, hex_done}
 use Rattle.frame_lines.proofs.room_digits.Given as goal
 
 abbrev pub invariant-loop-i : goal.invariant-loop-i

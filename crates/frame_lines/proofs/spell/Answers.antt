@@ -1,6 +1,5 @@
 -- `frame_lines::spell` meets its contract.
 use Rattle.frame_lines.proofs.Numbers.{spelled}
-use borrow.Author.Rules.{rules}
 use Rattle.frame_lines.proofs.spell.Goals as goal
 
 pub returns : goal.returns

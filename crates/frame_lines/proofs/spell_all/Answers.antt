@@ -1,10 +1,6 @@
-use Prim.Native.Nat.{ℕ, ◌≤◌, ◌<◌, ◌-◌}
-use mathlib.Core.Path.{◌≡◌}
 use native.Mathlib.Omega.{arith}
-use lib.ListN.{length, get_or, length-set}
-use Rattle.frame_lines.specs.Lines.{Spells}
+use lib.ListN.{length-set}
 use Rattle.frame_lines.proofs.Numbers.{spelled_more}
-use borrow.Author.Rules.{rules}
 use Rattle.frame_lines.proofs.spell_all.Goals as goal
 
 pub loop-n-init : goal.loop-n-init

@@ -1,11 +1,8 @@
 -- `frame_lines::spell_all` meets its contract.
 use Prim.Native.Nat.{ℕ, ◌≤◌, ◌<◌, ◌-◌}
 use mathlib.Core.Path.{◌≡◌}
-use native.Mathlib.Omega.{arith}
-use lib.ListN.{length, get_or, length-set}
+use lib.ListN.{length, get_or}
 use Rattle.frame_lines.specs.Lines.{Spells}
-use Rattle.frame_lines.proofs.Numbers.{spelled_more}
-use borrow.Author.Rules.{rules}
 use Rattle.frame_lines.proofs.spell_all.Given as goal
 
 abbrev pub invariant-loop-n : goal.invariant-loop-n

@@ -1,7 +1,6 @@
 -- `frame_lines::word_of` meets its contract.
 use native.Mathlib.Omega.{arith}
 use Rattle.frame_lines.proofs.Numbers.{word_made}
-use borrow.Author.Rules.{rules}
 use Rattle.frame_lines.proofs.word_of.Goals as goal
 
 pub returns : goal.returns

@@ -2,7 +2,6 @@
 use native.Mathlib.Omega.{arith}
 use Rattle.frames.proofs.Values.{event_inside}
 use Rattle.frame_reader.proofs.Values.{moved_taken}
-use borrow.Author.Rules.{rules}
 use Rattle.frame_reader.proofs.next_position.Goals as goal
 
 pub size_of-requires : goal.size_of-requires

@@ -1,7 +1,6 @@
 -- `frame_reader::refusal_at` meets its contract.
 use mathlib.Core.Path.{◌∙◌}
 use Rattle.frames.proofs.Values.{same_number}
-use borrow.Author.Rules.{rules}
 use Rattle.frame_reader.proofs.refusal_at.Goals as goal
 
 pub returns-in_default : goal.returns-in_default

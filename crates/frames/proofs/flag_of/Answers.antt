@@ -3,7 +3,6 @@ use mathlib.Core.Path.{refl}
 use Rattle.frames.specs.Decoded.{fields_in}
 use Rattle.frames.proofs.Laws.{flag_event}
 use Rattle.frames.proofs.Values.{flag_read}
-use borrow.Author.Rules.{rules}
 use Rattle.frames.proofs.flag_of.Goals as goal
 
 pub returns : goal.returns

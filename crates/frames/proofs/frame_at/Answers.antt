@@ -5,7 +5,6 @@ use lib.ListN.{drop}
 use Rattle.frames.specs.Decoded.{fields_in}
 use Rattle.frames.proofs.Laws.{nothing_left, cut_frame}
 use Rattle.frames.proofs.Values.{frame_read}
-use borrow.Author.Rules.{rules}
 use Rattle.frames.proofs.frame_at.Goals as goal
 
 pub returns-then-octets-at : goal.returns-then-octets-at

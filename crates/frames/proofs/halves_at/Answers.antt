@@ -5,7 +5,6 @@ use Prim.Native.Nat.{ℕ}
 use lib.ListN.{take, drop}
 use lib.Seq.{drop-drop}
 use Rattle.frames.proofs.Laws.{fields_made}
-use borrow.Author.Rules.{rules}
 use Rattle.frames.proofs.halves_at.Goals as goal
 
 pub returns : goal.returns

@@ -1,6 +1,5 @@
 -- `frames::later_of` meets its contract.
 use native.Mathlib.Omega.{arith}
-use borrow.Author.Rules.{rules}
 use Rattle.frames.proofs.later_of.Goals as goal
 
 pub returns-then-kind-eq6 : goal.returns-then-kind-eq6

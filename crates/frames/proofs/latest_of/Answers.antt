@@ -1,7 +1,6 @@
 -- `frames::latest_of` meets its contract.
 use native.Mathlib.Omega.{arith}
 use Rattle.frames.proofs.Values.{unknown_read}
-use borrow.Author.Rules.{rules}
 use Rattle.frames.proofs.latest_of.Goals as goal
 
 pub returns-then-kind-eq10 : goal.returns-then-kind-eq10

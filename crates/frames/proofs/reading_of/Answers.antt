@@ -4,7 +4,6 @@ use native.Mathlib.Omega.{arith}
 use Rattle.frames.specs.Decoded.{fields_in}
 use Rattle.frames.proofs.Laws.{unlisted_start, unlisted_enter, unlisted_radio, start_event, enter_event, wire_event, radio_event, move_event}
 use Rattle.frames.proofs.Values.{station_read, wire_read, move_read}
-use borrow.Author.Rules.{rules}
 use Rattle.frames.proofs.reading_of.Goals as goal
 
 pub returns-then-kind-eq3 : goal.returns-then-kind-eq3

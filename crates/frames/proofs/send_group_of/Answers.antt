@@ -1,7 +1,6 @@
 -- `frames::send_group_of` meets its contract.
 use mathlib.Core.Path.{refl}
 use native.Mathlib.Omega.{arith}
-use borrow.Author.Rules.{rules}
 use Rattle.frames.specs.Decoded.{fields_in}
 use Rattle.frames.proofs.Laws.{send_group_event}
 use Rattle.frames.proofs.Values.{send_group_stray, send_group_read}

@@ -1,7 +1,6 @@
 -- `frames::send_long_of` meets its contract.
 use mathlib.Core.Path.{refl}
 use native.Mathlib.Omega.{arith}
-use borrow.Author.Rules.{rules}
 use Rattle.frames.specs.Decoded.{fields_in}
 use Rattle.frames.proofs.Laws.{send_long_event}
 use Rattle.frames.proofs.Values.{send_long_stray, send_long_read}

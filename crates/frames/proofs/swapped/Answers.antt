@@ -1,8 +1,5 @@
-use mathlib.Core.Path.{◌≡◌, refl}
-use Prim.Native.Nat.{◌-◌, ◌*◌, ◌^◌, ◌≤◌, ◌<◌}
+use mathlib.Core.Path.{refl}
 use native.Mathlib.Omega.{arith}
-use Rattle.protocol.specs.Frames.{big_endian}
-use Rattle.frames.specs.Decoded.{low_octets}
 use Rattle.frames.proofs.Laws.{octet_turned, all_turned, few_fit, more_fit}
 use Rattle.frames.proofs.swapped.Goals as goal
 

@@ -1,10 +1,8 @@
 -- `frames::swapped` meets its contract.
-use mathlib.Core.Path.{◌≡◌, refl}
+use mathlib.Core.Path.{◌≡◌}
 use Prim.Native.Nat.{◌-◌, ◌*◌, ◌^◌, ◌≤◌, ◌<◌}
-use native.Mathlib.Omega.{arith}
 use Rattle.protocol.specs.Frames.{big_endian}
 use Rattle.frames.specs.Decoded.{low_octets}
-use Rattle.frames.proofs.Laws.{octet_turned, all_turned, few_fit, more_fit}
 use Rattle.frames.proofs.swapped.Given as goal
 
 abbrev pub invariant-loop-i : goal.invariant-loop-i

@@ -1,8 +1,5 @@
-use mathlib.Core.Path.{◌≡◌, refl}
-use Prim.Native.Nat.{◌-◌, ◌*◌, ◌^◌, ◌≤◌, ◌<◌}
+use mathlib.Core.Path.{refl}
 use native.Mathlib.Omega.{arith}
-use lib.ListN.{take, drop}
-use Rattle.frames.specs.Decoded.{low_octets}
 use Rattle.frames.proofs.Laws.{none_read, octet_read, all_read, few_fit, more_fit}
 use Rattle.frames.proofs.word_at.Goals as goal
 

@@ -1,10 +1,8 @@
 -- `frames::word_at` meets its contract.
-use mathlib.Core.Path.{◌≡◌, refl}
+use mathlib.Core.Path.{◌≡◌}
 use Prim.Native.Nat.{◌-◌, ◌*◌, ◌^◌, ◌≤◌, ◌<◌}
-use native.Mathlib.Omega.{arith}
 use lib.ListN.{take, drop}
 use Rattle.frames.specs.Decoded.{low_octets}
-use Rattle.frames.proofs.Laws.{none_read, octet_read, all_read, few_fit, more_fit}
 use Rattle.frames.proofs.word_at.Given as goal
 
 abbrev pub invariant-loop-i : goal.invariant-loop-i

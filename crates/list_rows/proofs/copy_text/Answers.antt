@@ -3,7 +3,6 @@ use lib.ListN.{length}
 use Rattle.list_rows.proofs.PutLaws.{buffer_length}
 use mathlib.Core.Path.{refl, ap, ◌∙◌}
 use native.Mathlib.Omega.{arith}
-use borrow.Author.Rules.{rules}
 use Rattle.list_rows.proofs.TextLaws.{text_copied}
 use Rattle.list_rows.proofs.copy_text.Goals as goal
 

@@ -6,7 +6,6 @@ use Rattle.protocol.specs.CartSets.{without}
 use Rattle.rows.specs.Rows.{cell}
 use Rattle.list_rows.specs.Rows.{width}
 use Rattle.list_rows.proofs.PutLaws.{row_taken}
-use borrow.Author.Rules.{rules}
 use Rattle.list_rows.proofs.cross_out.Goals as goal
 
 pub returns : goal.returns

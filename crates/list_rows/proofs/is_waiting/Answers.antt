@@ -3,7 +3,6 @@ use mathlib.Core.Path.{ap, sym, ◌∙◌}
 use borrow.Author.Tests.{ne_eqb, eq-eqb}
 use Rattle.protocol.specs.CartSets.{has}
 use Rattle.list_rows.specs.declared.Message.{Message}
-use borrow.Author.Rules.{rules}
 use Rattle.list_rows.proofs.is_waiting.Goals as goal
 
 pub returns-then-station-message : goal.returns-then-station-message

@@ -1,5 +1,4 @@
 -- `list_rows::message_at` meets its contract.
-use borrow.Author.Rules.{rules}
 use Rattle.list_rows.proofs.message_at.Goals as goal
 
 pub returns : goal.returns

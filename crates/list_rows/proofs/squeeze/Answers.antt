@@ -1,9 +1,8 @@
 use mathlib.Core.Path.{◌≡◌, refl, ap, sym, ◌∙◌}
-use Prim.Native.Nat.{◌≤◌, ◌-◌}
+use Prim.Native.Nat.{◌≤◌}
 use native.Mathlib.Omega.{arith}
-use lib.ListN.{length}
 use native.Mathlib.Numerals.{add-one}
-use Rattle.list_rows.specs.Rows.{Row, Used, rows_in, used_rows, keep_row, squeezed}
+use Rattle.list_rows.specs.Rows.{Row, Used, rows_in, keep_row, squeezed}
 use Rattle.list_rows.proofs.ListLaws.{squeezed_used, squeezed_rest}
 use borrow.Author.Rules.{rules}
 use Rattle.list_rows.proofs.squeeze.Goals as goal

@@ -1,12 +1,8 @@
 -- `list_rows::squeeze` meets its contract.
-use mathlib.Core.Path.{◌≡◌, refl, ap, sym, ◌∙◌}
+use mathlib.Core.Path.{◌≡◌}
 use Prim.Native.Nat.{◌≤◌, ◌-◌}
-use native.Mathlib.Omega.{arith}
 use lib.ListN.{length}
-use native.Mathlib.Numerals.{add-one}
-use Rattle.list_rows.specs.Rows.{Row, Used, rows_in, used_rows, keep_row, squeezed}
-use Rattle.list_rows.proofs.ListLaws.{squeezed_used, squeezed_rest}
-use borrow.Author.Rules.{rules}
+use Rattle.list_rows.specs.Rows.{rows_in, used_rows, squeezed}
 use Rattle.list_rows.proofs.squeeze.Given as goal
 
 abbrev pub invariant-loop-row : goal.invariant-loop-row

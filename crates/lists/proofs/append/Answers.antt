@@ -6,7 +6,6 @@ use Rattle.lists.specs.View.{lent_lists}
 use Rattle.lists.proofs.Facts.{facts_of}
 use Rattle.lists.proofs.Checks.{at_most_64}
 use Rattle.lists.proofs.SendLaws.{ground, none_in, room_in_lem, some_in}
-use borrow.Author.Rules.{rules}
 use Rattle.lists.proofs.append.Goals as goal
 
 pub overflow_add-place : goal.overflow_add-place

@@ -5,7 +5,6 @@ use Prim.Native.Nat.{ℕ}
 use native.Mathlib.Omega.{arith}
 use lib.ListN.{take, drop}
 use Rattle.list_rows.specs.Rows.{part_in}
-use borrow.Author.Rules.{rules}
 use Rattle.lists.proofs.hand_over.Goals as goal
 
 pub copy_text-requires : goal.copy_text-requires

@@ -6,7 +6,6 @@ use Rattle.lists.specs.View.{lent_lists}
 use Rattle.lists.proofs.Facts.{sized}
 use Rattle.lists.proofs.Checks.{send_checks_lem, refused_met}
 use Rattle.lists.proofs.SendLaws.{send_met, send_passes}
-use borrow.Author.Rules.{rules}
 use Rattle.lists.proofs.send.Goals as goal
 
 pub send_refusal-refusal-requires : goal.send_refusal-refusal-requires

@@ -6,7 +6,6 @@ use Prim.Native.Nat.{◌+◌, ◌<◌, ◌^◌}
 use native.Mathlib.Omega.{arith}
 use borrow.Author.Tests.{eq-eqb, ne_eqb, le-leb, lt-leb, lt-ltb, le-ltb}
 use Rattle.lists.proofs.Checks.{a_stranger, no_stranger, named_count, at_most_64}
-use borrow.Author.Rules.{rules}
 use Rattle.lists.proofs.send_refusal.Goals as goal
 
 pub returns-then-size-gt-TEXT : goal.returns-then-size-gt-TEXT

@@ -2,13 +2,9 @@
 use mathlib.Core.Path.{◌≡◌, sym, ◌∙◌}
 use native.Mathlib.Omega.{arith}
 use lib.ListN.{length, set, length-set}
-use borrow.Author.Tests.{not-true, not-false}
 use Rattle.lists.specs.View.{lent_lists}
 use Rattle.lists.proofs.Facts.{lengths_of, of_lengths}
 use Rattle.lists.proofs.StartLaws.{start_lengths, start_begun, start_size, start_met, counts_begun}
-use borrow.Author.Rules.{rules}
-use mathlib.Core.Bool.{not}
-use mathlib.Core.Path.{ap}
 use Rattle.lists.proofs.start.Goals as goal
 
 pub returns-then-not-lengths_ok : goal.returns-then-not-lengths_ok

@@ -5,7 +5,6 @@ use Rattle.list_rows.specs.declared.Message.{Message}
 use Rattle.lists.specs.View.{lent_lists}
 use Rattle.lists.proofs.Facts.{sized, facts_of, lengths_of}
 use Rattle.lists.proofs.TakeLaws.{take_refused, take_granted, take_passes, take_empty, entry_there, row_there, text_there, take_met}
-use borrow.Author.Rules.{rules}
 use Rattle.lists.proofs.take.Goals as goal
 
 pub take_refusal-refusal-requires : goal.take_refusal-refusal-requires

@@ -1,6 +1,5 @@
 -- `lists::take_refusal` meets its contract.
 use borrow.Author.Tests.{eq-eqb, ne_eqb, le-leb, lt-leb}
-use borrow.Author.Rules.{rules}
 use Rattle.lists.proofs.take_refusal.Goals as goal
 
 pub returns-then-counts-ne-STARTED : goal.returns-then-counts-ne-STARTED

@@ -6,7 +6,6 @@ use Rattle.protocol.proofs.ClaimLaws.{reflect}
 use Rattle.lists.specs.View.{counts_in}
 use Rattle.tested_lists.specs.Form.{sent_rule, counts_rule}
 use Rattle.tested_lists.proofs.Pass.{fails, same_claim, wrong_size_fails, size_holds}
-use borrow.Author.Rules.{rules}
 use Rattle.tested_lists.proofs.counts_ok.Goals as goal
 
 pub returns-then-counts-ne-STARTED : goal.returns-then-counts-ne-STARTED

@@ -1,14 +1,10 @@
 -- `tested_lists::passes` meets its contract.
 use mathlib.Core.Path.{sym, ◌∙◌}
-use borrow.Author.Tests.{not-true, not-false}
 use Rattle.protocol.proofs.ClaimLaws.{reflect}
 use Rattle.lists.specs.View.{lent_lists, counts_in}
 use Rattle.lists.proofs.Facts.{lengths_of}
 use Rattle.tested_lists.specs.Form.{counts_rule}
 use Rattle.tested_lists.proofs.Split.{form_split}
-use borrow.Author.Rules.{rules}
-use mathlib.Core.Bool.{not}
-use mathlib.Core.Path.{ap}
 use Rattle.tested_lists.proofs.passes.Goals as goal
 
 pub returns-then-not-lengths_ok : goal.returns-then-not-lengths_ok

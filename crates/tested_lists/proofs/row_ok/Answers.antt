@@ -3,7 +3,6 @@ use lib.ListN.{get_or}
 use Rattle.list_rows.specs.Rows.{rows_in}
 use Rattle.lists.specs.View.{counts_in}
 use Rattle.tested_lists.proofs.Pass.{row_of_nobody, row_low, row_high, row_strange, row_by_size}
-use borrow.Author.Rules.{rules}
 use Rattle.tested_lists.proofs.row_ok.Goals as goal
 
 pub returns-then-counts-message : goal.returns-then-counts-message

@@ -1,19 +1,15 @@
 use Rattle.protocol.proofs.Tests.{clash}
 use mathlib.Core.Path.{refl, ap, sym, ◌∙◌}
-use mathlib.Core.List.{List, []}
-use Prim.Native.Nat.{ℕ, ◌≤◌, ◌-◌}
+use mathlib.Core.List.{[]}
 use native.Mathlib.Omega.{arith}
 use lib.ListN.{get_or-replicate}
-use borrow.Author.Rules.{rules}
-use borrow.Author.Tests.{not-true, not-false}
 use Rattle.protocol.proofs.ClaimLaws.{reflect}
 use Rattle.sets.specs.Masks.{size}
 use Rattle.list_rows.specs.declared.Message.{Message}
 use Rattle.list_rows.specs.Rows.{rows_in}
 use Rattle.lists.specs.View.{counts_in}
 use Rattle.lists.proofs.Checks.{at_most_64}
-use Rattle.tested_lists.proofs.Pass.{SoFar, fits_here, few_entries, row_fails, passed_on, rows_end, none_passed}
-use mathlib.Core.Bool.{not}
+use Rattle.tested_lists.proofs.Pass.{fits_here, few_entries, row_fails, passed_on, rows_end, none_passed}
 use Rattle.tested_lists.proofs.rows_ok.Goals as goal
 
 pub bounds-counts-3 : goal.bounds-counts-3

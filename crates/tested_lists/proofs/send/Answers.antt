@@ -1,11 +1,7 @@
 -- `tested_lists::send` meets its contract.
 use mathlib.Core.Path.{sym, ◌∙◌}
-use borrow.Author.Tests.{not-true, not-false}
 use Rattle.lists.specs.View.{lent_lists}
 use Rattle.tested_lists.proofs.Broken.{long_send, broken_send, tested_ready}
-use borrow.Author.Rules.{rules}
-use mathlib.Core.Bool.{not}
-use mathlib.Core.Path.{ap}
 use Rattle.tested_lists.proofs.send.Goals as goal
 
 pub returns-then-text-gt-TEXT : goal.returns-then-text-gt-TEXT

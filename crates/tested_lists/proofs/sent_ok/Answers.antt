@@ -1,4 +1,3 @@
-use Prim.Native.Nat.{ℕ, ◌≤◌, ◌<◌, ◌-◌}
 use native.Mathlib.Omega.{arith}
 use Rattle.protocol.proofs.Tests.{by_eq}
 use Rattle.lists.specs.View.{counts_in}

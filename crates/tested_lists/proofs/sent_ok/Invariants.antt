@@ -1,10 +1,6 @@
 -- `tested_lists::sent_ok` meets its contract.
 use Prim.Native.Nat.{ℕ, ◌≤◌, ◌<◌, ◌-◌}
-use native.Mathlib.Omega.{arith}
-use Rattle.protocol.proofs.Tests.{by_eq}
 use Rattle.lists.specs.View.{counts_in}
-use Rattle.tested_lists.specs.Form.{sent_rule}
-use Rattle.tested_lists.proofs.Pass.{fails, holds}
 use Rattle.tested_lists.proofs.sent_ok.Given as goal
 
 abbrev pub invariant-loop-s : goal.invariant-loop-s

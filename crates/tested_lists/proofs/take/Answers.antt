@@ -1,11 +1,7 @@
 -- `tested_lists::take` meets its contract.
 use mathlib.Core.Path.{sym, ◌∙◌}
-use borrow.Author.Tests.{not-true, not-false}
 use Rattle.lists.specs.View.{lent_lists}
 use Rattle.tested_lists.proofs.Broken.{broken_take, tested_ready}
-use borrow.Author.Rules.{rules}
-use mathlib.Core.Bool.{not}
-use mathlib.Core.Path.{ap}
 use Rattle.tested_lists.proofs.take.Goals as goal
 
 pub returns-then-not-passes : goal.returns-then-not-passes

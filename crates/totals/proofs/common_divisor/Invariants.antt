@@ -1,10 +1,6 @@
 -- `totals::common_divisor` meets its contract: each turn keeps the greatest common divisor, and the second number falls.
-use mathlib.Core.Path.{◌≡◌, ap, refl, sym, ◌∙◌}
-use Prim.Native.Nat.{ℕ, ◌<◌}
-use native.Mathlib.Nat.{mod-lt}
-use native.Mathlib.Omega.{arith}
+use mathlib.Core.Path.{◌≡◌}
 use Rattle.totals.specs.Totals.{gcd}
-use Rattle.totals.proofs.Gcd.{gcd_end, gcd_turn}
 use Rattle.totals.proofs.common_divisor.Given as goal
 
 abbrev pub invariant-loop-y : goal.invariant-loop-y

@@ -1,6 +1,5 @@
 -- `totals::join` meets its contract.
 use native.Mathlib.Omega.{arith}
-use borrow.Author.Rules.{rules}
 use Rattle.totals.proofs.Joins.{neither_too_large, passed_too_large, received_too_large}
 use Rattle.totals.proofs.join.Goals as goal
 

@@ -1,7 +1,6 @@
 -- `totals::ratio` meets its contract.
 use native.Mathlib.Omega.{arith}
 use mathlib.Core.Path.{sym}
-use borrow.Author.Rules.{rules}
 use Rattle.totals.proofs.Gcd.{gcd_positive}
 use Rattle.totals.proofs.Ratios.{nothing_received, ratio_found}
 use Rattle.totals.proofs.ratio.Goals as goal

@@ -2,7 +2,6 @@
 use mathlib.Core.Path.{sym, ap}
 use Rattle.frames.specs.declared.Event.{Event}
 use Rattle.training_calls.specs.Calls.{call_for}
-use borrow.Author.Rules.{rules}
 use Rattle.training_calls.proofs.accepted_call.Goals as goal
 
 pub returns-in-Start : goal.returns-in-Start

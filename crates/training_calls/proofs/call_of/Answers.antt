@@ -3,7 +3,6 @@ use mathlib.Core.Path.{sym, ap, ◌∙◌}
 use mathlib.Core.Bool.{Bool, cond}
 use Rattle.training_rows.specs.declared.Call.TheVariants.{Nothing}
 use Rattle.training_calls.specs.Calls.{call_for}
-use borrow.Author.Rules.{rules}
 use Rattle.training_calls.proofs.call_of.Goals as goal
 
 pub returns : goal.returns

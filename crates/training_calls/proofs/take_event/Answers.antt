@@ -5,7 +5,6 @@ use Rattle.view.specs.View.{lent}
 use Rattle.event_answers.proofs.Readies.{has_head}
 use Rattle.frame_run.proofs.Turns.{least_size}
 use Rattle.training_calls.proofs.CallLaws.{made_so, text_there}
-use borrow.Author.Rules.{rules}
 use Rattle.training_calls.proofs.take_event.Goals as goal
 
 pub members_for-members-requires : goal.members_for-members-requires

@@ -7,7 +7,6 @@ use Rattle.frames.proofs.Values.{event_inside, text_fits}
 use Rattle.frame_run.proofs.Turns.{waits_there, refused_there, taken_there, least_size}
 use Rattle.training_calls.specs.declared.CallMade.{CallMade}
 use Rattle.training_calls.proofs.Turns.{turned_waits, refused_row, taken_row}
-use borrow.Author.Rules.{rules}
 use Rattle.training_calls.proofs.take_frame.Goals as goal
 
 pub returns-then-none_whole : goal.returns-then-none_whole
@@ -58,9 +57,8 @@ pub returns : goal.returns
 returns c =
     let f = c.frame_at-reading in
     let a = c.args in
-    let g = c.reading-1.given in
-    let i = event_inside a.input.now a.p.read f.result f.ensures _ g.1 in
+    let i = event_inside a.input.now a.p.read f.result f.ensures _ c.in-Taken.is in
     let m = c.take_event-made in
     let r = c.put_row-2 in
     λ P n R. taken_row a.input.now a.last (lent P a.stations.now a.carts.now a.messages.now a.lines.now a.texts.now a.store.now) a.calls.now a.p R c.requires.state_value.0 c.requires.state_value.1 c.requires.state_value.2 _ _ r.result m.result _ _
-    (taken_there a.input.now a.p.read a.last f.result f.ensures _ g.1) (least_size g.0.0) i.0 (m.ensures.by_each P n R) m.ensures.text_in r.ensures.calls_after.0 r.ensures.calls_after.1 r.ensures.value
+    (taken_there a.input.now a.p.read a.last f.result f.ensures _ c.in-Taken.is) (least_size c.in-Taken.e) i.0 (m.ensures.by_each P n R) m.ensures.text_in r.ensures.calls_after.0 r.ensures.calls_after.1 r.ensures.value

@@ -1,9 +1,7 @@
 use mathlib.Core.Path.{refl, sym, ◌∙◌}
 use Rattle.view.specs.View.{lent}
-use Rattle.frame_run.specs.CanRun.{ByEach}
-use Rattle.frame_run.proofs.Loop.{left, same_stations, same_carts, same_messages, same_lines, same_texts, same_store}
-use Rattle.training_calls.proofs.Loop.{Going, going_first, going_next, going_less, goes, stops}
-use borrow.Author.Rules.{rules}
+use Rattle.frame_run.proofs.Loop.{same_stations, same_carts, same_messages, same_lines, same_texts, same_store}
+use Rattle.training_calls.proofs.Loop.{going_first, going_next, going_less, goes, stops}
 use Rattle.training_calls.proofs.take_frames.Goals as goal
 
 pub loop-bounds-init : goal.loop-bounds-init

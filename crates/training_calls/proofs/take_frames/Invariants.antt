@@ -1,10 +1,8 @@
 -- `training_calls::take_frames` meets its contract. The invariant: what was run is the written run over those frames, and their calls are in the rows. The octets left fall.
-use mathlib.Core.Path.{refl, sym, ◌∙◌}
 use Rattle.view.specs.View.{lent}
 use Rattle.frame_run.specs.CanRun.{ByEach}
-use Rattle.frame_run.proofs.Loop.{left, same_stations, same_carts, same_messages, same_lines, same_texts, same_store}
-use Rattle.training_calls.proofs.Loop.{Going, going_first, going_next, going_less, goes, stops}
-use borrow.Author.Rules.{rules}
+use Rattle.frame_run.proofs.Loop.{left}
+use Rattle.training_calls.proofs.Loop.{Going}
 use Rattle.training_calls.proofs.take_frames.Given as goal
 
 abbrev pub invariant-loop-bounds : goal.invariant-loop-bounds

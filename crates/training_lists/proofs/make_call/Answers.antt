@@ -3,7 +3,6 @@ use native.Mathlib.Omega.{arith}
 use lib.ListN.{length}
 use Rattle.lists.specs.View.{lent_lists}
 use Rattle.training_lists.proofs.LineLaws.{none_made, start_made, part_sent, by_call, text_there}
-use borrow.Author.Rules.{rules}
 use Rattle.training_lists.proofs.make_call.Goals as goal
 
 pub overflow_add-end : goal.overflow_add-end

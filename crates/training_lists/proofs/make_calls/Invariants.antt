@@ -1,16 +1,8 @@
-use mathlib.Core.Path.{◌≡◌, subst}
-use Prim.Native.Nat.{ℕ}
-use lib.ListN.{length}
-use Rattle.training_rows.specs.Calls.{TextIn}
 -- `training_lists::make_calls` meets its contract. The invariant: the lists and the lines are those of the calls of the rows passed. The rows left fall.
-use mathlib.Core.Path.{sym, ◌∙◌}
 use Prim.Native.Nat.{◌*◌, ◌-◌, ◌≤◌}
-use native.Mathlib.Omega.{arith}
 use Rattle.lists.specs.View.{lent_lists, lists_in}
-use Rattle.lists.proofs.Facts.{lengths_of}
 use Rattle.training_rows.specs.Calls.{calls_in, made_by}
 use Rattle.training_lists.specs.Lines.{head_room, Fed}
-use Rattle.training_lists.proofs.LineLaws.{fed_none, fed_turn}
 use Rattle.training_lists.proofs.make_calls.Given as goal
 
 abbrev pub invariant-loop-row : goal.invariant-loop-row

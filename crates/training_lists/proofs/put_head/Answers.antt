@@ -2,7 +2,6 @@ use native.Mathlib.Omega.{arith}
 -- `training_lists::put_head` meets its contract.
 use lib.ListN.{length-set}
 use Rattle.training_lists.proofs.LineLaws.{head_written}
-use borrow.Author.Rules.{rules}
 use Rattle.training_lists.proofs.put_head.Goals as goal
 
 pub shape_of-output : goal.shape_of-output

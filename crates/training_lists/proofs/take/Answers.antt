@@ -1,7 +1,6 @@
 -- `training_lists::take` meets its contract.
 use Rattle.lists.specs.View.{lent_lists}
 use Rattle.training_lists.proofs.LineLaws.{take_made}
-use borrow.Author.Rules.{rules}
 use Rattle.training_lists.proofs.take.Goals as goal
 
 pub returns : goal.returns

@@ -1,7 +1,6 @@
 -- `training_rows::call_at` meets its contract.
 use mathlib.Core.Path.{◌∙◌}
 use Rattle.training_rows.specs.Calls.{words, call_of}
-use borrow.Author.Rules.{rules}
 use Rattle.training_rows.proofs.call_at.Goals as goal
 
 pub returns : goal.returns

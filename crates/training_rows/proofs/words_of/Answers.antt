@@ -1,7 +1,6 @@
 -- `training_rows::words_of` meets its contract.
 use mathlib.Core.Path.{sym, ap}
 use Rattle.training_rows.specs.Calls.{words_of}
-use borrow.Author.Rules.{rules}
 use Rattle.training_rows.proofs.words_of.Goals as goal
 
 pub returns-in-Nothing : goal.returns-in-Nothing
