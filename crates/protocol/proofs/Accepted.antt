@@ -9,7 +9,7 @@ use lib.ListN.{length}
 use borrow.Author.Tests.{eqb-true, leb-false, lt-leb, ltb-false, ne_eqb, not-false}
 use Rattle.protocol.specs.Folds.{every, is_empty, is_none}
 use Rattle.protocol.specs.CartSets.{has}
-use Rattle.protocol.specs.Floor.{Floor, Limits, Record, at, behead, entered, is_at, is_held, most_text, moving, on_lines}
+use Rattle.protocol.specs.Floor.{Floor, Limits, Record, behead, entered, is_at, is_held, most_text, moving, on_lines}
 use Rattle.protocol.specs.Events.{Answer, Event, Report, accepted, enter, flag, group, move, radio, refused, retire, send, send_group, send_long, start, wire}
 use Rattle.protocol.specs.Groups.{group_count, on_group}
 use Rattle.protocol.specs.Store.{not_long, store_used}

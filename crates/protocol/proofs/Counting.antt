@@ -7,7 +7,7 @@ use native.Mathlib.Omega.{arith}
 use lib.Dec.{eqb}
 use borrow.Author.Tests.{eqb-false, eqb-true, ne_eqb}
 use Rattle.protocol.specs.Folds.{count, sum}
-use Rattle.protocol.specs.Floor.{Record, at, behead, between, put, tail}
+use Rattle.protocol.specs.Floor.{Record, behead, between, put, tail}
 use Rattle.protocol.specs.Claims.{All}
 use Rattle.protocol.specs.Form.{bit, count_line, count_lines}
 use Rattle.protocol.proofs.Tests.{and_intro, both_differ, both_equal, by_test, clash, eqb_self, on_cond}

@@ -1,7 +1,6 @@
 -- Demand 3: the two-list rule.
 use mathlib.Core.Path.{ap, refl, subst, sym, ◌∙◌, ◌≡◌}
 use mathlib.Core.Bool.{◌&&◌, Bool, cond, false, not, true}
-use mathlib.Core.Option.{some}
 use mathlib.Core.List.{◌++◌, List, [], ◌∷◌}
 use Prim.Native.Nat.{◌+◌, ◌-◌, ◌<◌, suc, zero, ℕ, ◌≤◌}
 use native.Mathlib.Omega.{arith}
@@ -9,9 +8,9 @@ use lib.Dec.{eqb, leb}
 use lib.ListN.{drop, get_or, length, take, take-append-drop}
 use lib.Seq.{get_or-drop}
 use borrow.Author.Tests.{eq-eqb, eqb-true, le-leb, leb-true, not-false, not-true}
-use Rattle.protocol.specs.Folds.{every, sum}
+use Rattle.protocol.specs.Folds.{every}
 use Rattle.protocol.specs.CartSets.{has, union}
-use Rattle.protocol.specs.Floor.{Floor, Limits, Record, ack_list, at, delete, deregister, is_held, just_started, multicast, register}
+use Rattle.protocol.specs.Floor.{Floor, Limits, Record, ack_list, delete, deregister, is_held, just_started, multicast, register}
 use Rattle.protocol.specs.Events.{Done, Event}
 use Rattle.protocol.specs.Groups.{on_group}
 use Rattle.protocol.specs.Handoff.{arrive, entry_of, on_enter, on_flag, on_move, on_register, on_retire, room_of, struck}

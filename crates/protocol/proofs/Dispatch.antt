@@ -8,7 +8,7 @@ use lib.Dec.{eqb}
 use borrow.Author.Tests.{eq-eqb, eqb-true, ne_eqb}
 use Rattle.protocol.specs.Folds.{by_option}
 use Rattle.protocol.specs.CartSets.{has, union}
-use Rattle.protocol.specs.Floor.{Floor, Limits, Record, ack_list, at, behead, delete, deregister, most_text, multicast, register}
+use Rattle.protocol.specs.Floor.{Floor, Limits, Record, ack_list, behead, delete, deregister, most_text, multicast, register}
 use Rattle.protocol.specs.Events.{Done, radio}
 use Rattle.protocol.specs.Handoff.{entry_of, on_register, room_of, row_of, struck}
 use Rattle.protocol.specs.Deregister.{leave, on_deregister}

@@ -9,7 +9,7 @@ use lib.ListN.{get_or, take}
 use borrow.Author.Tests.{ltb-false, ltb-true}
 use Rattle.protocol.specs.Folds.{by_option, list_of}
 use Rattle.protocol.specs.CartSets.{has}
-use Rattle.protocol.specs.Floor.{Floor, Limits, Record, ack_list, at, delete, deregister, entered, multicast, on_the_lines, outside, register}
+use Rattle.protocol.specs.Floor.{Floor, Limits, Record, ack_list, delete, deregister, entered, multicast, on_the_lines, outside, register}
 use Rattle.protocol.specs.Events.{Event}
 use Rattle.protocol.specs.Groups.{as_sent}
 use Rattle.protocol.specs.Handoff.{room_of, row_of}

@@ -20,10 +20,8 @@ use Rattle.protocol.proofs.FloorLaws.{outside_is}
 use Rattle.protocol.proofs.Invariant.{Held, Holds}
 use Rattle.protocol.proofs.Updates.{all_map, counts_up_le}
 use Rattle.protocol.proofs.CatchUp.{room_some}
-use Rattle.protocol.proofs.SendStep.{E}
 use Rattle.protocol.proofs.Counting.{OnLines, all_map2, count_none, count_lines_none}
 use Rattle.protocol.proofs.LineFacts.{HeldRecord, LineFacts, Reach, is_handoff_of}
-use Rattle.protocol.proofs.RecordBound.{room}
 use Rattle.protocol.proofs.FormFacts.{FormFacts, room_of_held}
 use Rattle.protocol.proofs.ClaimLaws.{reflect}
 use Rattle.protocol.proofs.Sized.{AcksFit, OnFloor, Sized}

@@ -1,7 +1,6 @@
 -- Enter, register, the hand-off of a deregister, and move.
 use mathlib.Core.Path.{◌≡◌, ap, fun_ext, refl, subst, sym, ◌∙◌}
 use mathlib.Core.Bool.{◌&&◌, cond, false, not, true}
-use mathlib.Core.Option.{none}
 use mathlib.Core.List.{List, [], ◌∷◌}
 use Prim.Native.Nat.{◌<◌, ℕ, ◌≤◌}
 use native.Mathlib.Omega.{arith}

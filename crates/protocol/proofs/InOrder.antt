@@ -14,7 +14,6 @@ use Rattle.protocol.specs.Handoff.{row_of}
 use Rattle.protocol.specs.Wireless.{all_acked, send_acks, stands_before}
 use Rattle.protocol.specs.Deregister.{buffered_rooms, in_order, insert, is_complete, leave, lists_sent, on_deregister, test_each, times_in}
 use Rattle.protocol.proofs.Tests.{and-false, and-true, both_equal, by_eq, by_lt, by_test, eqb_self, on_cond, or_swap}
-use Rattle.protocol.proofs.Readings
 
 -- LISTS OF ROOMS
 

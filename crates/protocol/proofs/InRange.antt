@@ -1,5 +1,4 @@
 use mathlib.Core.Path.{refl, ◌≡◌}
-use mathlib.Core.Option.{some}
 use mathlib.Core.List.{List}
 use Prim.Native.Nat.{◌*◌, ◌-◌, ◌<◌, max, suc, ℕ, ◌≤◌}
 use native.Mathlib.Nat.{mul-le-mul_right}
@@ -7,12 +6,12 @@ use native.Mathlib.Omega.{arith}
 use lib.Dec.{eqb}
 use borrow.Author.Tests.{ne_eqb}
 use Rattle.protocol.specs.CartSets.{union}
-use Rattle.protocol.specs.Floor.{Floor, Limits, Record, ack_list, at, delete, deregister, multicast, register}
+use Rattle.protocol.specs.Floor.{Floor, Limits, Record, ack_list, delete, deregister, multicast, register}
 use Rattle.protocol.specs.Events.{Answer, Done, Event, accepted, refused}
 use Rattle.protocol.specs.Groups.{on_group}
 use Rattle.protocol.specs.Handoff.{entry_of, on_enter, on_flag, on_move, on_register, on_retire, passed_over, room_of}
 use Rattle.protocol.specs.Deregister.{on_deregister}
-use Rattle.protocol.specs.Wired.{buffer, handle, local_row, multicast_by_row, on_ack_list, on_delete, on_multicast, passes_over}
+use Rattle.protocol.specs.Wired.{handle, local_row, multicast_by_row, on_ack_list, on_delete, on_multicast, passes_over}
 use Rattle.protocol.specs.Wireless.{all_acked, hand_over, receive, send_acks, send_acks_if_all}
 use Rattle.protocol.specs.Form.{multicast_numbers}
 use Rattle.protocol.specs.Step.{answer}

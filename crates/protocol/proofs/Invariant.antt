@@ -1,7 +1,6 @@
 -- The history of a run (its accepted sends and receipts), and the invariant between a floor and its history that carries the two-list rule.
 use mathlib.Core.Path.{◌≡◌}
 use mathlib.Core.Bool.{Bool, cond, false, true}
-use mathlib.Core.Option.{some}
 use mathlib.Core.List.{List, [], ◌∷◌}
 use Prim.Native.Nat.{◌<◌, suc, ℕ, ◌≤◌}
 use lib.Dec.{eqb}
@@ -12,7 +11,6 @@ use Rattle.protocol.specs.Handoff.{row_of}
 use Rattle.protocol.specs.Claims.{All, True}
 use Rattle.protocol.specs.Form.{counts_up, handoff_of, handoffs, multicast_numbers}
 use Rattle.protocol.specs.TwoLists.{Item}
-use Rattle.protocol.proofs.Readings
 
 -- an accepted send: its set and its text
 pub record Entry : Type 0 where

@@ -1,7 +1,6 @@
 -- What keeps the lines short: every record is of a held message or of a cart on its way, and no two say the same.
 use mathlib.Core.Path.{refl, sym, ◌≡◌}
 use mathlib.Core.Bool.{Bool, false, true}
-use mathlib.Core.Option.{none}
 use mathlib.Core.List.{◌++◌, List, [], ◌∷◌}
 use Prim.Native.Nat.{◌<◌, suc, ℕ, ◌≤◌}
 use native.Mathlib.Omega.{arith}

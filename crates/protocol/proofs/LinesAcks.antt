@@ -1,7 +1,7 @@
 -- The records on the lines after an ack list and a delete.
 use mathlib.Core.Path.{ap, refl, sym, ◌∙◌, ◌≡◌}
 use mathlib.Core.Bool.{◌&&◌, Bool, false, not, true, ◌||◌}
-use mathlib.Core.Option.{none, some}
+use mathlib.Core.Option.{some}
 use mathlib.Core.List.{List, [], ◌∷◌}
 use Prim.Native.Nat.{◌+◌, ◌<◌, ℕ, ◌≤◌}
 use native.Mathlib.Omega.{arith}
@@ -9,7 +9,7 @@ use lib.Dec.{eqb, ltb}
 use borrow.Author.Tests.{eq-eqb, eqb-false, eqb-true, ne_eqb}
 use Rattle.protocol.specs.Folds.{update}
 use Rattle.protocol.specs.CartSets.{has, union, without}
-use Rattle.protocol.specs.Floor.{Floor, Limits, Record, ack_list, at, behead, delete, deregister, multicast, on_lines, push, put, register, set_waiting, to_every, set_texts}
+use Rattle.protocol.specs.Floor.{Floor, Limits, Record, ack_list, behead, delete, deregister, multicast, on_lines, push, put, register, set_waiting, to_every, set_texts}
 use Rattle.protocol.specs.Events.{Done}
 use Rattle.protocol.specs.Handoff.{room_of}
 use Rattle.protocol.specs.Wired.{add_acks, on_ack_list, on_delete, unbuffer}

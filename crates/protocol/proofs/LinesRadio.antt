@@ -8,7 +8,7 @@ use lib.Dec.{eqb, ltb}
 use borrow.Author.Tests.{eqb-false, eqb-true, ltb-false, ltb-true, ne_eqb}
 use Rattle.protocol.specs.Folds.{count, update2}
 use Rattle.protocol.specs.CartSets.{has, with}
-use Rattle.protocol.specs.Floor.{Floor, Limits, Record, ack_list, at, behead, between, delete, deregister, multicast, on_lines, put, register}
+use Rattle.protocol.specs.Floor.{Floor, Limits, Record, ack_list, behead, between, delete, deregister, multicast, on_lines, put, register}
 use Rattle.protocol.specs.Events.{Done}
 use Rattle.protocol.specs.Handoff.{room_of, row_of}
 use Rattle.protocol.specs.Deregister.{leave, on_deregister}

@@ -2,7 +2,6 @@
 -- acknowledgement is not lost, an ack list waits for somebody, and deletes are on their way.
 use mathlib.Core.Path.{ap, refl, sym, ◌∙◌, ◌≡◌}
 use mathlib.Core.Bool.{◌&&◌, Bool, cond, false, not, true, ◌||◌}
-use mathlib.Core.Option.{some}
 use mathlib.Core.List.{List, [], ◌∷◌}
 use Prim.Native.Nat.{◌<◌, ℕ, ◌≤◌}
 use native.Mathlib.Omega.{arith}

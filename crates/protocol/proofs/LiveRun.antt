@@ -1,7 +1,6 @@
 -- A floor that was reached from a start and is quiet holds no message, and so the two lists are equal.
 use mathlib.Core.Path.{ap, refl, subst, sym, ◌∙◌, ◌≡◌}
 use mathlib.Core.Bool.{false, not, true}
-use mathlib.Core.Option.{some}
 use mathlib.Core.List.{◌++◌, List, [], ◌∷◌}
 use Prim.Native.Nat.{◌<◌, ℕ, ◌≤◌}
 use native.Mathlib.Omega.{arith}

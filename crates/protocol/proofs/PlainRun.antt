@@ -11,7 +11,7 @@ use lib.ListN.{drop, get_or, length, length-append, take, take-append-drop}
 use borrow.Author.Tests.{eq-eqb, le-leb, le-ltb, leb-true, lt-leb, ne_eqb}
 use Rattle.protocol.specs.Folds.{count, sum, update2}
 use Rattle.protocol.specs.CartSets.{has}
-use Rattle.protocol.specs.Floor.{Floor, Limits, at, is_held, just_started, most_text}
+use Rattle.protocol.specs.Floor.{Floor, Limits, is_held, just_started, most_text}
 use Rattle.protocol.specs.Events.{Answer, Event, Report, accepted, enter, flag, group, move, radio, refused, retire, send, send_group, send_long, start, wire}
 use Rattle.protocol.specs.Groups.{as_sent, on_group}
 use Rattle.protocol.specs.Handoff.{on_enter, on_flag, on_move, on_retire}

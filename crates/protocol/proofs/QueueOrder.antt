@@ -7,7 +7,7 @@ use native.Mathlib.Omega.{arith}
 use lib.Dec.{eqb, ltb}
 use lib.ListN.{get_or, length}
 use borrow.Author.Tests.{eq-eqb, eqb-true, le-ltb, lt-ltb, ltb-false, ltb-true}
-use Rattle.protocol.specs.Floor.{Floor, Limits, at, is_buffered}
+use Rattle.protocol.specs.Floor.{Floor, Limits, is_buffered}
 use Rattle.protocol.specs.Wireless.{head_among, head_with, queue_head, stands_before}
 use Rattle.protocol.specs.Deregister.{buffered_rooms, in_order, insert, is_complete, leave}
 use Rattle.protocol.proofs.Tests.{and_intro, and_left, and_right, by_eq, by_lt, by_test, clash, on_cond, or_cases, or-false}

@@ -1,7 +1,6 @@
 -- The reading call gives the text of a held message, as it was sent and as it is handed over.
 use mathlib.Core.Path.{◌≡◌}
 use mathlib.Core.Bool.{false, true}
-use mathlib.Core.Option.{some}
 use mathlib.Core.List.{List, []}
 use Prim.Native.Nat.{◌<◌, ℕ}
 use native.Mathlib.Omega.{arith}
@@ -9,7 +8,7 @@ use lib.Dec.{eqb}
 use borrow.Author.Tests.{eqb-true, lt-leb, ne_eqb}
 use Rattle.protocol.specs.Folds.{update}
 use Rattle.protocol.specs.CartSets.{has, set_of}
-use Rattle.protocol.specs.Floor.{Floor, Limits, at, is_message}
+use Rattle.protocol.specs.Floor.{Floor, Limits, is_message}
 use Rattle.protocol.specs.Events.{Answer, Event, accepted, enter, flag, group, move, radio, refused, retire, send, wire}
 use Rattle.protocol.specs.Groups.{as_sent}
 use Rattle.protocol.specs.Handoff.{room_of}

@@ -10,7 +10,7 @@ use lib.ListN.{length}
 use borrow.Author.Tests.{eqb-false, eqb-true, le-ltb, lt-leb, lt-ltb, ne_eqb, not-true}
 use Rattle.protocol.specs.Folds.{every, is_empty, is_none, sum, update}
 use Rattle.protocol.specs.CartSets.{has, union, without}
-use Rattle.protocol.specs.Floor.{Floor, Limits, Place, ack_list, at, entered, is_at, is_held, is_local, moving, outside, register, set_groups, set_next, set_place, set_texts}
+use Rattle.protocol.specs.Floor.{Floor, Limits, Place, ack_list, entered, is_at, is_held, is_local, moving, outside, register, set_groups, set_next, set_place, set_texts}
 use Rattle.protocol.specs.Events.{Answer, Done, accepted, enter, flag, group, radio, refused, retire, send, send_group, send_long, start}
 use Rattle.protocol.specs.Groups.{on_group}
 use Rattle.protocol.specs.Store.{not_long, store_used, stored_of}

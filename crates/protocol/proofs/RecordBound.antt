@@ -1,7 +1,6 @@
 -- The record bound: held × (stations + stations + carts) + carts.
 use mathlib.Core.Path.{ap, refl, sym, ◌∙◌, ◌≡◌}
 use mathlib.Core.Bool.{◌&&◌, Bool, false, not, true}
-use mathlib.Core.Option.{some}
 use mathlib.Core.List.{List, [], ◌∷◌}
 use Prim.Native.Nat.{◌*◌, ◌+◌, ◌<◌, suc, ℕ, ◌≤◌}
 use native.Mathlib.Omega.{arith}

@@ -1,7 +1,6 @@
 -- Send.
 use mathlib.Core.Path.{refl, sym, ◌∙◌, ◌≡◌}
 use mathlib.Core.Bool.{◌&&◌, cond, false, true}
-use mathlib.Core.Option.{some}
 use mathlib.Core.List.{◌++◌, List, [], ◌∷◌}
 use Prim.Native.Nat.{◌<◌, suc, ℕ, ◌≤◌}
 use native.Mathlib.Omega.{arith}
@@ -11,7 +10,7 @@ use lib.Seq.{get_or-append_seam, take-append-le}
 use borrow.Author.Tests.{eqb-false, eqb-true, lt-ltb, ltb-false, ltb-true, ne_eqb}
 use Rattle.protocol.specs.Folds.{update}
 use Rattle.protocol.specs.CartSets.{has, set_of}
-use Rattle.protocol.specs.Floor.{Floor, Limits, Record, ack_list, at, delete, deregister, multicast, put, register, to_every}
+use Rattle.protocol.specs.Floor.{Floor, Limits, Record, ack_list, delete, deregister, multicast, put, register, to_every}
 use Rattle.protocol.specs.Handoff.{row_of}
 use Rattle.protocol.specs.Wired.{with_message}
 use Rattle.protocol.specs.Claims.{All}

@@ -11,8 +11,6 @@ use lib.Bits.{and_le_l, and_le_r, and_shr, and_step, bit_and, bit_or, bit_xor, d
 use borrow.Author.Tests.{eq-eqb, eqb-false, eqb-true, ne_eqb, not-false, not-true}
 use Rattle.protocol.specs.Folds.{every}
 use Rattle.protocol.specs.CartSets.{digit, has, minus, set_of, union, with, without}
-use Rattle.protocol.specs.Floor.{at}
-use Rattle.protocol.specs.Step.{step}
 use Rattle.protocol.proofs.Tests.{and-true, by_eq, by_lt, by_test, clash, eqb_self, every_at, every_fails, or_none, or_right}
 
 -- DIGITS

@@ -26,7 +26,7 @@ use Rattle.protocol.proofs.SetLaws.{has_without, has_zero, member_below, minus_l
 use Rattle.protocol.proofs.FloorLaws.{on_put}
 use Rattle.protocol.proofs.InOrder.{EachOf, completed, deregister_splits, each_map, handed_off, send_each_is, send_each}
 use Rattle.protocol.proofs.Accepted.{MayGroup, MayMove, MayRadio, MaySend, MayWire, by_step, named_has_entered, unlined}
-use Rattle.protocol.proofs.Invariant.{History, Invariant, blank, spoken}
+use Rattle.protocol.proofs.Invariant.{History, Invariant, spoken}
 use Rattle.protocol.proofs.Updates.{all_append}
 use Rattle.protocol.proofs.CatchUp.{arrive_at_once, catch_up_at_once, docked, found_is, one_at_once}
 use Rattle.protocol.proofs.HandoffSteps.{registering_is}

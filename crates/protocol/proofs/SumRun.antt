@@ -8,7 +8,7 @@ use lib.Dec.{eqb}
 use borrow.Author.Tests.{ne_eqb}
 use Rattle.protocol.specs.Folds.{sum}
 use Rattle.protocol.specs.CartSets.{union}
-use Rattle.protocol.specs.Floor.{Floor, Limits, Record, ack_list, at, delete, deregister, just_started, multicast, register}
+use Rattle.protocol.specs.Floor.{Floor, Limits, Record, ack_list, delete, deregister, just_started, multicast, register}
 use Rattle.protocol.specs.Events.{Done, Event, accepted, enter, flag, group, move, radio, refused, retire, send, send_group, send_long, start, wire}
 use Rattle.protocol.specs.Groups.{as_sent, on_group}
 use Rattle.protocol.specs.Handoff.{entry_of, on_enter, on_flag, on_move, on_register, on_retire, room_of, row_of}

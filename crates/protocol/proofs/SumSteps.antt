@@ -6,7 +6,7 @@ use native.Mathlib.Omega.{arith}
 use lib.Dec.{eqb, ltb}
 use borrow.Author.Tests.{eqb-false, eqb-true, lt-ltb, ne_eqb}
 use Rattle.protocol.specs.Folds.{count, sum, update2}
-use Rattle.protocol.specs.CartSets.{has, without}
+use Rattle.protocol.specs.CartSets.{has}
 use Rattle.protocol.specs.Floor.{Floor, Limits, is_buffered, is_held}
 use Rattle.protocol.specs.Handoff.{arrive, catch_up_stop, passed_over, struck, with_row}
 use Rattle.protocol.specs.Wired.{buffer, passes_over}

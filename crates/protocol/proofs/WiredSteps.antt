@@ -10,7 +10,7 @@ use lib.ListN.{get_or, length}
 use borrow.Author.Tests.{eqb-false, eqb-true, ltb-true, ne_eqb, not-true}
 use Rattle.protocol.specs.Folds.{update, update2}
 use Rattle.protocol.specs.CartSets.{has, minus, union, without}
-use Rattle.protocol.specs.Floor.{Floor, Limits, Record, at, behead, carts_that, delete, is_local, multicast, on_lines, set_copy, set_expected, set_waiting, to_every, set_texts}
+use Rattle.protocol.specs.Floor.{Floor, Limits, Record, behead, carts_that, delete, is_local, multicast, on_lines, set_copy, set_expected, set_waiting, to_every, set_texts}
 use Rattle.protocol.specs.Events.{Done}
 use Rattle.protocol.specs.Handoff.{room_of}
 use Rattle.protocol.specs.Wired.{add_acks, buffer, is_queued, is_struck, local_row, multicast_by_row, on_ack_list, on_delete, on_multicast, passes_over, raise_expected, unbuffer}

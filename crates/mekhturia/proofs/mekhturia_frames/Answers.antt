@@ -24,9 +24,8 @@ put_progress-requires c =
     let enough = words_enough a.product a.out.now 0 answered refl in omega (arith, enough)
 
 pub returns : goal.returns
-returns c =
-    (
-      sym c.if-status-ne-ANSWERED.false ∙ c.frames_status-status.ensures,
-      λ _. record { progress = c.take_frames-progress.result; ran = c.take_frames-progress.ensures _ c.bounds_of-bounds.ensures.1; words = c.put_progress.ensures.out_after },
-      λ other. absurd (other refl),
-    )
+returns c = (
+  sym c.if-status-ne-ANSWERED.false ∙ c.frames_status-status.ensures,
+  λ _. record { progress = c.take_frames-progress.result; ran = c.take_frames-progress.ensures _ c.bounds_of-bounds.ensures.1; words = c.put_progress.ensures.out_after },
+  λ other. absurd (other refl),
+)
