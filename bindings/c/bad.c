@@ -1,11 +1,10 @@
 /* What must not go wrong: too few words for an answer, a product that is none, lent memory of the wrong size, a floor whose words are damaged. Each must
- * be answered, and nothing be written half. The calls over a floor or kit answer what these do (over.h). The last line is `N passed, N failed`.
+ * be answered, and nothing be written half. The last line is `N passed, N failed`.
  *
  *   bad                makes the checks
  *   bad wrong-size     lends a part that is one word short, as a program might, and says so: the exit status is 1
  */
 #include "checks.h"
-#include "over.h"
 
 static uint8_t buffer[MEKHTURIA_LONG_TEXT];
 static const uint8_t text[40] = {1};
@@ -64,8 +63,8 @@ static void statuses(void) {
 
 /* An event and a start on parts of which one has the wrong length: 5, and the header's function says which part. */
 static void wrong_part(lab l, const char *says) {
-    holds(mekhturia_enter(LEND(&l), 1, 1, answer, 8) == MEKHTURIA_ANSWERED && answer[MEKHTURIA_REFUSAL] == MEKHTURIA_REFUSED_NO_FLOOR, says);
-    holds(mekhturia_start(LEND(&l), 2, 2, answer, 8) == MEKHTURIA_ANSWERED && answer[MEKHTURIA_REFUSAL] == MEKHTURIA_REFUSED_NO_FLOOR, says);
+    holds(mekhturia_enter(LEND(&l), 1, 1, answer, 8) == MEKHTURIA_ANSWERED && answer[MEKHTURIA_REFUSAL] == MEKHTURIA_REFUSED_FLOOR, says);
+    holds(mekhturia_start(LEND(&l), 2, 2, answer, 8) == MEKHTURIA_ANSWERED && answer[MEKHTURIA_REFUSAL] == MEKHTURIA_REFUSED_FLOOR, says);
     const char *said = mekhturia_wrong_part(LEND(&l));
     holds(said != NULL && strcmp(said, says) == 0, says);
 }
@@ -99,10 +98,10 @@ static void damaged(void) {
     const lab l = busy();
     floor_memory.stations[1] = 99; /* how many stations there are */
     remember();
-    mekhturia_start(LEND(&l), 2, 2, answer, 8), holds(answer[MEKHTURIA_REFUSAL] == MEKHTURIA_REFUSED_ALREADY_STARTED, "a start on a damaged floor");
-    mekhturia_enter(LEND(&l), 0, 1, answer, 8), holds(answer[MEKHTURIA_REFUSAL] == MEKHTURIA_REFUSED_NO_FLOOR, "an enter on a damaged floor");
-    mekhturia_quiet(LEND(&l), buffer, sizeof buffer, answer, 8), holds(answer[MEKHTURIA_REFUSAL] == MEKHTURIA_REFUSED_NO_FLOOR, "quiet on a damaged floor");
-    mekhturia_text(LEND(&l), 0, 0, answer, 8), holds(answer[MEKHTURIA_REFUSAL] == MEKHTURIA_REFUSED_NO_FLOOR, "a reading call on a damaged floor");
+    mekhturia_start(LEND(&l), 2, 2, answer, 8), holds(answer[MEKHTURIA_REFUSAL] == MEKHTURIA_REFUSED_STARTED, "a start on a damaged floor");
+    mekhturia_enter(LEND(&l), 0, 1, answer, 8), holds(answer[MEKHTURIA_REFUSAL] == MEKHTURIA_REFUSED_FLOOR, "an enter on a damaged floor");
+    mekhturia_quiet(LEND(&l), buffer, sizeof buffer, answer, 8), holds(answer[MEKHTURIA_REFUSAL] == MEKHTURIA_REFUSED_FLOOR, "quiet on a damaged floor");
+    mekhturia_text(LEND(&l), 0, 0, answer, 8), holds(answer[MEKHTURIA_REFUSAL] == MEKHTURIA_REFUSED_FLOOR, "a reading call on a damaged floor");
     holds(untouched(), "a damaged floor stays as it is");
 }
 
@@ -119,12 +118,12 @@ static void texts(void) {
     holds(answer[MEKHTURIA_REFUSAL] == 0 && answer[MEKHTURIA_TEXT_STORED] == 1 && answer[MEKHTURIA_TEXT_OCTETS] == 33, "where a long text lies");
     holds(memcmp(floor_memory.store + answer[MEKHTURIA_TEXT_AT], table, sizeof table) == 0, "the long text");
     mekhturia_text(LEND(&l), 0, 9, answer, 8), holds(answer[MEKHTURIA_REFUSAL] == MEKHTURIA_REFUSED_NOT_HELD, "a message that is not held");
-    mekhturia_retire(LEND(&l), 0, answer, 8), holds(answer[MEKHTURIA_REFUSAL] == MEKHTURIA_REFUSED_STILL_NAMED, "a cart that a held message names");
-    mekhturia_quiet(LEND(&l), buffer, 511, answer, 8), holds(answer[MEKHTURIA_REFUSAL] == MEKHTURIA_REFUSED_SHORT_BUFFER, "quiet with 511 octets");
+    mekhturia_retire(LEND(&l), 0, answer, 8), holds(answer[MEKHTURIA_REFUSAL] == MEKHTURIA_REFUSED_NAMED, "a cart that a held message names");
+    mekhturia_quiet(LEND(&l), buffer, 511, answer, 8), holds(answer[MEKHTURIA_REFUSAL] == MEKHTURIA_REFUSED_BUFFER, "quiet with 511 octets");
     mekhturia_quiet(LEND(&l), buffer, 512, answer, 8), holds(answer[MEKHTURIA_REFUSAL] == 0 && answer[MEKHTURIA_QUIET_STEPS] > 0, "quiet");
     mekhturia_text(LEND(&l), 0, 0, answer, 8), holds(answer[MEKHTURIA_REFUSAL] == MEKHTURIA_REFUSED_NOT_HELD, "nothing is held when all is quiet");
     mekhturia_retire(LEND(&l), 0, answer, 8), holds(answer[MEKHTURIA_REFUSAL] == 0 && answer[MEKHTURIA_KIND] == MEKHTURIA_KIND_RETIRE, "retire");
-    mekhturia_move(LEND(&l), 0, 1, answer, 8), holds(answer[MEKHTURIA_REFUSAL] == MEKHTURIA_REFUSED_NOT_ENTERED, "a retired cart is not on the floor");
+    mekhturia_move(LEND(&l), 0, 1, answer, 8), holds(answer[MEKHTURIA_REFUSAL] == MEKHTURIA_REFUSED_OUTSIDE, "a retired cart is not on the floor");
 }
 
 /* What a program can say that has lent memory of the wrong size. */
@@ -145,6 +144,5 @@ int main(int count, char **args) {
     wrong_lengths();
     damaged();
     texts();
-    over_floor_and_kit();
     return result();
 }

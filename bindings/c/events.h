@@ -33,18 +33,18 @@ static uint64_t unlisted(const frame *f) {
 
 /* The frame at the front of these octets: 0, or its refusal. */
 static int take_apart(const uint8_t *octets, size_t have, frame *f) {
-    if (have < MEKHTURIA_FRAME) return MEKHTURIA_REFUSED_CUT_FRAME;
+    if (have < MEKHTURIA_FRAME) return MEKHTURIA_REFUSED_CUT;
     const uint64_t head = big_endian(octets);
     *f = (frame){head >> 60, head >> 56 & 15, head >> 50 & 63, head >> 46 & 15, head >> 40 & 63, head & 0xFFFFFFFFFF, big_endian(octets + 8), octets + 16};
-    if (f->kind > MEKHTURIA_KIND_RETIRE) return MEKHTURIA_REFUSED_UNKNOWN_KIND;
-    if (unlisted(f) != 0) return MEKHTURIA_REFUSED_STRAY_FIELD;
+    if (f->kind > MEKHTURIA_KIND_RETIRE) return MEKHTURIA_REFUSED_KIND;
+    if (unlisted(f) != 0) return MEKHTURIA_REFUSED_FIELD;
     if (f->kind == MEKHTURIA_KIND_SEND_LONG) {
         f->length = f->zero;
-        if (f->length <= MEKHTURIA_TEXT || f->length > MEKHTURIA_LONG_TEXT) return MEKHTURIA_REFUSED_TEXT_LENGTH;
+        if (f->length <= MEKHTURIA_TEXT || f->length > MEKHTURIA_LONG_TEXT) return MEKHTURIA_REFUSED_TEXT;
     } else if (f->length > MEKHTURIA_TEXT) {
-        return MEKHTURIA_REFUSED_TEXT_LENGTH;
+        return MEKHTURIA_REFUSED_TEXT;
     }
-    return have - MEKHTURIA_FRAME < f->length ? MEKHTURIA_REFUSED_CUT_FRAME : 0;
+    return have - MEKHTURIA_FRAME < f->length ? MEKHTURIA_REFUSED_CUT : 0;
 }
 
 /* The frame's event, by its call: its status. */

@@ -19,7 +19,6 @@ mod stored;
 mod timing;
 mod trials;
 
-use shared::output::remark;
 use std::process::ExitCode;
 
 const USAGE: &str = "events trials SECONDS [SEED] | events time [steps]";
@@ -42,7 +41,7 @@ fn main() -> ExitCode {
     match done {
         Ok(()) => ExitCode::SUCCESS,
         Err(message) => {
-            remark(message);
+            eprintln!("{message}");
             ExitCode::FAILURE
         }
     }

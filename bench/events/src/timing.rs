@@ -10,8 +10,6 @@ use plain::words::Words;
 use plain::{Floor, StationNo};
 use shared::numbers::Numbers;
 use shared::progress::Progress;
-use shared::say;
-use shared::wanted::rounds;
 use std::hint::black_box;
 use std::time::Instant;
 
@@ -273,9 +271,8 @@ fn in_turns(base: &Floor, batches: &[Batch], afresh: bool, steps_alone: bool) ->
     let (mut step, mut whole, mut plain, mut behind) = first.clone();
     let mut least = vec![Least::NONE; batches.len()];
     let mut progress = Progress::new("time");
-    let rounds = rounds(ROUNDS);
-    for round in 0..rounds {
-        progress.of(round, rounds, "rounds");
+    for round in 0..ROUNDS {
+        progress.of(round, ROUNDS, "rounds");
         if afresh {
             (step, whole, plain, behind) = first.clone();
         }
@@ -305,7 +302,7 @@ fn print(batches: &[Batch], least: &[Least]) {
         let (step, plain) = (mean(|l| l.step), mean(|l| l.plain));
         let (behind, whole) = (mean(|l| l.behind), mean(|l| l.whole));
         let whole = if whole < f64::MAX { format!("{whole:8.1} ns") } else { "-".into() };
-        say!(
+        println!(
             "{name:<17} {step:8.2} {plain:8.2} {:8.2} {behind:12.2} {:8.2}   {whole}",
             plain / step,
             behind / step
@@ -318,12 +315,12 @@ fn start() {
     let base = Whole(settled().words(|k| k));
     let mut least = f64::MAX;
     let mut whole = base.clone();
-    for _ in 0..rounds(ROUNDS) {
+    for _ in 0..ROUNDS {
         whole.clone_from(&base);
         whole.0.stations[0] = 0;
         least = nanoseconds(&mut whole, &[Event::Start(16, 64)]).min(least);
     }
-    say!("start: whole event {least:.1} ns, all written afresh");
+    println!("start: whole event {least:.1} ns, all written afresh");
 }
 
 /// Fills a floor and runs it until it is quiet: the nanoseconds for each of the steps.
@@ -347,9 +344,8 @@ fn quiet() {
     let (mut proved, mut plain) = (StepOnly(base.words(|k| k)), Plain(Box::new(base)));
     let (mut least, mut ratios) = ([f64::MAX; 2], vec![]);
     let mut progress = Progress::new("quiet");
-    let rounds = rounds(ROUNDS);
-    for round in 0..rounds as u64 {
-        progress.of(round as usize, rounds, "rounds");
+    for round in 0..ROUNDS as u64 {
+        progress.of(round as usize, ROUNDS, "rounds");
         let mut fill = vec![Event::Send(0, u64::MAX, vec![0x71]); 32];
         fill.extend(moves(round % 2));
         let (ours, theirs) = (until_quiet(&mut proved, &fill), until_quiet(&mut plain, &fill));
@@ -359,27 +355,22 @@ fn quiet() {
     drop(progress);
     assert_eq!(proved.floor().difference(&plain.floor()), None, "the floors differ");
     ratios.sort_by(f64::total_cmp);
-    say!(
+    println!(
         "quiet: {STEPS} steps; for each {:.2} ns, plain {:.2}, ratio {:.2}, in the median of all rounds {:.2}",
         least[0],
         least[1],
         least[1] / least[0],
-        ratios[rounds / 2]
+        ratios[ROUNDS / 2]
     );
 }
 
 /// Prints the times; for a profile of the steps, without those of the whole events.
 pub fn run(steps_alone: bool) -> Result<(), String> {
-    say!("16 stations, 64 carts; the least of {} rounds, for one event", rounds(ROUNDS));
+    println!("16 stations, 64 carts; the least of {ROUNDS} rounds, for one event");
     start();
-    say!(
+    println!(
         "{:<17} {:>8} {:>8} {:>8} {:>12} {:>8}   whole event",
-        "nanoseconds",
-        "step",
-        "plain",
-        "ratio",
-        "same call",
-        "ratio"
+        "nanoseconds", "step", "plain", "ratio", "same call", "ratio"
     );
     let (floor, batches) = entries();
     print(&batches, &in_turns(&floor, &batches, true, steps_alone));

@@ -11,7 +11,6 @@ use shared::numbers::Numbers;
 use shared::places::{in_order, scattered};
 use shared::progress::Progress;
 use shared::rule::Fault;
-use shared::say;
 use std::collections::BTreeMap;
 use std::time::{Duration, Instant};
 
@@ -162,24 +161,24 @@ fn trial(seed: u64, base: &Words, w: &mut Words, counts: &mut Counts) -> Result<
 }
 
 fn report(counts: &Counts, trials: u64) {
-    say!("{trials} trials, {} events: no difference", counts.events);
-    say!("damage, and how many floors then broke the form rule, passed it unchanged, passed it as another floor:");
+    println!("{trials} trials, {} events: no difference", counts.events);
+    println!("damage, and how many floors then broke the form rule, passed it unchanged, passed it as another floor:");
     for (what, [broke, same, other]) in &counts.passed {
-        say!("  {what:<22} {broke:>9} {same:>9} {other:>9}");
+        println!("  {what:<22} {broke:>9} {same:>9} {other:>9}");
     }
-    say!("events by kind: accepted, then each refusal with how often it was the answer");
+    println!("events by kind: accepted, then each refusal with how often it was the answer");
     for (kind, name) in KINDS.iter().enumerate() {
         let of = |r: u64| counts.answers.get(&(kind, r)).copied().unwrap_or(0);
         let refusals: Vec<String> =
             (1..=29).filter(|&r| of(r) > 0).map(|r| format!("{r}: {}", of(r))).collect();
-        say!("  {name:<13} {:>9}   {}", of(0), refusals.join(", "));
+        println!("  {name:<13} {:>9}   {}", of(0), refusals.join(", "));
     }
-    say!("reading calls by their number: {:?}", counts.reads);
-    say!("most steps until a floor was quiet: {}", counts.most_steps);
+    println!("reading calls by their number: {:?}", counts.reads);
+    println!("most steps until a floor was quiet: {}", counts.most_steps);
     let met = |r: u64| counts.answers.keys().any(|&(_, s)| s == r);
     let missing: Vec<u64> = (4..22).chain(24..28).chain([29]).filter(|&r| !met(r)).collect();
-    say!("refusals 4 to 21, 24 to 27 and 29 that never occurred: {missing:?}");
-    say!("clauses of the form rule found broken: {:?}", counts.faults);
+    println!("refusals 4 to 21, 24 to 27 and 29 that never occurred: {missing:?}");
+    println!("clauses of the form rule found broken: {:?}", counts.faults);
 }
 
 /// So many seconds of trials from a seed.

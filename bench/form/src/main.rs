@@ -6,11 +6,9 @@ mod proved;
 
 use plain::words::Words;
 use shared::numbers::Numbers;
-use shared::output::remark;
 use shared::places::{in_order, scattered};
 use shared::progress::Progress;
-use shared::wanted::{rounds, time_alone};
-use shared::{floors, rule, say};
+use shared::{floors, rule};
 use std::collections::BTreeMap;
 use std::hint::black_box;
 use std::process::ExitCode;
@@ -55,9 +53,9 @@ fn compare_all(bases: &[Words], damaged: usize) -> Result<(), String> {
         }
     }
     drop(progress);
-    say!("{} floors that events reach: both pass each", bases.len());
-    say!("{} damaged floors: the answers are the same, {passed} pass", bases.len() * damaged);
-    say!("clauses that plain Rust found broken: {broken:?}");
+    println!("{} floors that events reach: both pass each", bases.len());
+    println!("{} damaged floors: the answers are the same, {passed} pass", bases.len() * damaged);
+    println!("clauses that plain Rust found broken: {broken:?}");
     Ok(())
 }
 
@@ -78,14 +76,13 @@ fn measure(name: &str, w: &Words) {
         })
     };
     let mut progress = Progress::new("form");
-    let rounds = rounds(ROUNDS);
-    for round in 0..rounds {
-        progress.of(round, rounds, "rounds");
+    for round in 0..ROUNDS {
+        progress.of(round, ROUNDS, "rounds");
         least.0 = run(proved::passes).min(least.0);
         least.1 = run(rule::passes).min(least.1);
     }
     drop(progress);
-    say!(
+    println!(
         "{name:<36} proved {:7.2} us   plain {:7.2} us   speed proved/plain {:.2}",
         least.0 / 1e3,
         least.1 / 1e3,
@@ -94,18 +91,14 @@ fn measure(name: &str, w: &Words) {
 }
 
 fn main() -> ExitCode {
-    if let Some(held) = time_alone() {
-        measure(&format!("{held} held"), &floors::few(held).words(scattered));
-        return ExitCode::SUCCESS;
-    }
     let (usual, few, many) = (floors::few(8), floors::few(32), floors::many());
     let mut bases = vec![usual.words(scattered), few.words(scattered), many.words(in_order)];
     bases.extend((0..60).map(|seed| floors::random(seed).words(scattered)));
     if let Err(difference) = compare_all(&bases, 500) {
-        remark(difference);
+        eprintln!("{difference}");
         return ExitCode::FAILURE;
     }
-    say!("16 stations, 64 carts:");
+    println!("16 stations, 64 carts:");
     for floor in [&usual, &few, &many] {
         let name = format!("{} held, {} records", floor.held(), floors::records(floor));
         measure(&format!("{name}, rows in order"), &floor.words(in_order));

@@ -5,7 +5,6 @@ mod plain;
 mod proved;
 
 use shared::numbers::Numbers;
-use shared::say;
 use std::hint::black_box;
 use std::time::Instant;
 
@@ -75,7 +74,7 @@ fn in_turns(mut proved: impl FnMut(usize), mut plain: impl FnMut(usize)) -> (f64
 }
 
 fn say(name: &str, (proved, plain): (f64, f64)) {
-    say!(
+    println!(
         "{name:<28} proved {proved:7.2} ns   plain {plain:7.2} ns   speed proved/plain {:.2}",
         plain / proved
     );
@@ -139,7 +138,7 @@ fn tables(held: usize) {
             );
         }
     }
-    say!("{held} held messages");
+    println!("{held} held messages");
     let head = in_turns(
         |t| {
             black_box(words.head(black_box(t)));

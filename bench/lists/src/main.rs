@@ -6,8 +6,6 @@ mod proved;
 
 use shared::numbers::Numbers;
 use shared::progress::Progress;
-use shared::say;
-use shared::wanted::{rounds, time_alone};
 use std::hint::black_box;
 use std::time::Instant;
 
@@ -24,8 +22,7 @@ pub enum Answer {
 
 const TRIALS: u64 = 60;
 const CALLS: usize = 12_000;
-/// Plain's rows are squeezed when 2,048 of them stand, with 64 carts in round 65: before that each of its sends writes memory that it never touched.
-const ROUNDS: usize = 200;
+const ROUNDS: usize = 60;
 
 /// One of three: a number on the floor mostly, at its edge at times, or any.
 fn number(numbers: &mut Numbers, count: u64) -> u64 {
@@ -154,7 +151,7 @@ fn nanoseconds(calls: usize, run: impl FnOnce()) -> f64 {
 }
 
 fn say(name: &str, carts: u32, proved: f64, plain: f64) {
-    say!("{name:<24} {carts:>2} carts   proved {proved:8.1} ns   plain {plain:8.1} ns   speed proved/plain {:.2}", plain / proved);
+    println!("{name:<24} {carts:>2} carts   proved {proved:8.1} ns   plain {plain:8.1} ns   speed proved/plain {:.2}", plain / proved);
 }
 
 /// Rounds of the same calls on both, in turns; the least time of each.
@@ -169,9 +166,8 @@ fn measure(carts: u32) {
     let mut buffer = [0; TEXT];
     let mut least = [f64::MAX; 6];
     let mut progress = Progress::new("time");
-    let rounds = rounds(ROUNDS);
-    for round in 0..rounds {
-        progress.of(round, rounds, "rounds");
+    for round in 0..ROUNDS {
+        progress.of(round, ROUNDS, "rounds");
         let (s, t) = (work.sends.len(), work.takes.len());
         let times = [
             nanoseconds(s, || {
@@ -219,9 +215,6 @@ fn measure(carts: u32) {
 }
 
 fn main() {
-    if let Some(carts) = time_alone() {
-        return measure(carts);
-    }
     let mut met = [0; 32];
     let mut progress = Progress::new("trials");
     for seed in 1..=TRIALS {
@@ -231,9 +224,12 @@ fn main() {
     drop(progress);
     let refusals: Vec<String> =
         (1..32).filter(|&r| met[r] > 0).map(|r| format!("{r}: {}", met[r])).collect();
-    say!("{} calls accepted alike; refused alike {}", met[0], refusals.join(", "));
+    println!("{} calls accepted alike; refused alike {}", met[0], refusals.join(", "));
     let damaged =
         (1..=40).map(|seed| damage(seed * 77_777_777)).fold((0, 0), |a, b| (a.0 + b.0, a.1 + b.1));
-    say!("of damaged lists {} were refused with 5, {} passed the form rule", damaged.0, damaged.1);
+    println!(
+        "of damaged lists {} were refused with 5, {} passed the form rule",
+        damaged.0, damaged.1
+    );
     [64, 8, 1].into_iter().for_each(measure);
 }

@@ -14,7 +14,6 @@ use std::io::Read;
 use std::process::{Command, Stdio};
 
 use shared::progress::Progress;
-use shared::say;
 
 /// The times of one run's pieces.
 fn run(library: &str, frames: &str, program: &str) -> Result<Vec<u64>, Box<dyn Error>> {
@@ -76,7 +75,7 @@ fn main() -> Result<(), Box<dyn Error>> {
     let whole = *sums.last().unwrap() as f64;
     for (program, sum) in programs.iter().zip(sums) {
         let sum = sum as f64;
-        say!("  {:.2} ns, throughput {:.3}: {program}", sum / count, whole / sum);
+        println!("  {:.2} ns, throughput {:.3}: {program}", sum / count, whole / sum);
     }
     Ok(())
 }

@@ -161,7 +161,7 @@ fn event_of<'a>(head: u64, set: u64, rest: &mut &'a [u8]) -> Result<Event<'a>, R
 fn text_of<'a>(head: u64, rest: &mut &'a [u8]) -> Result<&'a [u8], Refusal> {
     let length = (head >> LENGTH & 0x3F) as usize;
     if length > TEXT {
-        return Err(Refusal::TextLength);
+        return Err(Refusal::LongText);
     }
     split_text(length, rest)
 }
@@ -171,7 +171,7 @@ fn text_of<'a>(head: u64, rest: &mut &'a [u8]) -> Result<&'a [u8], Refusal> {
 fn long_text_of<'a>(head: u64, rest: &mut &'a [u8]) -> Result<&'a [u8], Refusal> {
     let length = (head & LONG_LENGTH_FIELD) as usize;
     if !(TEXT + 1..=LONG).contains(&length) {
-        return Err(Refusal::TextLength);
+        return Err(Refusal::LongText);
     }
     split_text(length, rest)
 }

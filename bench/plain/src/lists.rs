@@ -60,7 +60,7 @@ impl Lists {
     /// of the named carts."
     pub fn send(&mut self, station: StationNo, set: u64, text: &[u8]) -> Result<(), Refusal> {
         if text.len() > LONG {
-            return Err(Refusal::TextLength);
+            return Err(Refusal::LongText);
         }
         self.check_started()?;
         self.check_station(station)?;
@@ -99,7 +99,7 @@ impl Lists {
         if self.started {
             Ok(())
         } else {
-            Err(Refusal::NoFloor)
+            Err(Refusal::NotStarted)
         }
     }
 

@@ -130,8 +130,7 @@ pub fn status(program: &str, outcome: io::Result<()>) -> ExitCode {
         // A reader that has seen enough closes the pipe; that is no failure of the run.
         Err(error) if error.kind() == io::ErrorKind::BrokenPipe => ExitCode::SUCCESS,
         Err(error) => {
-            // If nobody hears it, the status still says so.
-            let _ = writeln!(io::stderr(), "{program}: {error}");
+            eprintln!("{program}: {error}");
             ExitCode::FAILURE
         }
     }

@@ -26,8 +26,8 @@ pub enum Refusal {
     CutFrame = 1,
     UnknownKind = 2,
     StrayField = 3,
-    TextLength = 4,
-    NoFloor = 5,
+    LongText = 4,
+    NotStarted = 5,
     AlreadyStarted = 6,
     FloorSize = 7,
     NoSuchStation = 8,
@@ -113,7 +113,7 @@ impl Floor {
     #[inline]
     pub fn send(&mut self, station: StationNo, set: u64, text: &[u8]) -> Result<Step, Refusal> {
         if text.len() > TEXT {
-            return Err(Refusal::TextLength);
+            return Err(Refusal::LongText);
         }
         self.check_named(station, set)?;
         let number = self.check_post(station, text)?;
@@ -129,7 +129,7 @@ impl Floor {
         text: &[u8],
     ) -> Result<Step, Refusal> {
         if !(TEXT + 1..=LONG).contains(&text.len()) {
-            return Err(Refusal::TextLength);
+            return Err(Refusal::LongText);
         }
         self.check_named(station, set)?;
         let number = self.check_post(station, text)?;
@@ -151,7 +151,7 @@ impl Floor {
         text: &[u8],
     ) -> Result<Step, Refusal> {
         if text.len() > TEXT {
-            return Err(Refusal::TextLength);
+            return Err(Refusal::LongText);
         }
         self.check_started()?;
         self.check_station(station)?;
@@ -423,7 +423,7 @@ impl Floor {
         if self.started {
             Ok(())
         } else {
-            Err(Refusal::NoFloor)
+            Err(Refusal::NotStarted)
         }
     }
 

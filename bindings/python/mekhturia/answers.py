@@ -1,270 +1,103 @@
-"""What an event did: a report that names what it is about, as Sent(station, number), with the line's a, b, p, w and q beside."""
+"""What an event answers: a report of what was done, or a refusal."""
 
 from __future__ import annotations
 
 from dataclasses import dataclass
-from enum import IntEnum
-from typing import ClassVar, Union
-
-from .refusals import Refusal
+from enum import Enum, IntEnum
 
 
 class Kind(IntEnum):
-    """The kind of an event."""
+    """The kind of an event, and what a and b of its report are."""
 
-    START = 0
-    ENTER = 1
-    SEND = 2
-    WIRE = 3
-    RADIO = 4
-    MOVE = 5
-    FLAG = 6
-    GROUP = 7
-    SEND_GROUP = 8
-    SEND_LONG = 9
-    RETIRE = 10
-
-
-class Record(IntEnum):
-    """The kind of a record on a line, which a wire step handles."""
-
-    MULTICAST = 1
-    ACK = 2
-    DELETE = 3
-    DEREGISTER = 4
-    REGISTER = 5
+    START = 0  # stations, carts
+    ENTER = 1  # station, cart
+    SEND = 2  # station, number
+    WIRE = 3  # the record's kind, its message's number (of 4 and 5 its cart)
+    RADIO = 4  # initiator, number
+    MOVE = 5  # cart, to
+    FLAG = 6  # cart, 1 for steady or 0 for not
+    GROUP = 7  # group, how many members
+    SEND_GROUP = 8  # station, number
+    SEND_LONG = 9  # station, number
+    RETIRE = 10  # cart, 0
 
 
-@dataclass(frozen=True)
-class Effect:
-    """What a step did beside: numbers passed over, records put on lines, the largest place in a queue that it gave (1 the head, 0 none)."""
+class Refusal(Enum):
+    """Why nothing was done: the first reason that applies. A refusal changes nothing.
 
-    passed: int = 0
-    records: int = 0
-    place: int = 0
-
-
-class Report:
-    """What an event did. As a string it is the line of the program `floor`, without the index.
-
-    >>> sent = Sent(station=1, number=7, effect=Effect(records=2))
-    >>> sent.number, sent.a, sent.b, sent.w
-    (7, 1, 7, 2)
-    >>> print(sent)
-    2 1 7 0 2 0
+    >>> Refusal.of(16).says
+    'the cart is not at this station'
+    >>> print(Refusal.ELSEWHERE)
+    no 16: the cart is not at this station
     """
 
-    kind: ClassVar[Kind]
-    effect: Effect
+    CUT = (1, "a frame is cut short")
+    KIND = (2, "a frame has a kind that is not there")
+    FIELD = (3, "a field that the frame's kind does not list is not zero, or a flag is above 1")
+    TEXT = (4, "a text is longer than 32 octets, or that of a long send has not 33 to 512")
+    FLOOR = (5, "the floor is not started, a lent part has the wrong length, or its words are not those of a floor")
+    STARTED = (6, "the floor is started already")
+    LIMITS = (7, "a start with more stations or carts than there may be, or with none")
+    STATION = (8, "the floor has no such station")
+    CART = (9, "the floor has no such cart")
+    ENTERED = (10, "the cart is on the floor already")
+    NO_CARTS = (11, "the set of carts is empty")
+    NAMED_OUTSIDE = (12, "a cart of the set is not on the floor now")
+    NUMBERS = (13, "the station has used its last number")
+    HELD = (14, "as many messages are held as there may be")
+    LINE = (15, "the line is empty")
+    ELSEWHERE = (16, "the cart is not at this station")
+    NOT_ITS_TURN = (17, "the head of the queue is not for this cart")
+    OUTSIDE = (18, "the cart is not on the floor now")
+    ON_ITS_WAY = (19, "the cart is leaving or travelling")
+    THERE = (20, "the cart is at this station already")
+    BUFFER = (21, "the lent buffer is shorter than the text, or, to run until quiet, than 512 octets")
+    NO_TEXT = (24, "the text is empty")
+    UNSTEADY = (25, "the cart is not steady")
+    GROUP = (26, "the group is not defined, or above 15")
+    STORE = (27, "fewer octets of the store are free than the text has")
+    NOT_HELD = (28, "the message is not held")
+    NAMED = (29, "a held message names the cart")
 
-    def _numbers(self) -> tuple[int, int]:
-        """The first two of its own fields, of one that has one the second is 0."""
-        own = [value for name, value in vars(self).items() if name != "effect"]
-        return int(own[0]), int(own[1]) if len(own) > 1 else 0
-
-    @property
-    def a(self) -> int:
-        """The first of the line's two numbers."""
-        return self._numbers()[0]
-
-    @property
-    def b(self) -> int:
-        """The second."""
-        return self._numbers()[1]
-
-    @property
-    def passed(self) -> int:
-        """The numbers passed over in the step."""
-        return self.effect.passed
-
-    @property
-    def records(self) -> int:
-        """The records put on lines."""
-        return self.effect.records
-
-    @property
-    def place(self) -> int:
-        """The largest place in a queue that the step gave, 1 for the head, 0 if it queued none."""
-        return self.effect.place
-
-    @property
-    def p(self) -> int:
-        """What `passed` is, under the line's letter."""
-        return self.passed
-
-    @property
-    def w(self) -> int:
-        """What `records` is."""
-        return self.records
-
-    @property
-    def q(self) -> int:
-        """What `place` is."""
-        return self.place
+    def __init__(self, number: int, says: str) -> None:
+        self.number = number
+        self.says = says
 
     def __str__(self) -> str:
-        return f"{self.kind.value} {self.a} {self.b} {self.p} {self.w} {self.q}"
+        return f"no {self.number}: {self.says}"
+
+    @staticmethod
+    def of(number: int) -> Refusal:
+        """The refusal that has this number."""
+        return _BY_NUMBER[number]
+
+
+_BY_NUMBER = {refusal.number: refusal for refusal in Refusal}
+
+
+class Refused(Exception):
+    """An event was refused, and changed nothing; `refusal` says why."""
+
+    def __init__(self, refusal: Refusal) -> None:
+        super().__init__(str(refusal))
+        self.refusal = refusal
 
 
 @dataclass(frozen=True)
-class Started(Report):
-    """The floor is started."""
+class Report:
+    """What an event did. As a string it is the line of the program `floor`, without the index."""
 
-    kind = Kind.START
-    stations: int
-    carts: int
-    effect: Effect = Effect()
-
-
-@dataclass(frozen=True)
-class Entered(Report):
-    """A cart rolls in."""
-
-    kind = Kind.ENTER
-    station: int
-    cart: int
-    effect: Effect = Effect()
-
-
-@dataclass(frozen=True)
-class Sent(Report):
-    """A correction is sent."""
-
-    kind = Kind.SEND
-    station: int
-    number: int
-    effect: Effect = Effect()
-
-
-@dataclass(frozen=True)
-class Received(Report):
-    """A cart receives."""
-
-    kind = Kind.RADIO
-    initiator: int
-    number: int
-    text: bytes
-    effect: Effect = Effect()
+    kind: Kind
+    a: int
+    b: int
+    passed: int  # p: the numbers passed over in the step
+    records: int  # w: the records put on lines
+    place: int  # q: the largest place in a queue that the step gave, 1 for the head, 0 if it queued none
+    text: bytes | None = None  # of a radio step
 
     def __str__(self) -> str:
-        return f"{super().__str__()} {self.text.hex() or '-'}"
-
-
-@dataclass(frozen=True)
-class Moved(Report):
-    """A cart greets another station."""
-
-    kind = Kind.MOVE
-    cart: int
-    to: int
-    effect: Effect = Effect()
-
-
-@dataclass(frozen=True)
-class Flagged(Report):
-    """A cart is told steady or not."""
-
-    kind = Kind.FLAG
-    cart: int
-    steady: bool
-    effect: Effect = Effect()
-
-
-@dataclass(frozen=True)
-class Grouped(Report):
-    """A group has new members."""
-
-    kind = Kind.GROUP
-    group: int
-    members: int
-    effect: Effect = Effect()
-
-
-@dataclass(frozen=True)
-class SentToGroup(Report):
-    """A correction is sent to a group."""
-
-    kind = Kind.SEND_GROUP
-    station: int
-    number: int
-    effect: Effect = Effect()
-
-
-@dataclass(frozen=True)
-class SentLong(Report):
-    """A full calibration table is sent."""
-
-    kind = Kind.SEND_LONG
-    station: int
-    number: int
-    effect: Effect = Effect()
-
-
-@dataclass(frozen=True)
-class Retired(Report):
-    """A cart goes back to the factory."""
-
-    kind = Kind.RETIRE
-    cart: int
-    effect: Effect = Effect()
-
-
-class Wired(Report):
-    """A record on a line is handled. a is the record's kind, b what it is about: its message's number, or its cart."""
-
-    kind = Kind.WIRE
-    record: ClassVar[Record]
-
-    def _numbers(self) -> tuple[int, int]:
-        return self.record.value, super()._numbers()[0]
-
-
-@dataclass(frozen=True)
-class Buffered(Wired):
-    """A message reaches a station."""
-
-    record = Record.MULTICAST
-    number: int
-    effect: Effect = Effect()
-
-
-@dataclass(frozen=True)
-class Acknowledged(Wired):
-    """The initiator hears who has its message."""
-
-    record = Record.ACK
-    number: int
-    effect: Effect = Effect()
-
-
-@dataclass(frozen=True)
-class Deleted(Wired):
-    """All have a message, and a station forgets it."""
-
-    record = Record.DELETE
-    number: int
-    effect: Effect = Effect()
-
-
-@dataclass(frozen=True)
-class Deregistered(Wired):
-    """A cart's old station hears that it left."""
-
-    record = Record.DEREGISTER
-    cart: int
-    effect: Effect = Effect()
-
-
-@dataclass(frozen=True)
-class Registered(Wired):
-    """A cart's record reaches its new station."""
-
-    record = Record.REGISTER
-    cart: int
-    effect: Effect = Effect()
-
-
-Handled = Union[Buffered, Acknowledged, Deleted, Deregistered, Registered]
+        numbers = f"{self.kind.value} {self.a} {self.b} {self.passed} {self.records} {self.place}"
+        return numbers if self.text is None else f"{numbers} {self.text.hex() or '-'}"
 
 
 class Stopped(IntEnum):
@@ -272,7 +105,7 @@ class Stopped(IntEnum):
 
     FULL = 0  # the output has no room for another line
     WAITS = 1  # no whole frame is left
-    ENDED = 2  # a frame was refused with 1 to 4, which ends the run
+    ENDED = 2  # a frame was refused with 1 to 4
 
 
 @dataclass(frozen=True)

@@ -3,10 +3,12 @@
 from __future__ import annotations
 
 from dataclasses import dataclass
-from typing import Callable
+from typing import Callable, Union
 
 from .answers import Report
-from .floor import Controller
+from .floor import Floor, Kit
+
+Controller = Union[Floor, Kit]
 
 
 @dataclass(eq=False)
@@ -31,12 +33,11 @@ class Step:
 
     def make(self, floor: Controller) -> Report:
         """Makes the event on a floor."""
-        report: Report = getattr(floor, self.method)(*self.arguments)
-        return report
+        return getattr(floor, self.method)(*self.arguments)
 
 
 def _number(what: str, word: str, least: int, most: int) -> int:
-    if not (word.isascii() and word.isdigit() and len(word) <= 9 and least <= int(word) <= most):
+    if not (word.isascii() and word.isdigit() and least <= int(word) <= most):
         raise ValueError(f"{what}: {word!r} is not a number from {least} to {most}")
     return int(word)
 
@@ -65,13 +66,13 @@ def _group(word: str) -> int:
     return _number("group", word, 0, 15)
 
 
-def _carts(word: str) -> list[int]:
-    found: list[int] = []
+def _carts(word: str) -> int:
+    found = 0
     for one in [] if word == "-" else word.split(","):
-        cart = _cart(one)
-        if cart in found:
+        weight = 1 << _cart(one)
+        if found & weight:
             raise ValueError(f"cart {one} is named twice")
-        found.append(cart)
+        found |= weight
     return found
 
 

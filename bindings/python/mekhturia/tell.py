@@ -2,28 +2,14 @@
 
 from __future__ import annotations
 
-from typing import Callable
+from .answers import Kind, Report
 
-from .answers import Kind, Received, Record, Report, Wired
-
-_HANDLED = {
-    Record.MULTICAST: "correction {b} reaches station {to}",
-    Record.ACK: "station {to} hears who has its correction {b}",
-    Record.DELETE: "station {to} forgets correction {b} of station {from_}, which all have",
-    Record.DEREGISTER: "station {to} hears that cart {b} has left",
-    Record.REGISTER: "the record of cart {b} reaches station {to}",
-}
-
-_DONE: dict[Kind, Callable[[int, int], str]] = {
-    Kind.START: lambda stations, carts: f"a floor of {_many(stations, 'station')} and {_many(carts, 'cart')}",
-    Kind.ENTER: lambda station, cart: f"cart {cart} rolls in at station {station}",
-    Kind.SEND: lambda station, number: f"station {station} sends correction {number}",
-    Kind.MOVE: lambda cart, to: f"cart {cart} greets station {to}",
-    Kind.FLAG: lambda cart, steady: f"cart {cart} is {'steady' if steady else 'not steady'}",
-    Kind.GROUP: lambda group, members: f"group {group} has {_many(members, 'member')}" if members else f"group {group} is undefined",
-    Kind.SEND_GROUP: lambda station, number: f"station {station} sends the group correction {number}",
-    Kind.SEND_LONG: lambda station, number: f"station {station} sends table {number}",
-    Kind.RETIRE: lambda cart, _: f"cart {cart} goes back to the factory",
+_RECORDS = {
+    1: "correction {b} reaches station {to}",
+    2: "station {to} hears who has its correction {b}",
+    3: "station {to} forgets correction {b} of station {from_}, which all have",
+    4: "station {to} hears that cart {b} has left",
+    5: "the record of cart {b} reaches station {to}",
 }
 
 
@@ -37,11 +23,23 @@ def _many(count: int, what: str) -> str:
 
 
 def _done(report: Report, words: list[str]) -> str:
-    if isinstance(report, Wired):
-        return _HANDLED[report.record].format(b=report.b, from_=words[1], to=words[2])
-    if isinstance(report, Received):
-        return f"cart {words[2]} receives correction {report.number} of station {report.initiator}: {report.text.hex() or 'nothing'}"
-    return _DONE[report.kind](report.a, report.b)
+    a, b = report.a, report.b
+    if report.kind == Kind.WIRE:
+        return _RECORDS[a].format(b=b, from_=words[1], to=words[2])
+    if report.kind == Kind.RADIO:
+        text = report.text.hex() if report.text else "nothing"
+        return f"cart {words[2]} receives correction {b} of station {a}: {text}"
+    return {
+        Kind.START: f"a floor of {_many(a, 'station')} and {_many(b, 'cart')}",
+        Kind.ENTER: f"cart {b} rolls in at station {a}",
+        Kind.SEND: f"station {a} sends correction {b}",
+        Kind.MOVE: f"cart {a} greets station {b}",
+        Kind.FLAG: f"cart {a} is {'steady' if b else 'not steady'}",
+        Kind.GROUP: f"group {a} has {_many(b, 'member')}" if b else f"group {a} is undefined",
+        Kind.SEND_GROUP: f"station {a} sends the group correction {b}",
+        Kind.SEND_LONG: f"station {a} sends table {b}",
+        Kind.RETIRE: f"cart {a} goes back to the factory",
+    }[report.kind]
 
 
 def tell(report: Report, words: str) -> str:

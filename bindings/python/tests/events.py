@@ -2,9 +2,7 @@
 
 from __future__ import annotations
 
-from typing import Callable
-
-from mekhturia import Controller, Report
+from mekhturia import Floor, Kit, Report
 
 
 def take_apart(octets: bytes) -> tuple[list[int], bytes, int]:
@@ -39,21 +37,19 @@ def take_apart(octets: bytes) -> tuple[list[int], bytes, int]:
     return [kind, station, cart, other, cart_set], octets[16 : 16 + size], 16 + size
 
 
-def make(floor: Controller, fields: list[int], text: bytes) -> Report:
+def make(floor: Floor | Kit, fields: list[int], text: bytes) -> Report:
     """The event of a frame."""
-    kind, station, cart, other, weights = fields
-    carts = [cart for cart in range(64) if weights >> cart & 1]
-    events: list[Callable[[], Report]] = [
+    kind, station, cart, other, cart_set = fields
+    return [
         lambda: floor.start(station + 1, cart + 1),
         lambda: floor.enter(station, cart),
-        lambda: floor.send(station, carts, text),
+        lambda: floor.send(station, cart_set, text),
         lambda: floor.wire(station, other),
         lambda: floor.radio(station, cart),
         lambda: floor.move(cart, other),
         lambda: floor.flag(cart, other == 1),
-        lambda: floor.group(other, carts),
+        lambda: floor.group(other, cart_set),
         lambda: floor.send_group(station, other, text),
-        lambda: floor.send_long(station, carts, text),
+        lambda: floor.send_long(station, cart_set, text),
         lambda: floor.retire(cart),
-    ]
-    return events[kind]()
+    ][kind]()

@@ -6,10 +6,10 @@ import io
 import unittest
 
 from common import ROOT, command, goes_over
-from mekhturia import Controller, Floor, Kit, Refusal, Stopped
+from mekhturia import Floor, Kit, Refusal, Stopped
 
 
-def by_frames(lab: Controller, octets: bytes) -> str:
+def by_frames(lab: Floor | Kit, octets: bytes) -> str:
     """The lines of frames."""
     return b"".join(progress.lines for progress in lab.run(io.BytesIO(octets))).decode()
 
@@ -34,7 +34,7 @@ class BadFrames(unittest.TestCase):
             *_, last = Floor().run(io.BytesIO(octets[:size]))
             lines = by_frames(Floor(), octets[:size]).splitlines(keepends=True)
             if last.ended is not None:
-                self.assertEqual((last.ended, lines.pop()), (Refusal.CUT_FRAME, f"{len(lines)} no 1\n"))
+                self.assertEqual((last.ended, lines.pop()), (Refusal.CUT, f"{len(lines)} no 1\n"))
             self.assertTrue(whole.startswith("".join(lines)), size)
 
     def test_more_may_come(self) -> None:
@@ -57,7 +57,7 @@ class Command(unittest.TestCase):
 
     def test_frames_that_are_cut(self) -> None:
         octets = (ROOT / "examples/hand-off.frames").read_bytes()[:20]
-        said = "-: frame 1, at octet 16: no 1: the frame is cut short; it ends the run\n"
+        said = "-: frame 1, at octet 16: no 1: a frame is cut short; it ends the run\n"
         self.assertEqual(command("--frames", "-", given=octets), (1, "0 0 3 2 0 0 0\n1 no 1\n", said))
 
     def test_kit(self) -> None:

@@ -2,16 +2,11 @@
 
 from __future__ import annotations
 
-import os
-import signal
-import subprocess
-import sys
 import tempfile
 import unittest
-from typing import Any
 
-from common import ROOT, command, environment
-from mekhturia import Mistake, Refusal, Refused, read_script
+from common import ROOT, command
+from mekhturia import Mistake, read_script
 
 
 class BadLines(unittest.TestCase):
@@ -29,7 +24,6 @@ class BadLines(unittest.TestCase):
             ("send 0 0 A", 1, "'A' is not hexadecimal, two digits for each octet"),
             ("send 0 0 " + "00" * 33, 1, "a text of 33 octets, longer than 32"),
             ("long 0 0 00", 1, "a long text of 1 octets, not of 33 to 512"),
-            ("retire " + "9" * 5000, 1, f"cart: '{'9' * 5000}' is not a number from 0 to 63"),
             ("octets F0", 1, "octets are no event: make frames of the script with tools/frames, and run them with --frames"),
         ):
             with self.assertRaises(Mistake) as raised:
@@ -61,9 +55,9 @@ class Command(unittest.TestCase):
                 " 6  steady 0 0: cart 0 is not steady",
                 " 7  steady 0 1: cart 0 is steady",
                 " 8  move 0 1: cart 0 greets station 1 (1 put on lines)",
-                f" 9  retire 0: {Refused(Refusal.IN_HAND_OFF)}",
-                "10  send 0 0 -: no 24: the text is empty. Fill in the correction, and send it again.",
-                f"11  radio 0 0: {Refused(Refusal.NOT_AT_STATION)}",
+                " 9  retire 0: no 19: the cart is leaving or travelling",
+                "10  send 0 0 -: no 24: the text is empty",
+                "11  radio 0 0: no 16: the cart is not at this station",
                 "12  wire 0 0: correction 0 reaches station 0 (queued at place 1)",
             ],
         )
@@ -91,74 +85,6 @@ class Command(unittest.TestCase):
             status, told, wrong = command("-", library=other.name)
         self.assertEqual((status, told), (1, ""))
         self.assertIn("is not the controller's library", wrong)
-
-
-class Stopped(unittest.TestCase):
-    """What stops the command is said in a line, and never by a traceback."""
-
-    def started(self, *arguments: str, **streams: Any) -> subprocess.Popen[bytes]:
-        words = [sys.executable, "-m", "mekhturia", *arguments]
-        return subprocess.Popen(words, stderr=subprocess.PIPE, env=environment(), **streams)
-
-    def test_interrupted(self) -> None:
-        frames = (ROOT / "examples/hand-off.frames").read_bytes()[:32]
-        with self.started("--frames", "-", stdin=subprocess.PIPE, stdout=subprocess.PIPE) as ran:
-            assert ran.stdin and ran.stdout and ran.stderr
-            ran.stdin.write(frames)
-            ran.stdin.flush()
-            lines = ran.stdout.readline() + ran.stdout.readline()
-            ran.send_signal(signal.SIGINT)
-            self.assertEqual(ran.wait(10), 130)
-            self.assertEqual((lines + ran.stdout.read(), ran.stderr.read()), (b"0 0 3 2 0 0 0\n1 1 0 0 0 0 0\n", b"mekhturia: interrupted\n"))
-
-    def test_interrupted_while_it_waits_for_a_script(self) -> None:
-        with self.started("-", stdin=subprocess.PIPE, stdout=subprocess.PIPE) as ran:
-            assert ran.stdin and ran.stdout and ran.stderr
-            ran.stdin.write(b"start 2 1\n" * 100_000)  # more than a pipe holds: it reads when this is written
-            ran.stdin.flush()
-            ran.send_signal(signal.SIGINT)
-            self.assertEqual(ran.wait(10), 130)
-            self.assertEqual((ran.stdout.read(), ran.stderr.read()), (b"", b"mekhturia: interrupted\n"))
-
-    def test_nobody_reads(self) -> None:
-        for words in (["--help"], ["--frames", str(ROOT / "examples/hand-off.frames")], [str(ROOT / "examples/hand-off.txt")]):
-            read, write = os.pipe()
-            os.close(read)
-            with self.started(*words, stdout=write) as ran:
-                os.close(write)
-                assert ran.stderr
-                self.assertEqual((ran.wait(10), ran.stderr.read()), (0, b""), words)
-
-    def test_a_full_disk(self) -> None:
-        said = b"mekhturia: the lines cannot be written: No space left on device\n"
-        for words in (["--help"], ["--frames", str(ROOT / "examples/hand-off.frames")], [str(ROOT / "examples/hand-off.txt")]):
-            with open("/dev/full", "wb") as full, self.started(*words, stdout=full) as ran:
-                assert ran.stderr
-                self.assertEqual((ran.wait(10), ran.stderr.read()), (1, said), words)
-
-    def test_closed_streams(self) -> None:
-        for closing, words, said in (
-            (">&-", str(ROOT / "examples/hand-off.txt"), "mekhturia: the lines cannot be written: standard output is closed\n"),
-            ("<&-", "-", "-: standard input is closed\n"),
-        ):
-            shell = ["sh", "-c", f'"$0" -m mekhturia "$1" {closing}', sys.executable, words]
-            ran = subprocess.run(shell, capture_output=True, text=True, env=environment(), check=False)
-            self.assertEqual((ran.returncode, ran.stdout, ran.stderr), (1, "", said))
-
-    def test_an_input_that_does_not_wait(self) -> None:
-        for words in (["-"], ["--frames", "-"]):
-            read, write = os.pipe()
-            os.set_blocking(read, False)
-            with self.started(*words, stdin=read, stdout=subprocess.PIPE) as ran:
-                assert ran.stdout and ran.stderr
-                said = (ran.wait(10), ran.stdout.read(), ran.stderr.read())
-            os.close(read)
-            os.close(write)
-            self.assertEqual(said, (1, b"", b"-: it does not wait for octets: what comes later would be lost\n"), words)
-
-    def test_a_folder(self) -> None:
-        for words in (["/"], ["--frames", "/"]):
-            self.assertEqual(command(*words), (1, "", "/: Is a directory\n"))
 
 
 if __name__ == "__main__":

@@ -1,7 +1,7 @@
 //! The floor and the kit.
 
 use crate::linked::{self, Parts, Words};
-use crate::{Cart, Carts, Outcome, Refusal, Report, Station, LONG_TEXT};
+use crate::{Cart, Carts, Kind, Refusal, Report, Station, LONG_TEXT};
 use std::fmt;
 use std::marker::PhantomData;
 
@@ -45,13 +45,12 @@ pub type Floor = Controller<WholeFloor>;
 ///
 /// ```
 /// use mekhturia::{Floor, Kit, Refusal};
-/// assert_eq!(Kit::new().start(5, 1), Err(Refusal::FloorSize));
+/// assert_eq!(Kit::new().start(5, 1), Err(Refusal::Limits));
 /// assert!(Floor::new().start(5, 1).is_ok());
 /// ```
 pub type Kit = Controller<SmallKit>;
 
-/// A controller with its memory, by the limits of its product: see [`Floor`] and [`Kit`]. A clone is a floor of its own, which says the
-/// same.
+/// A controller with its memory, by the limits of its product: see [`Floor`] and [`Kit`]. A clone is a floor of its own, which says the same.
 #[derive(Clone)]
 pub struct Controller<P: Product> {
     pub(crate) parts: Parts,
@@ -61,9 +60,12 @@ pub struct Controller<P: Product> {
 /// The report of an answer's words, or its refusal. The text of a radio step stands at the front of the buffer.
 fn told(words: Words, buffer: &[u8]) -> Result<Report, Refusal> {
     let [refusal, kind, a, b, passed, records, place, size] = words;
-    Refusal::or_accepted(refusal)?;
-    let outcome = Outcome::of(kind, a, b, &buffer[..size as usize]);
-    Ok(Report { outcome, passed, records, place })
+    if let Some(refusal) = Refusal::of(refusal) {
+        return Err(refusal);
+    }
+    let kind = Kind::of(kind);
+    let text = (kind == Kind::Radio).then(|| buffer[..size as usize].to_vec());
+    Ok(Report { kind, a, b, passed, records, place, text })
 }
 
 impl<P: Product> Default for Controller<P> {
@@ -126,7 +128,7 @@ impl<P: Product> Controller<P> {
     /// floor.send(Station(0), Carts(1), b"-2 ppm")?;
     /// floor.wire(Station(0), Station(0))?;
     /// floor.flag(Cart(0), false)?;
-    /// assert_eq!(floor.radio(Station(0), Cart(0)), Err(Refusal::NotSteady));
+    /// assert_eq!(floor.radio(Station(0), Cart(0)), Err(Refusal::Unsteady));
     /// # Ok(())
     /// # }
     /// ```
@@ -168,10 +170,10 @@ impl<P: Product> Controller<P> {
     /// floor.start(2, 1)?;
     /// floor.enter(Station(0), Cart(0))?;
     /// floor.send(Station(1), Carts(1), b"+5 ppm")?;
-    /// assert_eq!(floor.retire(Cart(0)), Err(Refusal::StillNamed));
+    /// assert_eq!(floor.retire(Cart(0)), Err(Refusal::Named));
     /// floor.quiet()?;
     /// floor.retire(Cart(0))?;
-    /// assert_eq!(floor.move_cart(Cart(0), Station(1)), Err(Refusal::NotEntered));
+    /// assert_eq!(floor.move_cart(Cart(0), Station(1)), Err(Refusal::Outside));
     /// # Ok(())
     /// # }
     /// ```
@@ -180,9 +182,6 @@ impl<P: Product> Controller<P> {
     }
 
     /// Takes wire and radio steps until there is none to be taken: how many it took.
-    ///
-    /// **It hands every text over and throws it away**: the carts count as having received, and nobody has seen what. Whoever has carts to
-    /// hand the texts to takes the steps by [`wire`](Self::wire) and [`radio`](Self::radio).
     ///
     /// ```
     /// use mekhturia::{Cart, Carts, Kit, Refusal, Station};
@@ -199,13 +198,15 @@ impl<P: Product> Controller<P> {
     /// ```
     pub fn quiet(&mut self) -> Result<u64, Refusal> {
         let [refusal, steps, ..] = linked::quiet(&mut self.parts, &mut [0; LONG_TEXT]);
-        Refusal::or_accepted(refusal).map(|()| steps)
+        Refusal::of(refusal).map_or(Ok(steps), Err)
     }
 
     /// The text of the held message that a station sent with this number.
     pub fn text_of(&self, initiator: Station, number: u64) -> Result<&[u8], Refusal> {
         let [refusal, stored, at, octets, ..] = linked::text(&self.parts, initiator.0, number);
-        Refusal::or_accepted(refusal)?;
-        Ok(self.parts.text(stored == 1, at as usize, octets as usize))
+        match Refusal::of(refusal) {
+            Some(refusal) => Err(refusal),
+            None => Ok(self.parts.text(stored == 1, at as usize, octets as usize)),
+        }
     }
 }

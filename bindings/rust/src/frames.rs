@@ -43,13 +43,13 @@ pub struct Ran {
     pub ended: Option<Refusal>,
 }
 
-/// The first index or the input's length is 2^63 or more.
+/// The index of a frame, or the length of an input, is 2^63 or more.
 #[derive(Clone, Copy, Debug, PartialEq, Eq)]
 pub struct TooFar;
 
 impl fmt::Display for TooFar {
     fn fmt(&self, f: &mut fmt::Formatter) -> fmt::Result {
-        write!(f, "the first index or the input's length is 2^63 or more")
+        write!(f, "the index of a frame, or the length of an input, is 2^63 or more")
     }
 }
 
@@ -62,9 +62,8 @@ fn last_refusal(lines: &[u8]) -> Refusal {
 }
 
 impl<P: Product> Controller<P> {
-    /// Takes frames from one slice and writes their lines into another, for whoever has many events: the floor is tested once, and not for
-    /// each. `index` is the number of the first frame, and `last` says that no more input comes. A call costs as much as about a thousand
-    /// frames: hand it pieces of 1 MiB.
+    /// Takes frames from one slice and writes their lines into another, for whoever has many events: the floor is tested once, and not for each. `index` is
+    /// the number of the first frame, and `last` says that no more input comes. A call costs as much as about a thousand frames: hand it pieces of 1 MiB.
     ///
     /// ```
     /// use mekhturia::{Floor, Stopped};
@@ -92,15 +91,13 @@ impl<P: Product> Controller<P> {
         Ok(Progress { read: read as usize, written, frames, stopped })
     }
 
-    /// Runs all frames of an input, and writes their lines: what the program `floor` prints. The lines of a piece are written before the
-    /// next is read. Where they cannot be written, their frames have been run all the same, and what carts received in them was not handed
-    /// on.
+    /// Runs all frames of an input, and writes their lines: what the program `floor` prints. The lines of a piece are written before the next is read.
     ///
     /// ```
     /// use mekhturia::{Floor, Refusal};
     /// let (cut, mut lines) = ([0x01, 0, 0], vec![]);
     /// let ran = Floor::new().run(&cut[..], &mut lines).unwrap();
-    /// assert_eq!((lines.as_slice(), ran.octets, ran.ended), (&b"0 no 1\n"[..], 0, Some(Refusal::CutFrame)));
+    /// assert_eq!((lines.as_slice(), ran.octets, ran.ended), (&b"0 no 1\n"[..], 0, Some(Refusal::Cut)));
     /// ```
     pub fn run(&mut self, mut input: impl Read, mut output: impl Write) -> io::Result<Ran> {
         let (mut piece, mut lines) = (vec![0; PIECE], vec![0; PIECE]);

@@ -1,6 +1,5 @@
-//! The C names of the proved controller (include/mekhturia.h), and the only module with `unsafe`. A slice crosses as its address and its
-//! length. Every call is lent slices that are there and do not overlap, with their own lengths, and words enough for its answer; no call
-//! asks for more.
+//! The C names of the proved controller (include/mekhturia.h), and the only module with `unsafe`. A slice crosses as its address and its length. Every
+//! call is lent slices that are there and do not overlap, with their own lengths, and words enough for its answer; no call asks for more.
 
 /// The words of an answer.
 pub type Words = [u64; 8];
@@ -41,8 +40,7 @@ impl Parts {
     }
 }
 
-/// Declares calls: the product and the six lent parts, then what each has of its own, then the words for its answer. Each hands back a
-/// status.
+/// Declares calls: the product and the six lent parts, then what each has of its own, then the words for its answer. Each hands back a status.
 macro_rules! calls {
     ($($name:ident($($arg:ident: $of:ty),*);)*) => {
         extern "C" {
@@ -122,13 +120,9 @@ macro_rules! call {
     }};
 }
 
-/// The status of a call that is answered, and that of frames whose index or length is too far.
-const ANSWERED: u64 = 0;
-const TOO_FAR: u64 = 3;
-
 /// The words of a call: there are eight, and the product is one, so it is answered.
 fn answered((status, words): (u64, Words)) -> Words {
-    assert_eq!(status, ANSWERED, "a call with eight words was not answered");
+    assert_eq!(status, 0, "a call with eight words was not answered");
     words
 }
 
@@ -217,6 +211,7 @@ pub fn frames(
     last: bool,
 ) -> Option<Words> {
     let (from, into) = ((input.as_ptr(), input.len()), (output.as_mut_ptr(), output.len()));
-    let said = call!(mekhturia_frames, parts, from.0, from.1, into.0, into.1, index, last as u64);
-    (said.0 != TOO_FAR).then(|| answered(said))
+    let (status, words) =
+        call!(mekhturia_frames, parts, from.0, from.1, into.0, into.1, index, last as u64);
+    (status == 0).then_some(words)
 }

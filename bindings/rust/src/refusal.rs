@@ -1,35 +1,27 @@
-//! Why nothing was done. Names and words are those of bindings/answers.tsv, and tests compare.
+//! Why nothing was done.
 
 use std::fmt;
 
 macro_rules! refusals {
-    ($($number:literal $name:ident $says:literal, $advice:literal;)*) => {
+    ($($number:literal $name:ident $says:literal;)*) => {
         /// Why nothing was done: the first reason that applies. A refusal changes nothing.
         ///
         /// ```
         /// use mekhturia::{Floor, Refusal};
         /// let refusal = Floor::new().start(17, 1).unwrap_err();
-        /// assert_eq!(refusal, Refusal::FloorSize);
+        /// assert_eq!(refusal, Refusal::Limits);
         /// assert_eq!(refusal.number(), 7);
-        /// assert_eq!(refusal.to_string(), "no 7: too many stations or carts, or none");
-        /// assert_eq!(format!("{refusal:?}"), "FloorSize (no 7: too many stations or carts, or none)");
+        /// assert_eq!(refusal.to_string(), "no 7: a start with more stations or carts than there may be, or with none");
         /// ```
-        #[derive(Clone, Copy, PartialEq, Eq, Hash)]
+        #[derive(Clone, Copy, Debug, PartialEq, Eq, Hash)]
         #[non_exhaustive]
         pub enum Refusal {
-            $(#[doc = concat!("No ", $number, ": ", $says, ". ", $advice, ".")] $name = $number,)*
+            $(#[doc = concat!($says, ".")] $name = $number,)*
         }
 
         impl Refusal {
             /// All of them, by their numbers.
             pub const ALL: &'static [Refusal] = &[$(Refusal::$name),*];
-
-            /// Its name.
-            pub fn name(self) -> &'static str {
-                match self {
-                    $(Refusal::$name => stringify!($name),)*
-                }
-            }
 
             /// What it says, for a person to read.
             pub fn says(self) -> &'static str {
@@ -37,72 +29,38 @@ macro_rules! refusals {
                     $(Refusal::$name => $says,)*
                 }
             }
-
-            /// What to do about it.
-            pub fn advice(self) -> &'static str {
-                match self {
-                    $(Refusal::$name => $advice,)*
-                }
-            }
         }
     };
 }
 
 refusals! {
-    1 CutFrame "the frame is cut short",
-        "Send all of it: 16 octets, and the text behind them";
-    2 UnknownKind "unknown frame kind",
-        "Use one of the kinds 0 to 10";
-    3 StrayField "a field that this kind of frame does not have is not zero, or a flag is above 1",
-        "Set such fields to zero, and a flag to 0 or 1";
-    4 TextLength "the text is longer than 32 octets, or a full table is not of 33 to 512",
-        "Send up to 32 octets as a correction, and 33 to 512 as a full table";
-    5 NoFloor "the floor is not started, or its memory is not that of a floor",
-        "Start it first; if it was started, its memory has the wrong size, or somebody else wrote it";
-    6 AlreadyStarted "the floor is already started",
-        "Go on with it; another floor is another run";
-    7 FloorSize "too many stations or carts, or none",
-        "Start with 1 to 16 stations and 1 to 64 carts, the demonstration kit with 1 to 4 and 1 to 8";
-    8 NoSuchStation "there is no such station",
-        "Look at the number: stations count from 0, as many as were started";
-    9 NoSuchCart "there is no such cart",
-        "Look at the number: carts count from 0, as many as were started";
-    10 AlreadyEntered "the cart is already on the floor",
-        "Move it, if it should be elsewhere";
-    11 EmptySet "no cart is named",
-        "Name the carts that it is for";
-    12 NamedNotEntered "a named cart is not on the floor",
-        "Let it enter first, or leave it out";
-    13 NumbersUsedUp "the station has used its last number",
-        "Send it from another station";
-    14 NoRoom "as many messages are held as there is room for",
-        "Take wire and radio steps until one is deleted, then send again";
-    15 LineEmpty "the line is empty",
-        "Nothing needs to be done";
-    16 NotAtStation "the cart is not at this station",
-        "Call it where it is; while it is on its way, take the wire steps of its hand-off first";
-    17 NotAtHead "the head of the station's queue is not for this cart",
-        "Hand the head to the carts that it is for; what is still on its way comes by wire steps";
-    18 NotEntered "the cart is not on the floor",
-        "Let it enter first; to retire it, nothing needs to be done";
-    19 InHandOff "the cart is on its way to another station",
-        "Take the wire steps of its hand-off first, from its new station to the old one and then back";
-    20 AlreadyThere "the cart is already at this station",
-        "Nothing needs to be done";
-    21 ShortBuffer "the lent buffer is too short",
-        "Lend 512 octets, which take every text";
-    24 EmptyText "the text is empty",
-        "Fill in the correction, and send it again";
-    25 NotSteady "the cart is not steady",
-        "Tell it steady when its vacuum has settled, and hand over then";
-    26 NoSuchGroup "there is no such group",
-        "Define it first, as one of 0 to 15, or name the carts";
-    27 StoreFull "the store has too little room for this table",
-        "Take wire and radio steps until a full table is deleted, then send again";
-    28 NotHeld "the message is not held",
-        "Nothing needs to be done: all have it, or it was never sent";
-    29 StillNamed "a held message names the cart",
-        "Let all whom it names receive it, run the lines to its last delete, and retire the cart then";
+    1 Cut "a frame is cut short";
+    2 Kind "a frame has a kind that is not there";
+    3 Field "a field that the frame's kind does not list is not zero, or a flag is above 1";
+    4 Text "a text is longer than 32 octets, or that of a long send has not 33 to 512";
+    5 Floor "the floor is not started, a lent part has the wrong length, or its words are not those of a floor";
+    6 Started "the floor is started already";
+    7 Limits "a start with more stations or carts than there may be, or with none";
+    8 Station "the floor has no such station";
+    9 Cart "the floor has no such cart";
+    10 Entered "the cart is on the floor already";
+    11 NoCarts "the set of carts is empty";
+    12 NamedOutside "a cart of the set is not on the floor now";
+    13 Numbers "the station has used its last number";
+    14 Held "as many messages are held as there may be";
+    15 Line "the line is empty";
+    16 Elsewhere "the cart is not at this station";
+    17 NotItsTurn "the head of the queue is not for this cart";
+    18 Outside "the cart is not on the floor now";
+    19 OnItsWay "the cart is leaving or travelling";
+    20 There "the cart is at this station already";
+    21 Buffer "the lent buffer is shorter than the text, or, to run until quiet, than 512 octets";
+    24 NoText "the text is empty";
+    25 Unsteady "the cart is not steady";
+    26 Group "the group is not defined, or above 15";
+    27 Store "fewer octets of the store are free than the text has";
+    28 NotHeld "the message is not held";
+    29 Named "a held message names the cart";
 }
 
 impl Refusal {
@@ -115,14 +73,6 @@ impl Refusal {
     pub fn of(number: u64) -> Option<Refusal> {
         Refusal::ALL.iter().copied().find(|refusal| refusal.number() == number)
     }
-
-    /// The first word of an answer: 0, or the refusal's number.
-    pub(crate) fn or_accepted(number: u64) -> Result<(), Refusal> {
-        match number {
-            0 => Ok(()),
-            _ => Err(Refusal::of(number).expect("every refusal has a name")),
-        }
-    }
 }
 
 impl fmt::Display for Refusal {
@@ -131,25 +81,4 @@ impl fmt::Display for Refusal {
     }
 }
 
-/// With number and words, for whoever sees it in a panic or as the error of a program.
-impl fmt::Debug for Refusal {
-    fn fmt(&self, f: &mut fmt::Formatter) -> fmt::Result {
-        write!(f, "{} ({self})", self.name())
-    }
-}
-
 impl std::error::Error for Refusal {}
-
-#[cfg(test)]
-mod tests {
-    use super::*;
-
-    /// A number that nobody knows is not taken for an accepted event.
-    #[test]
-    #[should_panic(expected = "every refusal has a name")]
-    fn a_number_without_a_name() {
-        assert_eq!(Refusal::or_accepted(0), Ok(()));
-        assert_eq!(Refusal::or_accepted(15), Err(Refusal::LineEmpty));
-        let _ = Refusal::or_accepted(22);
-    }
-}

@@ -54,7 +54,7 @@ fn cut_anywhere() {
         let good = lines.lines().zip(printed.lines()).take_while(|(a, b)| a == b).count();
         assert_eq!(lines.lines().count() as u64, ran.frames);
         if ran.ended.is_some() {
-            assert_eq!(ran.ended, Some(Refusal::CutFrame));
+            assert_eq!(ran.ended, Some(Refusal::Cut));
             assert!(
                 ran.octets < size as u64 && lines.ends_with(&format!("{good} no 1\n")),
                 "cut after {size} octets"

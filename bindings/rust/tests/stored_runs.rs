@@ -104,22 +104,22 @@ fn a_clone_is_a_floor_of_its_own() {
     floor.start(2, 1).unwrap();
     let mut other = floor.clone();
     other.enter(Station(0), Cart(0)).unwrap();
-    assert_eq!(other.enter(Station(0), Cart(0)), Err(Refusal::AlreadyEntered));
+    assert_eq!(other.enter(Station(0), Cart(0)), Err(Refusal::Entered));
     assert!(floor.enter(Station(1), Cart(0)).is_ok());
 }
 
 #[test]
 fn any_numbers() {
     let mut floor = Floor::new();
-    assert_eq!(floor.quiet(), Err(Refusal::NoFloor));
-    assert_eq!(floor.start(u64::MAX, 1), Err(Refusal::FloorSize));
+    assert_eq!(floor.quiet(), Err(Refusal::Floor));
+    assert_eq!(floor.start(u64::MAX, 1), Err(Refusal::Limits));
     floor.start(16, 64).unwrap();
-    assert_eq!(floor.enter(Station(u64::MAX), Cart(0)), Err(Refusal::NoSuchStation));
-    assert_eq!(floor.enter(Station(0), Cart(u64::MAX)), Err(Refusal::NoSuchCart));
-    assert_eq!(floor.group(u64::MAX, Carts(0)), Err(Refusal::NoSuchGroup));
-    assert_eq!(floor.send_group(Station(0), u64::MAX, b"x"), Err(Refusal::NoSuchGroup));
+    assert_eq!(floor.enter(Station(u64::MAX), Cart(0)), Err(Refusal::Station));
+    assert_eq!(floor.enter(Station(0), Cart(u64::MAX)), Err(Refusal::Cart));
+    assert_eq!(floor.group(u64::MAX, Carts(0)), Err(Refusal::Group));
+    assert_eq!(floor.send_group(Station(0), u64::MAX, b"x"), Err(Refusal::Group));
     assert_eq!(floor.text_of(Station(0), u64::MAX), Err(Refusal::NotHeld));
-    assert_eq!(floor.retire(Cart(64)), Err(Refusal::NoSuchCart));
-    assert_eq!(floor.send(Station(0), Carts(1), &[0; 33]), Err(Refusal::TextLength));
-    assert_eq!(floor.send_long(Station(0), Carts(1), &[0; 513]), Err(Refusal::TextLength));
+    assert_eq!(floor.retire(Cart(64)), Err(Refusal::Cart));
+    assert_eq!(floor.send(Station(0), Carts(1), &[0; 33]), Err(Refusal::Text));
+    assert_eq!(floor.send_long(Station(0), Carts(1), &[0; 513]), Err(Refusal::Text));
 }

@@ -3,7 +3,7 @@
 
 use plain::StationNo;
 
-use crate::story::{Mark, Stay, Story, When};
+use crate::story::{Mark, Stay, Story};
 
 /// Rows of a short run, in which every row has its words beside it: 30 of them fit a screen.
 const ROOMY: f64 = 22.0;
@@ -94,14 +94,6 @@ impl Layout {
         self.top + (row as f64 + 0.5) * self.row
     }
 
-    /// The middle of a row; above the first one for what was there before.
-    pub fn at(&self, when: When) -> f64 {
-        match when {
-            When::Before => self.top - 6.0,
-            When::In(row) => self.y(row),
-        }
-    }
-
     /// Below the last row.
     pub fn bottom(&self) -> f64 {
         self.top + self.rows as f64 * self.row
@@ -168,7 +160,7 @@ fn lanes_of(story: &Story) -> (Vec<usize>, Vec<usize>) {
     let lane_of = |stay: &Stay| {
         let ends = &mut ends[stay.station.0 as usize];
         let end = stay.left.unwrap_or(usize::MAX);
-        match ends.iter().position(|last| *last < stay.came.row()) {
+        match ends.iter().position(|last| *last < stay.came) {
             Some(free) => {
                 ends[free] = end;
                 free

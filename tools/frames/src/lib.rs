@@ -12,7 +12,6 @@ pub mod layout;
 pub mod page;
 pub mod picture;
 pub mod random;
-pub mod range;
 pub mod received;
 pub mod refused;
 pub mod script;

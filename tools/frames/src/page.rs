@@ -1,20 +1,16 @@
 //! A run as one page for a browser: the picture, and beside it the floor at each step. The page
 //! loads nothing from elsewhere.
 
-use plain::floor::CARTS;
 use plain::frames::Event;
-use plain::view::Name;
 use plain::{CartNo, Limits};
 
 use crate::cells::{cells, changes, Cells};
 use crate::json;
 use crate::layout::Layout;
 use crate::picture::{legend, life_lines, names, title, LEGEND, STYLE};
-use crate::range::Range;
-use crate::received::{note, Receipt};
 use crate::shapes::{escaped, shapes};
-use crate::story::{Story, When};
-use crate::walk::{BadFrame, Moment};
+use crate::story::Story;
+use crate::walk::{BadFrame, Moment, Walk};
 use crate::words::{digits, short};
 
 const PAGE: &str = include_str!("page/page.html");
@@ -24,74 +20,48 @@ const SCRIPT: &str = include_str!("page/page.js");
 const NAMES: f64 = 16.0;
 /// How wide the legend is.
 const LEGEND_WIDTH: f64 = 330.0;
-/// A browser takes a page of so many frames well: of a full floor they are 17 MB, there in half a second, and a step takes 70 milliseconds.
-pub const MOST: usize = 20_000;
-/// Of what a cart received before the first frame that is shown, the page has so many of the last.
-const EARLIER: usize = 8;
 
 /// What the page knows of a run.
+#[derive(Default)]
 struct Run {
     story: Story,
     /// What each frame changed of the floor's cells, in JSON.
     changes: Vec<String>,
     /// When a cart entered.
-    entries: Vec<(When, CartNo)>,
-    /// For each cart, what it had received before the first frame that is shown.
-    earlier: Vec<Vec<Receipt>>,
+    entries: Vec<(usize, CartNo)>,
+    held: usize,
 }
 
-/// The page of a run, or of those of its frames that are in a range, as far as they are whole; and
-/// the frame that ended the run, if one did. `told` hears how many octets have been read.
+/// The page of a run. `told` hears now and then how many octets have been read.
 pub fn page(
     octets: &[u8],
     limits: Limits,
-    range: Range,
     mut told: impl FnMut(usize),
-) -> (String, Option<BadFrame>) {
-    let (mut changed, mut before) = (Vec::new(), Cells::new());
-    let (mut entries, mut earlier) = (Vec::new(), vec![Vec::new(); CARTS]);
-    let story = Story::of(octets, limits, range, |moment, walk, shown| {
-        note_entry(moment, range.first, &mut entries);
-        if shown {
-            // A refusal changes nothing; but the first frame that is shown has all of the floor.
-            let same = moment.answer.is_err() && moment.index > range.first;
-            let after = if same { before.clone() } else { cells(walk.floor()) };
-            changed.push(json::object(&changes(&before, &after)));
-            before = after;
-        } else {
-            note(moment, &mut earlier);
-        }
+) -> Result<String, BadFrame> {
+    let mut walk = Walk::new(octets, limits);
+    let (mut run, mut before) = (Run::default(), Cells::new());
+    while let Some(moment) = walk.step()? {
+        run.story.add(&moment, walk.floor());
+        run.note_entry(&moment);
+        // A refusal changes nothing.
+        let after = if moment.answer.is_ok() { cells(walk.floor()) } else { before.clone() };
+        run.changes.push(json::object(&changes(&before, &after)));
+        before = after;
         told(walk.position());
-    });
-    // What is no frame changes nothing either.
-    changed.resize(story.rows.len(), json::object([]));
-    let run = Run { story, changes: changed, entries, earlier };
-    (run.page(), run.story.bad)
-}
-
-/// Notes when a cart enters.
-fn note_entry(moment: &Moment, first: usize, entries: &mut Vec<(When, CartNo)>) {
-    if let (&Event::Enter { cart, .. }, Ok(_)) = (&moment.event, &moment.answer) {
-        match moment.index.checked_sub(first) {
-            Some(row) => entries.push((When::In(row), cart)),
-            // Once is enough.
-            None if entries.contains(&(When::Before, cart)) => (),
-            None => entries.push((When::Before, cart)),
-        }
     }
-}
-
-/// A row as the page's script has it: what was before the first one has -1.
-fn row_of(when: When) -> String {
-    match when {
-        When::Before => "-1".into(),
-        When::In(row) => row.to_string(),
-    }
+    run.held = walk.floor().held();
+    Ok(run.page())
 }
 
 impl Run {
+    fn note_entry(&mut self, moment: &Moment) {
+        if let (Event::Enter { cart, .. }, Ok(_)) = (&moment.event, &moment.answer) {
+            self.entries.push((moment.index, *cart));
+        }
+    }
+
     fn page(&self) -> String {
-        let [size, came] = title(&self.story);
+        let [size, came] = title(&self.story, self.held);
         let (legend, rows) = legend(LEGEND_WIDTH);
         let last = self.story.rows.len().saturating_sub(1).to_string();
         let height = (rows as f64 * LEGEND + 8.0).to_string();
@@ -116,40 +86,26 @@ impl Run {
             let (printed, sentence) = (json::text(&row.printed), json::text(&row.sentence));
             json::list([printed, sentence, (row.refused as u8).to_string()])
         });
-        let entries =
-            self.entries.iter().map(|(when, cart)| json::list([row_of(*when), cart.0.to_string()]));
-        let earlier =
-            self.earlier.iter().map(|list| list.len().saturating_sub(EARLIER).to_string());
+        let receipts = story.marks.iter().filter_map(|mark| {
+            let (row, cart) = (mark.row.to_string(), mark.receiver?.0.to_string());
+            let (name, text) = (json::text(&short(mark.name)), json::text(&digits(&mark.text)));
+            Some(json::list([row, cart, name, text]))
+        });
+        let entries = self
+            .entries
+            .iter()
+            .map(|(row, cart)| json::list([row.to_string(), cart.0.to_string()]));
         format!(
-            "{{\"stations\":{},\"carts\":{},\"first\":{},\n\"frames\":{},\n\"changes\":{},\n\"receipts\":{},\n\
-             \"earlier\":{},\n\"entries\":{},\n\"picture\":{}}}",
+            "{{\"stations\":{},\"carts\":{},\n\"frames\":{},\n\"changes\":{},\n\"receipts\":{},\n\
+             \"entries\":{},\n\"picture\":{}}}",
             story.stations,
             story.carts,
-            story.first,
             json::list(frames),
             json::list(self.changes.iter().cloned()),
-            json::list(self.receipts()),
-            json::list(earlier),
+            json::list(receipts),
             json::list(entries),
             self.picture()
         )
-    }
-
-    /// What carts received: the last of what they had before the first row, and what they got since.
-    fn receipts(&self) -> impl Iterator<Item = String> + '_ {
-        let one = |when: When, cart: CartNo, name: Name, text: &[u8]| {
-            let (name, text) = (json::text(&short(name)), json::text(&digits(text)));
-            json::list([row_of(when), cart.0.to_string(), name, text])
-        };
-        let carts = (0..).map(CartNo).zip(&self.earlier);
-        let earlier = carts.flat_map(move |(cart, list)| {
-            let last = &list[list.len().saturating_sub(EARLIER)..];
-            last.iter().map(move |receipt| one(When::Before, cart, receipt.name(), &receipt.text))
-        });
-        let shown = self.story.marks.iter().filter_map(move |mark| {
-            Some(one(When::In(mark.row), mark.receiver?, mark.name, &mark.text))
-        });
-        earlier.chain(shown)
     }
 
     /// The picture, in parts with the rows that they reach over.
@@ -196,8 +152,7 @@ mod tests {
 
     #[test]
     fn a_run_without_frames() {
-        let (page, bad) = page(&[], Limits::FLOOR, Range::ALL, |_| ());
-        assert_eq!(bad, None);
+        let page = page(&[], Limits::FLOOR, |_| ()).unwrap();
         assert!(page.contains("<h1>0 frames, 0 stations, 0 carts</h1>"));
     }
 }

@@ -7,12 +7,12 @@
 
 use std::fmt::Write;
 
-use plain::{Limits, Refusal};
+use plain::Limits;
 
 use crate::layout::Layout;
-use crate::range::Range;
 use crate::shapes::{cross, shapes};
 use crate::story::Story;
+use crate::walk::{BadFrame, Walk};
 use crate::words::counted;
 
 /// The style of pictures, of their own and in the page.
@@ -22,17 +22,22 @@ const TOP: f64 = 72.0;
 /// A row of the legend.
 pub const LEGEND: f64 = 20.0;
 
-/// The picture of a run, or of those of its frames that are in a range, as far as they are whole.
-pub fn picture(octets: &[u8], limits: Limits, range: Range) -> String {
-    draw(&Story::of(octets, limits, range, |_, _, _| ()))
+/// The picture of a run.
+pub fn picture(octets: &[u8], limits: Limits) -> Result<String, BadFrame> {
+    let mut walk = Walk::new(octets, limits);
+    let mut story = Story::new();
+    while let Some(moment) = walk.step()? {
+        story.add(&moment, walk.floor());
+    }
+    Ok(draw(&story, walk.floor().held()))
 }
 
 /// A picture on its own, with title and legend.
-pub fn draw(story: &Story) -> String {
+fn draw(story: &Story, held: usize) -> String {
     let layout = Layout::for_paper(story, TOP);
     let (legend, rows) = legend(layout.width());
     let (width, height) = (layout.width(), layout.bottom() + 22.0 + rows as f64 * LEGEND);
-    let [size, came] = title(story);
+    let [size, came] = title(story, held);
     let dense = if layout.is_wordy() { "" } else { " dense" };
     let mut svg = format!(
         "<svg xmlns=\"http://www.w3.org/2000/svg\" class=\"run\" role=\"img\" \
@@ -54,28 +59,18 @@ pub fn draw(story: &Story) -> String {
 }
 
 /// What a run was: its size, and what came of it.
-pub fn title(story: &Story) -> [String; 2] {
+pub fn title(story: &Story, held: usize) -> [String; 2] {
     let received = story.marks.iter().filter(|mark| mark.receiver.is_some()).count();
-    let frames = story.frames();
-    let refused = story.rows[..frames].iter().filter(|row| row.refused).count();
-    let shown = match story.first {
-        0 => counted(frames as u64, "frame"),
-        first => format!("frames {first} to {}", first + frames.max(1) - 1),
-    };
+    let refused = story.rows.iter().filter(|row| row.refused).count();
     let size = format!(
-        "{shown}, {}, {}",
+        "{}, {}, {}",
+        counted(story.rows.len() as u64, "frame"),
         counted(story.stations.into(), "station"),
         counted(story.carts.into(), "cart"),
     );
-    let ended = match story.bad.as_ref().map(|bad| bad.refusal) {
-        None => "",
-        Some(Refusal::CutFrame) => "; then cut short",
-        Some(_) => "; then damaged",
-    };
     let came = format!(
-        "{} sent and {} still held, {}, {} refused{ended}",
+        "{} sent and {held} still held, {}, {} refused",
         counted((story.marks.len() - received) as u64, "correction"),
-        story.held,
         counted(received as u64, "receipt"),
         counted(refused as u64, "frame"),
     );

@@ -6,14 +6,12 @@
 //! So the list goes by cart and then by initiator, and two such runs give the same list.
 
 use std::fmt;
-use std::io::{self, Read};
 
 use plain::floor::CARTS;
 use plain::frames::Event;
-use plain::view::Name;
-use plain::{CartNo, Limits, MessageNo, StationNo};
+use plain::{CartNo, Limits, StationNo};
 
-use crate::walk::{BadFrame, Moment, More, Stream};
+use crate::walk::{BadFrame, Moment, Walk};
 
 /// A correction that a cart received.
 #[derive(Clone, Debug, PartialEq, Eq)]
@@ -21,12 +19,6 @@ pub struct Receipt {
     pub initiator: StationNo,
     pub number: u32,
     pub text: Vec<u8>,
-}
-
-impl Receipt {
-    pub fn name(&self) -> Name {
-        Name { initiator: self.initiator, number: MessageNo(self.number) }
-    }
 }
 
 /// What the carts of a run received.
@@ -38,8 +30,6 @@ pub struct Received {
     pub carts: Vec<Vec<Receipt>>,
     /// Messages that are held at the end.
     pub held: usize,
-    /// The frame that ended the run, if one did.
-    pub bad: Option<BadFrame>,
 }
 
 impl Received {
@@ -50,24 +40,19 @@ impl Received {
     }
 }
 
-/// What the carts of a run received, as far as its frames are whole.
-pub fn received(input: impl Read, limits: Limits) -> io::Result<Received> {
-    let mut stream = Stream::new(input, limits);
+/// What the carts of a run received.
+pub fn received(octets: &[u8], limits: Limits) -> Result<Received, BadFrame> {
+    let mut walk = Walk::new(octets, limits);
     let mut carts = vec![Vec::new(); CARTS];
-    let bad = loop {
-        match stream.read(|moment, _| note(moment, &mut carts))? {
-            More::GoesOn => continue,
-            More::Ended => break None,
-            More::Bad(bad) => break Some(bad),
-        }
-    };
-    let floor = stream.floor();
+    while let Some(moment) = walk.step()? {
+        note(&moment, &mut carts);
+    }
+    let floor = walk.floor();
     carts.truncate(floor.carts() as usize);
-    Ok(Received { stations: floor.stations(), carts, held: floor.held(), bad })
+    Ok(Received { stations: floor.stations(), carts, held: floor.held() })
 }
 
-/// Notes what a frame hands over. The list of a cart begins anew with its entry.
-pub fn note(moment: &Moment, carts: &mut [Vec<Receipt>]) {
+fn note(moment: &Moment, carts: &mut [Vec<Receipt>]) {
     match (&moment.event, &moment.answer) {
         (Event::Enter { cart, .. }, Ok(_)) => carts[cart.0 as usize].clear(),
         (Event::Radio { cart, .. }, Ok(step)) => carts[cart.0 as usize].push(Receipt {
@@ -95,15 +80,6 @@ impl fmt::Display for Received {
                 }
             }
         }
-        match &self.bad {
-            None => writeln!(f, "held at the end: {}", self.held),
-            Some(bad) => {
-                writeln!(
-                    f,
-                    "held before frame {}, which is no whole frame: {}",
-                    bad.index, self.held
-                )
-            }
-        }
+        writeln!(f, "held at the end: {}", self.held)
     }
 }

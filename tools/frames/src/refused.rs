@@ -1,4 +1,4 @@
-//! Refusals in words: what the table of answers says, what it is about here, and what to do about it.
+//! Refusals in words: the row of the table, what it is about here, and what to do about it.
 //!
 //! A refusal changes nothing, so the floor that is handed in is the one that refused.
 
@@ -6,30 +6,41 @@ use plain::floor::carts_of;
 use plain::frames::Event;
 use plain::view::{Carried, Name};
 use plain::{CartNo, Floor, Place, Refusal, StationNo};
-use shared::answers::{self, Answer};
 
 use crate::words::{agree, capital, carts, correction, corrections, counted, numbers, place};
 
-/// Letters of a refusal in a picture.
-const BRIEF: usize = 34;
-
-/// What the table of answers says of a refusal.
-fn answer(refusal: Refusal) -> &'static Answer {
-    answers::refusal(refusal.number()).expect("the table has every refusal")
-}
-
-/// What a refusal says.
+/// The row of the table of refusals, in few words.
 pub fn row(refusal: Refusal) -> &'static str {
-    answer(refusal).says
-}
-
-/// The same in few letters, for pictures: its name where there is no room for what it says.
-pub fn brief(refusal: Refusal) -> String {
-    let Answer { says, name, .. } = answer(refusal);
-    if says.len() <= BRIEF {
-        says.to_string()
-    } else {
-        name.replace('_', " ")
+    match refusal {
+        Refusal::CutFrame => "the frame is cut short",
+        Refusal::UnknownKind => "no such kind of event",
+        Refusal::StrayField => "a field that the kind does not have",
+        Refusal::LongText => "a text of this length is not allowed",
+        Refusal::NotStarted => "not started",
+        Refusal::AlreadyStarted => "already started",
+        Refusal::FloorSize => "too many stations or carts",
+        Refusal::NoSuchStation => "no such station",
+        Refusal::NoSuchCart => "no such cart",
+        Refusal::AlreadyEntered => "the cart is now entered",
+        Refusal::EmptySet => "no cart is named",
+        Refusal::NamedNotEntered => "a named cart is not now entered",
+        Refusal::NumbersUsedUp => "the last number is used",
+        Refusal::NoRoom => "as many corrections are held as can be",
+        Refusal::LineEmpty => "the line is empty",
+        Refusal::NotAtStation => "the cart is not at this station",
+        Refusal::NotAtHead => "the queue's head is not for it",
+        Refusal::NotEntered => "the cart is not now entered",
+        Refusal::InHandOff => "the cart is leaving or travelling",
+        Refusal::AlreadyThere => "already there",
+        Refusal::ShortBuffer => "the buffer is shorter than the text",
+        Refusal::EmptyText => "the text is empty",
+        Refusal::NotSteady => "the cart is not steady",
+        Refusal::NoSuchGroup => "the group is not defined",
+        Refusal::StoreFull => "no room for a long text",
+        Refusal::NotHeld => "the correction is not held",
+        Refusal::StillNamed => "a held correction names the cart",
+        Refusal::ListsFull => "the lists are full",
+        Refusal::ListEmpty => "the list is empty",
     }
 }
 
@@ -266,7 +277,7 @@ fn still_named(cart: CartNo, floor: &Floor) -> Said {
 fn of_floor(event: &Event, refusal: Refusal, asked: &Asked, floor: &Floor) -> Said {
     let (stations, carts) = (floor.stations(), floor.carts());
     match (refusal, event) {
-        (Refusal::NoFloor, _) => {
+        (Refusal::NotStarted, _) => {
             ("no floor is started".into(), "Begin the run with a start".into())
         }
         (Refusal::AlreadyStarted, _) => {
@@ -295,7 +306,7 @@ fn of_floor(event: &Event, refusal: Refusal, asked: &Asked, floor: &Floor) -> Sa
             let why = format!("nothing is on its way from station {} to station {}", from.0, to.0);
             (why, "Nothing needs to be done".into())
         }
-        _ => ("it cannot be done now".into(), answer(refusal).advice.into()),
+        _ => ("it cannot be done now".into(), "See the table of refusals".into()),
     }
 }
 

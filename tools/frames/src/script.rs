@@ -111,10 +111,8 @@ fn wanted(word: &str) -> String {
 }
 
 fn number(what: &str, word: &str, least: u8, most: u8) -> Result<u8, String> {
-    // A sign is no digit, and a number that has one was meant for something else.
-    let digits = word.bytes().all(|octet| octet.is_ascii_digit());
     match word.parse() {
-        Ok(n) if digits && (least..=most).contains(&n) => Ok(n),
+        Ok(n) if (least..=most).contains(&n) => Ok(n),
         _ => Err(format!("{what}: {word:?} is not a number from {least} to {most}")),
     }
 }
@@ -311,7 +309,6 @@ mod tests {
         assert_eq!(mistake("start 17 1"), "line 1: stations: \"17\" is not a number from 1 to 16");
         assert_eq!(mistake("enter 0 64"), "line 1: cart: \"64\" is not a number from 0 to 63");
         assert_eq!(mistake("enter 0 -1"), "line 1: cart: \"-1\" is not a number from 0 to 63");
-        assert_eq!(mistake("enter 0 +1"), "line 1: cart: \"+1\" is not a number from 0 to 63");
         assert_eq!(mistake("send 0 1,,2 -"), "line 1: cart: \"\" is not a number from 0 to 63");
         assert_eq!(mistake("send 0 1,1 -"), "line 1: cart 1 is named twice");
         assert_eq!(

@@ -7,7 +7,7 @@ use plain::view::Carried;
 use plain::CartNo;
 
 use crate::layout::Layout;
-use crate::story::{Arrow, Mark, Stay, Story, When};
+use crate::story::{Arrow, Mark, Stay, Story};
 use crate::words::{brief, short};
 
 /// Words beside a row have at most so many letters.
@@ -30,7 +30,7 @@ pub fn shapes(story: &Story, layout: &Layout) -> Vec<Shape> {
         (0..layout.rows).filter_map(|row| index(story, layout, row)).collect();
     let stays = || story.stays.iter().zip(&layout.lanes);
     shapes.extend(stays().map(|(stay, lane)| band(stay, *lane, layout)));
-    shapes.extend(story.arrows.iter().map(|arrow| drawn_arrow(arrow, story.first, layout)));
+    shapes.extend(story.arrows.iter().map(|arrow| drawn_arrow(arrow, layout)));
     let room = NumberRoom::of(story, layout);
     let numbered = stays().enumerate();
     shapes.extend(numbered.flat_map(|(k, (stay, lane))| room.numbers(k, stay, *lane)));
@@ -48,12 +48,12 @@ pub fn shapes(story: &Story, layout: &Layout) -> Vec<Shape> {
 /// A row's index and hairline, and a cross if it is refused, where it has any of these.
 fn index(story: &Story, layout: &Layout, row: usize) -> Option<Shape> {
     let (y, end) = (layout.y(row), layout.margin() - 8.0);
-    let (refused, index) = (story.rows[row].refused, story.first + row);
+    let refused = story.rows[row].refused;
     let mut svg = String::new();
-    if index.is_multiple_of(layout.indexed()) {
+    if row.is_multiple_of(layout.indexed()) {
         let class = if refused { "i no" } else { "i" };
-        let _ = write!(svg, "<text class=\"{class}\" x=\"24\" y=\"{:.1}\">{index}</text>", y + 3.2);
-        if index.is_multiple_of((5 * layout.indexed()).min(10)) {
+        let _ = write!(svg, "<text class=\"{class}\" x=\"24\" y=\"{:.1}\">{row}</text>", y + 3.2);
+        if row.is_multiple_of((5 * layout.indexed()).min(10)) {
             let _ = write!(svg, "<path class=\"tick\" d=\"M34 {y:.1}H{end:.1}\"/>");
         }
     }
@@ -78,12 +78,10 @@ fn band(stay: &Stay, lane: usize, layout: &Layout) -> Shape {
     let (hue, wide) = (colour(stay.cart), layout.pitch - 2.0);
     let (line, left) = (layout.x(stay.station), layout.lane(stay.station, lane));
     let (top, end) =
-        (layout.at(stay.came), stay.left.map_or(layout.bottom() + 6.0, |row| layout.y(row)));
-    let leaving = stay.greeted.map_or(end, |when| layout.at(when));
-    let mut svg = format!("<g><title>cart {} at station {}</title>", stay.cart.0, stay.station.0);
-    if stay.came != When::Before {
-        let _ = write!(svg, "<path class=\"a e q{hue}\" d=\"M{line:.1} {top:.1}H{left:.1}\"/>");
-    }
+        (layout.y(stay.came), stay.left.map_or(layout.bottom() + 6.0, |row| layout.y(row)));
+    let leaving = stay.greeted.map_or(end, |row| layout.y(row));
+    let mut svg = format!("<g><title>cart {} at station {}", stay.cart.0, stay.station.0);
+    let _ = write!(svg, "</title><path class=\"a e q{hue}\" d=\"M{line:.1} {top:.1}H{left:.1}\"/>");
     for (class, from, to) in [("b", top, leaving), ("b l", leaving, end)] {
         if to > from {
             let _ = write!(
@@ -98,7 +96,7 @@ fn band(stay: &Stay, lane: usize, layout: &Layout) -> Shape {
         let _ = write!(svg, "<path class=\"a e q{hue}\" d=\"M{line:.1} {end:.1}H{left:.1}\"/>");
     }
     svg.push_str("</g>");
-    Shape { first: stay.came.row(), last: stay.left.unwrap_or(layout.rows), svg }
+    Shape { first: stay.came, last: stay.left.unwrap_or(layout.rows), svg }
 }
 
 /// Where the numbers of carts can stand on their bands, over everything that crosses these.
@@ -114,7 +112,7 @@ struct NumberRoom<'a> {
 
 impl<'a> NumberRoom<'a> {
     fn of(story: &Story, layout: &'a Layout) -> Self {
-        let starts = story.stays.iter().map(|stay| (stay.station.0, stay.came.row())).collect();
+        let starts = story.stays.iter().map(|stay| (stay.station.0, stay.came)).collect();
         let mut receipts = vec![Vec::new(); story.stays.len()];
         for (mark, stay) in story.marks.iter().filter_map(|mark| Some((mark, mark.stay?))) {
             receipts[stay].push(mark.row);
@@ -126,8 +124,8 @@ impl<'a> NumberRoom<'a> {
     fn numbers(&self, k: usize, stay: &Stay, lane: usize) -> Vec<Shape> {
         let (layout, wide) = (self.layout, self.layout.pitch - 2.0);
         let x = layout.lane(stay.station, lane) + wide / 2.0;
-        // On a narrow band the number stands over its edges, and on a hollow one it is dark.
-        let class = match wide >= 9.0 && stay.greeted != Some(When::Before) {
+        // On a narrow band the number stands over its edges.
+        let class = match wide >= 9.0 {
             true => format!("c q{}", colour(stay.cart)),
             false => "c h".into(),
         };
@@ -142,10 +140,8 @@ impl<'a> NumberRoom<'a> {
     /// The rows that have the number of the k-th stay.
     fn rows(&self, k: usize, stay: &Stay, lane: usize) -> Vec<usize> {
         let every = (AGAIN / self.layout.row) as usize;
-        let end = stay.greeted.map(When::row).or(stay.left).unwrap_or(self.layout.rows);
-        let end = end.saturating_sub(self.high);
-        let came = stay.came.row();
-        let first = (came..end).find(|row| !self.is_covered(k, *row)).unwrap_or(came);
+        let end = stay.greeted.or(stay.left).unwrap_or(self.layout.rows).saturating_sub(self.high);
+        let first = (stay.came..end).find(|row| !self.is_covered(k, *row)).unwrap_or(stay.came);
         // The numbers are wider than a narrow lane. So those of lanes beside each other are not in
         // the same row, and none is repeated beside the beginning of a band.
         let own = |row: &usize| row % every == lane % 3 * self.high;
@@ -182,9 +178,9 @@ fn style(record: Carried) -> (String, String) {
 }
 
 /// A record's way. The head is open where it is still on the line.
-fn drawn_arrow(arrow: &Arrow, index: usize, layout: &Layout) -> Shape {
+fn drawn_arrow(arrow: &Arrow, layout: &Layout) -> Shape {
     let (class, what) = style(arrow.record);
-    let from = (layout.x(arrow.from), layout.at(arrow.put));
+    let from = (layout.x(arrow.from), layout.y(arrow.put));
     let end = arrow.handled.map_or(layout.bottom() + 6.0, |row| layout.y(row));
     let to = (layout.x(arrow.to), end);
     // A filled head: handled. An open one: still on the line.
@@ -196,24 +192,14 @@ fn drawn_arrow(arrow: &Arrow, index: usize, layout: &Layout) -> Shape {
             (format!("M{:.1} {:.1}L{:.1} {:.1}", from.0, from.1, to.0, to.1), tip(from, to, size))
         }
     };
-    let put = match arrow.put {
-        When::Before => None,
-        When::In(row) => Some(row),
-    };
-    let said = |row: Option<usize>| row.map_or("-".into(), |row| row.to_string());
-    let frame = |row: Option<usize>| said(row.map(|row| index + row));
+    let handled = arrow.handled.map_or("-".into(), |row| row.to_string());
     let svg = format!(
-        "<g data-p=\"{}\" data-h=\"{}\"><title>{what}, from {} to {}, frames {} to {}\
+        "<g data-p=\"{0}\" data-h=\"{handled}\"><title>{what}, from {1} to {2}, frames {0} to {handled}\
          </title><path class=\"a {class}{open}\" d=\"{way}\"/>\
          <path class=\"a {class}{fill}{open}\" d=\"{tip}\"/></g>",
-        said(put),
-        said(arrow.handled),
-        arrow.from.0,
-        arrow.to.0,
-        frame(put),
-        frame(arrow.handled),
+        arrow.put, arrow.from.0, arrow.to.0,
     );
-    Shape { first: arrow.put.row(), last: arrow.handled.unwrap_or(layout.rows), svg }
+    Shape { first: arrow.put, last: arrow.handled.unwrap_or(layout.rows), svg }
 }
 
 /// The way of a record from a station to itself, at the left of its life line.
@@ -264,7 +250,7 @@ fn mark_words(story: &Story, layout: &Layout, mark: &Mark, height: f64) -> Shape
          <text class=\"{class}\" x=\"{margin:.1}\" y=\"{:.1}\">{} {}</text>",
         layout.x(mark.station),
         height + 3.0,
-        story.first + mark.row,
+        mark.row,
         fitted(&story.rows[mark.row].short)
     );
     // Words may stand a few rows from their own.

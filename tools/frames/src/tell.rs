@@ -1,79 +1,37 @@
 //! A run as sentences: each event and what came of it, beside the numbers that `floor` prints.
 
-use std::fmt::Write;
-use std::io::{self, Read};
+use std::fmt::{self, Write};
 
 use plain::frames::{self, Event};
 use plain::view::{Carried, Name};
 use plain::{CartNo, Floor, GroupNo, Limits, MessageNo, Place, StationNo, Step};
 
-use crate::range::Range;
 use crate::refused;
-use crate::walk::{BadFrame, Moment, More, Stream};
+use crate::walk::{BadFrame, Moment, Walk};
 use crate::words::{agree, brief, capital, carts, correction, counted, listed, short, text};
 
-/// The numbers of most frames are no wider. Wider ones make the column wider from there on.
-const COLUMN: usize = 20;
-
-/// Tells a run as it is read: a line for each frame, with what `floor` prints for it, but for a
-/// text, and the sentence.
-pub struct Teller<R> {
-    stream: Stream<R>,
-    range: Range,
-    column: Column,
-    /// Frames of the run so far.
-    frames: usize,
+/// The lines of a run.
+pub struct Told {
+    /// What `floor` prints, without a text, and the sentence.
+    lines: Vec<(String, String)>,
 }
 
-impl<R: Read> Teller<R> {
-    pub fn new(input: R, limits: Limits, range: Range) -> Self {
-        Teller { stream: Stream::new(input, limits), range, column: Column(COLUMN), frames: 0 }
+/// Tells a run.
+pub fn tell(octets: &[u8], limits: Limits) -> Result<Told, BadFrame> {
+    let mut walk = Walk::new(octets, limits);
+    let mut lines = Vec::new();
+    while let Some(moment) = walk.step()? {
+        lines.push((printed(&moment), sentence(&moment, walk.floor())));
     }
-
-    /// Frames of the run so far, also those that are not told.
-    pub fn frames(&self) -> usize {
-        self.frames
-    }
-
-    /// Reads once, and adds the lines of the frames that are now whole. What is no frame has a line
-    /// too, the last one.
-    pub fn read(&mut self, lines: &mut String) -> io::Result<More> {
-        let Teller { stream, range, column, frames } = self;
-        let more = stream.read(|moment, floor| {
-            *frames = moment.index + 1;
-            if range.has(moment.index) {
-                column.add(&printed(moment), &sentence(moment, floor), lines);
-            }
-        })?;
-        if *frames > range.last {
-            return Ok(More::Ended);
-        }
-        if let More::Bad(bad) = &more {
-            column.add(&bad.printed(), &bad.sentence(), lines);
-        }
-        Ok(more)
-    }
+    Ok(Told { lines })
 }
 
-/// How wide the numbers stand.
-struct Column(usize);
-
-impl Column {
-    fn add(&mut self, printed: &str, sentence: &str, lines: &mut String) {
-        self.0 = self.0.max(printed.len());
-        let _ = writeln!(lines, "{printed:0$}  {sentence}", self.0);
-    }
-}
-
-/// Tells a run that is in memory: its lines, and the frame that ended it, if one did.
-pub fn tell(octets: &[u8], limits: Limits) -> (String, Option<BadFrame>) {
-    let (mut teller, mut lines) = (Teller::new(octets, limits, Range::ALL), String::new());
-    loop {
-        match teller.read(&mut lines).expect("memory can be read") {
-            More::GoesOn => continue,
-            More::Ended => return (lines, None),
-            More::Bad(bad) => return (lines, Some(bad)),
-        }
+impl fmt::Display for Told {
+    fn fmt(&self, f: &mut fmt::Formatter) -> fmt::Result {
+        let width = self.lines.iter().map(|(printed, _)| printed.len()).max().unwrap_or(0);
+        self.lines
+            .iter()
+            .try_for_each(|(printed, sentence)| writeln!(f, "{printed:width$}  {sentence}"))
     }
 }
 
@@ -324,7 +282,7 @@ fn registered(cart: CartNo, to: StationNo, step: &Step, floor: &Floor) -> String
 pub fn in_short(moment: &Moment) -> String {
     let step = match &moment.answer {
         Ok(step) => step,
-        Err(refusal) => return format!("no {}: {}", refusal.number(), refused::brief(*refusal)),
+        Err(refusal) => return format!("no {}: {}", refusal.number(), refused::row(*refusal)),
     };
     let sent = |to: String, text: &[u8]| format!("{}:{} to {to}: {}", step.a, step.b, brief(text));
     match moment.event {

@@ -12,7 +12,6 @@ use frames::cells::cells;
 use frames::generate::{stream, Wishes};
 use frames::json;
 use frames::page::page;
-use frames::range::Range;
 use frames::script::script;
 use frames::tell::tell;
 use frames::walk::Walk;
@@ -53,36 +52,19 @@ const RETURNS: &str =
 #[test]
 fn a_browser_shows_the_floor_at_each_step() {
     let octets = fs::read(path("../../examples/hand-off.frames")).unwrap();
-    let of = |octets: &[u8]| page(octets, Limits::FLOOR, Range::ALL, |_| ()).0;
+    let of = |octets: &[u8]| page(octets, Limits::FLOOR, |_| ()).unwrap();
     let short = kept("hand-off.html", &of(&octets));
-    let told = kept("hand-off.tell", &tell(&octets, Limits::FLOOR).0);
+    let told = kept("hand-off.tell", &tell(&octets, Limits::FLOOR).unwrap().to_string());
     let octets = stream(9, 3_000, Wishes { groups: 20, retire: 5, ..Wishes::default() }).0;
     let (long, floors) = (kept("long.html", &of(&octets)), kept("long.floors", &floors(&octets)));
     let drive = path("tests/browser/drive_page.py");
     let returns = kept("returns.html", &of(&script(RETURNS).unwrap()));
-    let octets = fs::read(path("../../examples/hand-off.frames")).unwrap();
-    let part = page(&octets, Limits::FLOOR, "8-12".parse().unwrap(), |_| ()).0;
-    let files = [short, told, long, floors, returns, kept("part.html", &part)];
+    let files = [short, told, long, floors, returns];
     let driven = Command::new("python3").arg("-B").arg(drive).args(files).output();
     let Ok(driven) = driven else { return skip("skipped, no python3 to drive it") };
     let (said, wrong) = (text(&driven.stdout), text(&driven.stderr));
     match driven.status.code() {
         Some(SKIPPED) => skip(said),
         status => assert_eq!(status, Some(0), "{said}{wrong}"),
-    }
-}
-
-/// A browser that CHROMIUM names and that is none is not passed over in silence.
-#[test]
-fn a_browser_that_is_none_is_named() {
-    let drive = path("tests/browser/drive_page.py");
-    for (named, said) in [
-        ("/nowhere/chromium", "CHROMIUM: /nowhere/chromium is not there, or no program\n"),
-        ("/bin/true", "/bin/true does not answer as Chromium does\n"),
-    ] {
-        let mut driven = Command::new("python3");
-        driven.arg("-B").arg(&drive).args(["no-file"; 6]).env("CHROMIUM", named);
-        let Ok(driven) = driven.output() else { return skip("skipped, no python3 to drive it") };
-        assert_eq!((driven.status.code(), text(&driven.stderr)), (Some(1), said));
     }
 }

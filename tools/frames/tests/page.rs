@@ -2,13 +2,11 @@
 
 mod common;
 
-use common::{frames as program, stored, text};
+use common::stored;
 use frames::cells::{cells, Cells};
 use frames::generate::{stream, Wishes};
-use frames::page::{page, MOST};
-use frames::range::Range;
-use frames::received::{note, Receipt};
-use frames::script::script;
+use frames::page::page;
+use frames::received::received;
 use frames::walk::Walk;
 use plain::Limits;
 
@@ -64,8 +62,7 @@ fn value(text: &str) -> (Json, &str) {
             (Json::Object(pairs), rest)
         }
         _ => {
-            let end = text.find(|c: char| !c.is_ascii_digit() && !".-".contains(c));
-            let end = end.unwrap_or(text.len());
+            let end = text.find(|c: char| !c.is_ascii_digit() && c != '.').unwrap_or(text.len());
             (Json::Number(text[..end].parse().unwrap()), &text[end..])
         }
     }
@@ -111,16 +108,11 @@ fn data(page: &str) -> Json {
     read
 }
 
-/// Replays what a page has of a run's frames and compares every step with the floor itself.
-fn assert_replays(name: &str, octets: &[u8], limits: Limits, range: Range) {
-    let (page, bad) = page(octets, limits, range, |_| ());
-    assert_eq!(bad, None, "{name}");
+/// Replays what a page has of a run and compares every step with the floor itself.
+fn assert_replays(name: &str, octets: &[u8], limits: Limits) {
+    let page = page(octets, limits, |_| ()).unwrap();
     let run = data(&page);
-    assert_eq!(run.at("first").number(), range.first);
-    let (mut walk, mut lists) = (Walk::new(octets, limits), vec![Vec::new(); 64]);
-    for _ in 0..range.first {
-        note(&walk.step().unwrap().unwrap(), &mut lists);
-    }
+    let mut walk = Walk::new(octets, limits);
     let mut replayed = Cells::new();
     for (k, changes) in run.at("changes").list().iter().enumerate() {
         let Json::Object(changes) = changes else { panic!("no object: {changes:?}") };
@@ -130,42 +122,39 @@ fn assert_replays(name: &str, octets: &[u8], limits: Limits, range: Range) {
                 said => drop(replayed.insert(cell.clone(), said.into())),
             }
         }
-        note(&walk.step().unwrap().unwrap(), &mut lists);
-        assert_eq!(replayed, cells(walk.floor()), "{name}, frame {}", range.first + k);
+        walk.step().unwrap().unwrap();
+        assert_eq!(replayed, cells(walk.floor()), "{name}, frame {k}");
     }
-    let shown = run.at("changes").list().len();
-    assert_eq!(run.at("frames").list().len(), shown);
-    match range.last {
-        usize::MAX => {
-            assert!(walk.step().unwrap().is_none(), "{name}: every frame has its changes")
-        }
-        last => assert_eq!(shown, last + 1 - range.first, "{name}"),
-    }
+    assert!(walk.step().unwrap().is_none(), "{name}: every frame has its changes");
     assert_eq!(run.at("stations").number(), walk.floor().stations() as usize);
-    lists.iter().enumerate().for_each(|(cart, list)| assert_receipts(name, cart, list, &run));
+    assert_receipts(name, octets, limits, &run);
 }
 
-/// What a cart received by the page since its latest entry is what it received; those that the page
-/// only counts are the earliest.
-fn assert_receipts(name: &str, cart: usize, received: &[Receipt], run: &Json) {
-    // What was before the first frame has -1.
-    let row = |one: &Json| match one.list()[0] {
-        Json::Number(row) => row as isize,
-        _ => panic!("no row: {one:?}"),
-    };
-    let of_cart = |one: &&Json| one.list()[1].number() == cart;
-    let from = run.at("entries").list().iter().rfind(of_cart).map_or(0, row);
-    let receipts = run.at("receipts").list().iter().filter(of_cart);
-    let shown: Vec<(&str, &str)> = receipts
-        .filter(|receipt| row(receipt) >= from)
-        .map(|receipt| (receipt.list()[2].text(), receipt.list()[3].text()))
-        .collect();
-    let counted = if from < 0 { run.at("earlier").list()[cart].number() } else { 0 };
-    assert_eq!(shown.len() + counted, received.len(), "{name}, cart {cart}");
-    for (shown, receipt) in shown.iter().zip(&received[counted..]) {
-        let number = format!("{}:{}", receipt.initiator.0, receipt.number);
-        let text = frames::words::digits(&receipt.text);
-        assert_eq!(*shown, (&*number, &*text), "{name}, cart {cart}");
+/// What carts received by the page is what they received.
+fn assert_receipts(name: &str, octets: &[u8], limits: Limits, run: &Json) {
+    let received = received(octets, limits).unwrap();
+    for (cart, receipts) in received.carts.iter().enumerate() {
+        let entered = run.at("entries").list().iter();
+        let mut entered = entered.filter(|entry| entry.list()[1].number() == cart);
+        let from = entered.next_back().map_or(0, |entry| entry.list()[0].number());
+        let of_cart = |receipt: &&Json| {
+            receipt.list()[1].number() == cart && receipt.list()[0].number() >= from
+        };
+        let shown: Vec<(String, String)> = run
+            .at("receipts")
+            .list()
+            .iter()
+            .filter(of_cart)
+            .map(|receipt| (receipt.list()[2].text().into(), receipt.list()[3].text().into()))
+            .collect();
+        let wanted: Vec<(String, String)> = receipts
+            .iter()
+            .map(|receipt| {
+                let name = format!("{}:{}", receipt.initiator.0, receipt.number);
+                (name, frames::words::digits(&receipt.text))
+            })
+            .collect();
+        assert_eq!(shown, wanted, "{name}, cart {cart}");
     }
 }
 
@@ -173,56 +162,19 @@ fn assert_receipts(name: &str, cart: usize, received: &[Receipt], run: &Json) {
 fn the_page_replays_to_the_floor_after_every_frame() {
     let mut replayed = 0;
     for run in stored().iter().filter(|run| run.octets.len() < 30_000) {
-        // As far as its frames are whole.
-        let whole = match page(&run.octets, run.limits, Range::ALL, |_| ()).1 {
-            Some(bad) => &run.octets[..bad.octet],
-            None => &run.octets[..],
-        };
-        assert_replays(&run.name, whole, run.limits, Range::ALL);
-        replayed += 1;
+        if page(&run.octets, run.limits, |_| ()).is_ok() {
+            assert_replays(&run.name, &run.octets, run.limits);
+            replayed += 1;
+        }
     }
     assert!(replayed > 40, "{replayed} runs");
     let wishes = Wishes { groups: 20, long: 20, retire: 5, bad: 5, ..Wishes::default() };
-    let octets = stream(6, 2_000, wishes).0;
-    assert_replays("random", &octets, Limits::FLOOR, Range::ALL);
-    for range in ["0-0", "1-1", "5-99", "700-1500", "1990-1999", "1999-"] {
-        assert_replays(range, &octets, Limits::FLOOR, range.parse().unwrap());
-    }
-}
-
-/// A range may begin with a frame that changes nothing: the page has the floor all the same.
-#[test]
-fn a_range_that_begins_with_a_refusal() {
-    let octets = script("start 2 1\nenter 0 0\nenter 0 0\nwire 0 0\nmove 0 1\n").unwrap();
-    for range in ["2-", "3-3", "4-4"] {
-        assert_replays(range, &octets, Limits::FLOOR, range.parse().unwrap());
-    }
-    let (page, _) = page(&octets, Limits::FLOOR, "3-4".parse().unwrap(), |_| ());
-    assert!(page.contains("<h1>frames 3 to 4, 2 stations, 1 cart</h1>"));
-}
-
-#[test]
-fn a_run_that_is_cut_says_so_in_its_page() {
-    let octets = script("start 2 1\nenter 0 0\noctets 0102").unwrap();
-    let (page, bad) = page(&octets, Limits::FLOOR, Range::ALL, |_| ());
-    assert_eq!(bad.unwrap().octet, 32);
-    assert!(page.contains("<h1>2 frames, 2 stations, 1 cart</h1>"));
-    assert!(page.contains(", 0 frames refused; then cut short</p>"));
-    // What is no frame is the last one that is shown, and changes nothing.
-    let run = data(&page);
-    assert_eq!((run.at("frames").list().len(), run.at("changes").list().len()), (3, 3));
-    assert_eq!(run.at("changes").list()[2], Json::Object(vec![]));
-    let [printed, sentence, refused] = run.at("frames").list()[2].list() else { panic!() };
-    assert_eq!((printed.text(), refused.number()), ("2 no 1", 1));
-    assert!(sentence
-        .text()
-        .starts_with("Refused (1, the frame is cut short): only 2 of 16 octets"));
+    assert_replays("random", &stream(6, 2_000, wishes).0, Limits::FLOOR);
 }
 
 #[test]
 fn the_page_is_one_file_and_loads_nothing() {
-    let octets = stream(7, 300, Wishes::default()).0;
-    let page = page(&octets, Limits::FLOOR, Range::ALL, |_| ()).0;
+    let page = page(&stream(7, 300, Wishes::default()).0, Limits::FLOOR, |_| ()).unwrap();
     for word in ["http:", "https:", "src=", "href=", "@import", "url(", "fetch(", "XMLHttp"] {
         assert!(!page.contains(word), "{word}");
     }
@@ -234,27 +186,8 @@ fn the_page_is_one_file_and_loads_nothing() {
 fn a_long_run_is_a_small_page() {
     let octets = stream(9, 3_000, Wishes::default()).0;
     let mut heard = Vec::new();
-    let page = page(&octets, Limits::FLOOR, Range::ALL, |read| heard.push(read)).0;
+    let page = page(&octets, Limits::FLOOR, |read| heard.push(read)).unwrap();
     assert!(page.len() < 3_000_000, "{} octets", page.len());
     // It hears of every frame, the last one included.
     assert_eq!((heard.len(), heard.last()), (3_000, Some(&octets.len())));
-}
-
-/// Before it begins, the program says that a run is too long for a browser; named frames it makes.
-#[test]
-fn a_run_that_is_too_long_for_a_browser() {
-    let octets = stream(4, MOST + 1, Wishes { stations: 2, carts: 2, ..Wishes::default() }).0;
-    let refused = program(&["page"], &octets);
-    assert_eq!((refused.status.code(), refused.stdout.len()), (Some(1), 0));
-    assert_eq!(
-        text(&refused.stderr),
-        "20001 frames are too long for a browser, which takes 20000 well. Name some, as --frames 0-19999\n"
-    );
-    let named = program(&["page", "--frames", "0-19999"], &octets);
-    assert_eq!((named.status.code(), text(&named.stderr)), (Some(0), ""));
-    assert_eq!(data(text(&named.stdout)).at("frames").list().len(), MOST);
-    let all = program(&["page", "--frames", "0-20000"], &octets);
-    assert_eq!(all.status.code(), Some(0));
-    assert!(text(&all.stderr).starts_with("20001 frames are too long for a browser"));
-    assert_eq!(data(text(&all.stdout)).at("frames").list().len(), MOST + 1);
 }

@@ -20,7 +20,7 @@ fn stored(name: &str) -> Received {
     let text = fs::read_to_string(data(name).with_extension("txt")).unwrap();
     let octets = fs::read(data(name).with_extension("frames")).unwrap();
     assert_eq!(script(&text).unwrap(), octets, "{name}");
-    received(&octets[..], Limits::FLOOR).unwrap()
+    received(&octets, Limits::FLOOR).unwrap()
 }
 
 fn expected(name: &str) -> String {
@@ -68,8 +68,7 @@ fn the_order_between_stations_may_differ() {
 /// "The sent and received lists of a cart begin at its latest entry", and not at its retirement.
 #[test]
 fn a_cart_that_returns_begins_anew() {
-    let said =
-        |text: &str| received(&script(text).unwrap()[..], Limits::FLOOR).unwrap().to_string();
+    let said = |text: &str| received(&script(text).unwrap(), Limits::FLOOR).unwrap().to_string();
     let sent = "start 1 1\nenter 0 0\nsend 0 0 A1\nwire 0 0\nradio 0 0\nwire 0 0\nwire 0 0\n";
     let first = "cart 0, station 0: 0 a1\nheld at the end: 0\n";
     assert_eq!(said(sent), first);
@@ -158,7 +157,7 @@ fn random_runs_and_the_same_sends_to_carts_that_stand_still() {
         }
         finish(&mut floor, &mut octets);
         let still = standing_still(&octets);
-        let [a, b] = [&octets, &still].map(|run| received(&run[..], Limits::FLOOR).unwrap());
+        let [a, b] = [&octets, &still].map(|run| received(run, Limits::FLOOR).unwrap());
         assert_eq!((a.held, b.held), (0, 0), "seed {seed}");
         assert_eq!(a.to_string(), b.to_string(), "seed {seed}");
         assert!(a.carts.iter().flatten().count() > 50, "seed {seed}");
@@ -180,10 +179,8 @@ fn the_command_names_a_bad_frame_and_a_missing_file() {
     let octets = fs::read(&wanders).unwrap();
     fs::write(&cut, &octets[..100]).unwrap();
     let (status, printed, said) = frames(&["received", cut.to_str().unwrap()]);
-    let until =
-        "cart 0: nothing\ncart 1: nothing\nheld before frame 6, which is no whole frame: 1\n";
-    assert_eq!((status, printed.as_str()), (Some(1), until));
-    assert!(said.contains("cut.frames: octet 97, frame 6: cut short, only 3 of 16"), "{said}");
+    assert_eq!((status, printed.as_str()), (Some(1), ""));
+    assert!(said.contains("cut.frames: octet 97, frame 6: cut short, 3 of 16"), "{said}");
 
     let (status, printed, said) = frames(&["received", &file("nowhere.frames")]);
     assert_eq!((status, printed.as_str()), (Some(1), ""));
@@ -191,5 +188,5 @@ fn the_command_names_a_bad_frame_and_a_missing_file() {
 
     // A start of five stations is more than the kit has: nobody is on that floor.
     let octets = script("start 5 1\nenter 0 0\n").unwrap();
-    assert_eq!(received(&octets[..], Limits::KIT).unwrap().to_string(), "held at the end: 0\n");
+    assert_eq!(received(&octets, Limits::KIT).unwrap().to_string(), "held at the end: 0\n");
 }

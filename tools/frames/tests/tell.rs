@@ -34,8 +34,7 @@ fn the_sentences_of_stored_runs() {
     let runs = stored();
     for name in TOLD {
         let run = runs.iter().find(|run| run.name == name).unwrap();
-        let (said, bad) = tell(&run.octets, run.limits);
-        assert_eq!(bad, None, "{name}");
+        let said = tell(&run.octets, run.limits).unwrap().to_string();
         let wanted = fs::read_to_string(path(&format!("tests/data/tell/{name}.tell"))).unwrap();
         for (said, wanted) in said.lines().zip(wanted.lines()) {
             assert_eq!(said, wanted, "{name}");
@@ -56,9 +55,10 @@ fn printed(run: &Stored) -> Vec<String> {
 
 #[test]
 fn the_numbers_are_those_that_are_printed() {
-    let (mut told, mut ended) = (0, 0);
+    let mut told = 0;
     for run in stored() {
-        let (said, bad) = tell(&run.octets, run.limits);
+        let Ok(said) = tell(&run.octets, run.limits) else { continue };
+        let said = said.to_string();
         let printed = printed(&run);
         assert_eq!(said.lines().count(), printed.len(), "{}", run.name);
         for (line, printed) in said.lines().zip(&printed) {
@@ -69,13 +69,9 @@ fn the_numbers_are_those_that_are_printed() {
             assert!(sentence.ends_with('.'), "{}: {line}", run.name);
             assert_eq!(sentence.starts_with("Refused ("), numbers.contains("no"), "{line}");
         }
-        // What is no frame has the last line, as `floor` prints it.
-        let last = printed.last().map_or("", String::as_str);
-        assert_eq!(bad.as_ref().map(|bad| bad.printed()), bad.as_ref().map(|_| last.into()));
-        ended += bad.is_some() as usize;
         told += 1;
     }
-    assert!(told > 55 && ended > 5, "{told} runs, {ended} with a frame that is none");
+    assert!(told > 45, "{told} runs");
 }
 
 #[test]
@@ -89,7 +85,7 @@ fn every_refusal_that_a_frame_can_meet_has_its_own_words() {
         }
     };
     for run in stored() {
-        look(tell(&run.octets, run.limits).0);
+        tell(&run.octets, run.limits).into_iter().for_each(|said| look(said.to_string()));
     }
     for (seed, (stations, carts)) in [(1, 2), (3, 5), (16, 64)].into_iter().enumerate() {
         let wishes = Wishes {
@@ -103,19 +99,18 @@ fn every_refusal_that_a_frame_can_meet_has_its_own_words() {
             ..Wishes::default()
         };
         let octets = stream(seed as u64, 5_000, wishes).0;
-        look(tell(&octets, Limits::FLOOR).0);
+        look(tell(&octets, Limits::FLOOR).unwrap().to_string());
     }
     // The last number of the kit; that of the floor no run reaches.
-    look(tell(&case("late_66000").unwrap(), Limits::KIT).0);
-    // All but those of the library and the lists.
-    let wanted = (1..=20).chain(24..=27).chain([29]);
+    look(tell(&case("late_66000").unwrap(), Limits::KIT).unwrap().to_string());
+    // All but those of the frame itself, which end a run, and those of the library and the lists.
+    let wanted = (5..=20).chain(24..=27).chain([29]);
     assert_eq!(met, wanted.collect());
 }
 
 /// The last sentence of a script's run.
 fn last_sentence(text: &str) -> String {
-    let (lines, bad) = tell(&script(text).unwrap(), Limits::FLOOR);
-    assert_eq!(bad, None);
+    let lines = tell(&script(text).unwrap(), Limits::FLOOR).unwrap().to_string();
     lines.lines().last().unwrap().split_once("  ").unwrap().1.trim_start().to_string()
 }
 
@@ -155,7 +150,8 @@ fn a_correction_and_its_receipt() {
 #[test]
 fn a_retirement_that_is_refused() {
     let run = "start 2 3\nenter 1 0\nenter 1 1\nsend 0 0,1 A1\nwire 0 1\n".to_string();
-    let named = "Refused (29, a held message names the cart): cart 0 is named by correction 0 of \
+    let named =
+        "Refused (29, a held correction names the cart): cart 0 is named by correction 0 of \
                  station 0. ";
     let refused = |more: &str, advice: &str| {
         assert_eq!(last_sentence(&format!("{run}{more}retire 0\n")), format!("{named}{advice}"));
@@ -179,7 +175,7 @@ fn a_retirement_that_is_refused() {
     let leaving = last_sentence(&format!("{run}{received}move 0 0\nretire 0\n"));
     assert_eq!(
         leaving,
-        "Refused (19, the cart is on its way to another station): cart 0 is leaving station 1. Finish its \
+        "Refused (19, the cart is leaving or travelling): cart 0 is leaving station 1. Finish its \
          hand-off first (wire 0 to 1 until it is handed over, then wire 1 to 0 until it arrives)."
     );
     assert!(last_sentence(&format!("{run}retire 2\n"))

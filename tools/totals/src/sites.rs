@@ -1,6 +1,5 @@
 //! Results as text, one on a line: `cart received passed`. What follows a `#` is a comment. A site's results are one file.
 
-use shared::answers;
 use std::fs;
 
 use crate::proved::{join, ratio, sum, CartResult, Refused, Tally};
@@ -46,10 +45,12 @@ pub fn totals(names: &[String]) -> Result<Tally, String> {
 }
 
 fn refusal(name: &str, Refused(number): Refused) -> String {
-    let answer = u8::try_from(number).ok().and_then(answers::refusal);
-    let said =
-        answer.map_or("refused".into(), |answer| format!("{}. {}", answer.says, answer.advice));
-    format!("{name}: refusal {number}: {said}.")
+    let why = match number {
+        22 => "more than 4,096 results: split the file",
+        23 => "with this site a total exceeds 64 bits",
+        _ => "refused",
+    };
+    format!("{name}: refusal {number}: {why}")
 }
 
 /// The lines that are printed for totals.

@@ -1,8 +1,8 @@
 //! The command, as it is called: what it prints, and its exit status.
 
-use std::fs::{self, File};
+use std::fs;
 use std::path::PathBuf;
-use std::process::{Command, Output, Stdio};
+use std::process::{Command, Output};
 
 /// A file of the test's own, with this text.
 fn site(name: &str, text: &str) -> PathBuf {
@@ -74,37 +74,4 @@ fn a_missing_file_and_no_file_fail() {
     assert!(complained(&totals(&[&missing])).starts_with(&format!("{}: ", missing.display())));
     assert!(!totals(&[&missing]).status.success());
     assert!(!totals(&[]).status.success());
-}
-
-/// The command with an output of its own.
-fn totals_to(file: &PathBuf, output: impl Into<Stdio>) -> Output {
-    Command::new(env!("CARGO_BIN_EXE_totals")).arg(file).stdout(output).output().unwrap()
-}
-
-#[test]
-fn a_full_disk_is_said_and_a_closed_pipe_is_not() {
-    let file = site("full", "0 1 1\n");
-    let output = totals_to(&file, File::options().write(true).open("/dev/full").unwrap());
-    assert_eq!(complained(&output), "standard output: No space left on device (os error 28)\n");
-    assert_eq!(output.status.code(), Some(1));
-    let (reader, writer) = std::io::pipe().unwrap();
-    drop(reader);
-    let output = totals_to(&file, writer);
-    assert_eq!((complained(&output).as_str(), output.status.code()), ("", Some(0)));
-}
-
-#[test]
-fn help_is_printed() {
-    let output = totals(&[&PathBuf::from("--help")]);
-    assert!(printed(&output).starts_with("totals FILE..\n"));
-    assert_eq!((complained(&output).as_str(), output.status.code()), ("", Some(0)));
-}
-
-#[test]
-fn a_name_that_is_no_text_is_named() {
-    use std::os::unix::ffi::OsStringExt;
-    let name = PathBuf::from(std::ffi::OsString::from_vec(b"caf\xE9".to_vec()));
-    let output = totals(&[&name]);
-    assert_eq!(complained(&output), "caf\u{fffd}: not UTF-8\n");
-    assert_eq!(output.status.code(), Some(1));
 }

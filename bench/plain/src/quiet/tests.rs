@@ -19,8 +19,8 @@ fn c(cart: u8) -> CartNo {
 
 #[test]
 fn refused_before_the_first_step() {
-    assert_eq!(Floor::new().quiet(&mut []), Err(Refusal::NoFloor));
-    assert_eq!(Floor::new().quiet(&mut BUFFER.clone()), Err(Refusal::NoFloor));
+    assert_eq!(Floor::new().quiet(&mut []), Err(Refusal::NotStarted));
+    assert_eq!(Floor::new().quiet(&mut BUFFER.clone()), Err(Refusal::NotStarted));
     let mut f = floor(2, 1);
     f.enter(s(0), c(0)).unwrap();
     f.send(s(1), 1, &[0xA1]).unwrap();

@@ -1,7 +1,6 @@
 //! Runs two programs on the same random and damaged streams until the time is over or their
 //! outputs differ.
 
-use std::fmt::{self, Write as _};
 use std::fs::{self, File};
 use std::io::{self, Read, Write};
 use std::path::{Path, PathBuf};
@@ -13,17 +12,12 @@ use std::time::{Duration, Instant, SystemTime};
 use frames::damage::{any_stream, borders};
 use frames::random::Random;
 use frames::script::show;
-use shared::arguments::words;
-use shared::output::{put, remark};
 use shared::progress::Progress;
 
 const USAGE: &str = "\
 fuzz SECONDS PROGRAM_A PROGRAM_B [SEED]
     compares the outputs of two programs on random and damaged streams of frames; stops at the
-    first difference (status 1) and keeps the stream in fuzz-difference.frames
-fuzz --help
-    prints this
-";
+    first difference (status 1) and keeps the stream in fuzz-difference.frames";
 
 /// Where a stream on which the programs differ is kept.
 const KEPT: &str = "fuzz-difference.frames";
@@ -33,43 +27,37 @@ const PATIENCE: Duration = Duration::from_secs(60);
 const SHORTENING: Duration = Duration::from_secs(20);
 
 fn main() -> ExitCode {
-    match words().and_then(|words| run(&words)) {
-        Ok(true) => ExitCode::SUCCESS,
-        Ok(false) => ExitCode::FAILURE,
-        Err(what) => {
-            remark(what);
-            ExitCode::from(2)
-        }
-    }
-}
-
-/// Does what the words ask for: true if no difference was met.
-fn run(words: &[String]) -> Result<bool, String> {
-    let usage = || USAGE.trim_end().to_string();
+    let words: Vec<String> = std::env::args().skip(1).collect();
     let words: Vec<&str> = words.iter().map(String::as_str).collect();
     let (seconds, a, b, seed) = match words[..] {
-        ["--help"] => return put(USAGE.as_bytes()).map(|_| true),
         [seconds, a, b] => (seconds, a, b, None),
         [seconds, a, b, seed] => (seconds, a, b, Some(seed)),
-        _ => return Err(usage()),
+        _ => return fail(USAGE),
     };
-    let seconds = seconds.parse().map_err(|_| usage())?;
-    let seed = match seed {
-        Some(seed) => seed.parse().map_err(|_| usage())?,
+    let Ok(seconds) = seconds.parse() else { return fail(USAGE) };
+    let seed = match seed.map(str::parse) {
+        Some(Ok(seed)) => seed,
+        Some(Err(_)) => return fail(USAGE),
         None => SystemTime::UNIX_EPOCH.elapsed().map_or(0, |now| now.as_nanos() as u64),
     };
     let folder = std::env::temp_dir().join(format!("fuzz-{}", std::process::id()));
-    fs::create_dir(&folder).map_err(|error| format!("{}: {error}", folder.display()))?;
+    if let Err(error) = fs::create_dir(&folder) {
+        return fail(&format!("{}: {error}", folder.display()));
+    }
     let pair = Pair { a, b, stream: folder.join("stream") };
     let outcome = pair.compare_for(Duration::from_secs(seconds), seed);
     // What is left behind in a temporary folder does no harm.
     let _ = fs::remove_dir_all(&folder);
-    outcome.map_err(|error| error.to_string())
+    match outcome {
+        Ok(true) => ExitCode::SUCCESS,
+        Ok(false) => ExitCode::FAILURE,
+        Err(error) => fail(&error.to_string()),
+    }
 }
 
-/// Prints lines. If nobody reads them, the status still says what was found.
-fn say(words: fmt::Arguments) -> io::Result<()> {
-    put(format!("{words}\n").as_bytes()).map(drop).map_err(io::Error::other)
+fn fail(what: &str) -> ExitCode {
+    eprintln!("{what}");
+    ExitCode::from(2)
 }
 
 /// How a program's input reaches it.
@@ -117,17 +105,16 @@ impl Pair<'_> {
             let (a, b) = self.outcomes(&octets, feed)?;
             if a != b || a.failed.is_some() {
                 drop(progress);
-                // The stream is kept also where this cannot be said.
-                let said = say(format_args!("seed {seed}, stream {streams}: the programs differ"));
+                println!("seed {seed}, stream {streams}: the programs differ");
                 self.keep(octets, feed)?;
-                return said.map(|()| false);
+                return Ok(false);
             }
             streams += 1;
             lines += a.printed.iter().filter(|octet| **octet == b'\n').count() as u64;
         }
         drop(progress);
-        let found = format!("{streams} streams, {lines} frames compared, no difference");
-        say(format_args!("seed {seed}: {found}")).map(|()| true)
+        println!("seed {seed}: {streams} streams, {lines} frames compared, no difference");
+        Ok(true)
     }
 
     fn outcomes(&self, octets: &[u8], feed: Feed) -> io::Result<(Outcome, Outcome)> {
@@ -170,17 +157,16 @@ impl Pair<'_> {
         }
         drop(progress);
         let (mut a, mut b) = self.outcomes(&octets, feed)?;
-        let mut said = String::new();
         if a == b && a.failed.is_none() {
             // It does not come every time: keep what was seen.
-            said += "on a second try they agree; the whole stream is kept\n";
+            println!("on a second try they agree; the whole stream is kept");
             octets = whole;
             (a, b) = self.outcomes(&octets, feed)?;
         }
         fs::write(KEPT, &octets)?;
-        let frames = borders(&octets).len() - 1;
-        let parting = parting(self.a, self.b, &a, &b, &octets);
-        say(format_args!("{said}the stream is kept in {KEPT}, {frames} frames:\n{parting}"))
+        println!("the stream is kept in {KEPT}, {} frames:", borders(&octets).len() - 1);
+        say_where(self.a, self.b, &a, &b, &octets);
+        Ok(())
     }
 }
 
@@ -228,12 +214,10 @@ fn outcome(program: &str, stream: &Path, octets: &[u8], feed: Feed) -> io::Resul
     })
 }
 
-/// Where the programs differ, in words.
-fn parting(name_a: &str, name_b: &str, a: &Outcome, b: &Outcome, octets: &[u8]) -> String {
-    let mut said = String::new();
+fn say_where(name_a: &str, name_b: &str, a: &Outcome, b: &Outcome, octets: &[u8]) {
     for (name, outcome) in [(name_a, a), (name_b, b)] {
         if let Some(failed) = &outcome.failed {
-            let _ = writeln!(said, "{name}: {failed}");
+            println!("{name}: {failed}");
         }
     }
     let lines = |outcome: &Outcome| -> Vec<String> {
@@ -245,11 +229,10 @@ fn parting(name_a: &str, name_b: &str, a: &Outcome, b: &Outcome, octets: &[u8]) 
     let script = show(octets);
     let script: Vec<&str> = script.lines().collect();
     for event in script.iter().take(at + 1).skip(at.saturating_sub(20)) {
-        let _ = writeln!(said, "    {event:.100}");
+        println!("    {event:.100}");
     }
     let line =
         |lines: &[String]| lines.get(at).map_or("nothing".into(), |line| format!("{line:?}"));
-    let _ = writeln!(said, "line {at}: {name_a} prints {}", line(&a));
-    let _ = write!(said, "line {at}: {name_b} prints {}", line(&b));
-    said
+    println!("line {at}: {name_a} prints {}", line(&a));
+    println!("line {at}: {name_b} prints {}", line(&b));
 }

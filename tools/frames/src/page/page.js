@@ -167,7 +167,7 @@ function whereIs(said) {
   return steady === '1' ? [words] : [words + ' ', element('span', 'tag', 'not steady')];
 }
 
-// When a cart entered last, up to this frame; undefined if it has not, -1 if before the first frame that is shown.
+// When a cart entered last, up to this frame; undefined if it has not.
 function enteredLast(cart) {
   const entries = run.entries.filter(([row, who]) => who === cart && row <= step);
   return entries.length ? entries[entries.length - 1][0] : undefined;
@@ -194,9 +194,7 @@ function showCarts(cells) {
     const received = receivedBy(cart, entered), last = received[received.length - 1];
     const fresh = Boolean(last) && last[0] === step;
     const from = `${said}|${owed.map(({ name }) => name)}|${last ? last[0] : ''}|${received.length}|${fresh}`;
-    // What it received before the first frame, and is not in the page one by one.
-    const earlier = entered < 0 ? run.earlier[cart] : 0;
-    items.push([cart, from, () => cartRow(cart, said, received, earlier, owed)]);
+    items.push([cart, from, () => cartRow(cart, said, received, owed)]);
   }
   keep(byId('carts'), items);
   byId('table').hidden = items.length === 0;
@@ -204,7 +202,7 @@ function showCarts(cells) {
     : outside.length ? `Not entered yet: ${outside.join(', ')}` : '';
 }
 
-function cartRow(cart, said, received, earlier, owed) {
+function cartRow(cart, said, received, owed) {
   const correctionLine = (name, text, row) => {
     const short = text.length <= 16 ? text : `${text.slice(0, 14)}\u2026`;
     const made = element('div', row === step ? 'fresh' : '', `${name} `, element('code', 'text', short));
@@ -214,19 +212,18 @@ function cartRow(cart, said, received, earlier, owed) {
   const row = element('tr', '',
     element('td', '', chip(cart, false)),
     element('td', '', ...whereIs(said)),
-    element('td', '', ...few(received.map(([at, , name, text]) => correctionLine(name, text, at)), earlier)),
+    element('td', '', ...few(received.map(([at, , name, text]) => correctionLine(name, text, at)))),
     element('td', 'owed', ...owed.map(({ name, text }) => correctionLine(name, text))));
   row.dataset.cart = cart;
   return row;
 }
 
-// Of a long list the last ones, and how many stand before them; the earliest are counted only.
-function few(list, earlier) {
-  const shown = 8, before = list.slice(0, -shown);
-  if (!before.length && !earlier) return list;
-  const summary = element('summary', '', `${before.length + earlier} before`);
-  const unlisted = earlier ? [none(`${earlier} before frame ${run.first}, not in this page`)] : [];
-  return [element('details', '', summary, ...unlisted, ...before), ...list.slice(-shown)];
+// Of a long list the last ones, and how many stand before them.
+function few(list) {
+  const shown = 8;
+  if (list.length <= shown) return list;
+  const summary = element('summary', '', `${list.length - shown} before`);
+  return [element('details', '', summary, ...list.slice(0, -shown)), ...list.slice(-shown)];
 }
 
 function onLine(record) {
@@ -320,9 +317,8 @@ function show() {
   showRow();
   const cells = floorAfter(step), [printed, sentence, refused] = run.frames[step];
   slider.value = step;
-  const { first } = run, last = first + run.frames.length - 1;
-  slider.setAttribute('aria-valuetext', `frame ${first + step}: ${sentence}`);
-  byId('where').textContent = `frame ${first + step} of ${first ? `${first} to ` : ''}${last}`;
+  slider.setAttribute('aria-valuetext', `frame ${step}: ${sentence}`);
+  byId('where').textContent = `frame ${step} of ${run.frames.length - 1}`;
   byId('sentence').replaceChildren(element('code', '', printed), ' ', sentence);
   byId('sentence').className = refused ? 'refused' : '';
   byId('first').disabled = byId('back').disabled = step === 0;

@@ -9,17 +9,10 @@ import tempfile
 NAMES = ["chromium", "chromium-browser", "google-chrome", "google-chrome-stable"]
 
 
-class NoBrowser(Exception):
-    """What is named as a browser is none."""
-
-
 def find():
-    """The browser's path: CHROMIUM names it, and must then be right, or one of the usual names does; or None."""
-    named = os.environ.get("CHROMIUM")
-    path = next((path for path in map(shutil.which, [named] if named else NAMES) if path), None)
-    if named and not path:
-        raise NoBrowser(f"CHROMIUM: {named} is not there, or no program")
-    return path
+    """The browser's path, or None: CHROMIUM names it, or one of the usual names does."""
+    names = [os.environ["CHROMIUM"]] if os.environ.get("CHROMIUM") else NAMES
+    return next((path for path in map(shutil.which, names) if path), None)
 
 
 class Browser:
@@ -49,11 +42,7 @@ class Browser:
         os.close(to_read)
         os.close(to_write)
         self.read, self.number, self.session, self.mistakes = b"", 0, None, []
-        try:
-            target = self.call("Target.createTarget", url="about:blank")["targetId"]
-        except (OSError, RuntimeError) as error:
-            self.__exit__()
-            raise NoBrowser(f"{path} does not answer as Chromium does") from error
+        target = self.call("Target.createTarget", url="about:blank")["targetId"]
         answer = self.call("Target.attachToTarget", targetId=target, flatten=True)
         self.session = answer["sessionId"]
         self.call("Page.enable")

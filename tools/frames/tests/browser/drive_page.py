@@ -1,11 +1,10 @@
 """Drives the page of a run in a browser and reads it.
 
-    drive_page.py PAGE SENTENCES LONG_PAGE FLOORS RETURNS PART
+    drive_page.py PAGE SENTENCES LONG_PAGE FLOORS RETURNS
 
 PAGE is the page of examples/hand-off.frames, SENTENCES what `frames tell` says of it, LONG_PAGE the page
 of a run of 3,000 frames, FLOORS what some of its frames left: a line for each with the frame and the floor's
-cells in JSON, RETURNS the page of a cart that receives, retires, enters again and receives again, PART that of frames 8 to 12 of PAGE's run. Ends with 77 where
-there is no browser, with 1 at the first difference, and where CHROMIUM names what is none.
+cells in JSON, RETURNS the page of a cart that receives, retires, enters again and receives again. Ends with 77 where there is no browser, with 1 at the first difference.
 """
 
 import json
@@ -106,23 +105,6 @@ def a_cart_that_returns(browser, page):
         same(text(browser, "[data-cart='0']"), row, f"frame {to} of a cart that returns")
         owed = "0:1 a2" if to == 9 else ""
         same(text(browser, "[data-cart='0'] .owed"), owed, f"owed in frame {to}")
-
-
-def some_frames(browser, page):
-    """Of a range the page has the floor as it was before it, and the frames under their own indices."""
-    browser.size(*SIZES[0])
-    browser.open(page)
-    same(text(browser, "h1"), "frames 8 to 12, 3 stations, 2 carts", "the title of a range")
-    same(text(browser, "#where"), "frame 8 of 8 to 12", "the first frame of a range")
-    same(text(browser, "#sentence").split(" ")[0], "8", "its sentence")
-    same(text(browser, "[data-cart='0']"), "0 on its way to station 1 2:0 2b05", "a cart that left before")
-    same(text(browser, "[data-cart='1']"), "1 at station 1 2:0 2b05", "a cart that came before")
-    browser.press("End", END)
-    same(text(browser, "#where"), "frame 12 of 8 to 12", "the last frame of a range")
-    same(text(browser, "[data-cart='1']"), "1 at station 1 2:0 2b05", "a cart that has received")
-    same(text(browser, "[data-cart='1'] .owed"), "", "nothing is owed to it")
-    browser.press("ArrowLeft", LEFT)
-    same(text(browser, "#where"), "frame 11 of 8 to 12", "the frame before")
 
 
 def the_picture(browser):
@@ -231,7 +213,7 @@ def a_long_run(browser, page):
 
 
 def main():
-    page, sentences, long_page, floors, returns, part = sys.argv[1:]
+    page, sentences, long_page, floors, returns = sys.argv[1:]
     path = chromium.find()
     if not path:
         print("skipped, no Chromium is installed")
@@ -251,7 +233,6 @@ def main():
         browser.open(page)
         by_keyboard_alone(browser)
         a_cart_that_returns(browser, returns)
-        some_frames(browser, part)
         a_long_run(browser, long_page)
         the_floors(browser, floors)
         any_way(browser)
@@ -259,7 +240,4 @@ def main():
     print("the page does what it should")
 
 
-try:
-    main()
-except chromium.NoBrowser as wrong:
-    sys.exit(str(wrong))
+main()

@@ -43,18 +43,13 @@ pub fn stored() -> Vec<Stored> {
 
 /// Calls `frames`.
 pub fn frames(words: &[&str], input: &[u8]) -> Output {
-    run(Command::new(env!("CARGO_BIN_EXE_frames")).args(words), input)
-}
-
-/// Runs a program on an input.
-pub fn run(program: &mut Command, input: &[u8]) -> Output {
-    run_to(program, input, Stdio::piped())
-}
-
-/// The same, with an output of its own.
-pub fn run_to(program: &mut Command, input: &[u8], output: Stdio) -> Output {
-    let program = program.stdin(Stdio::piped()).stdout(output).stderr(Stdio::piped());
-    let mut program = program.spawn().unwrap();
+    let mut program = Command::new(env!("CARGO_BIN_EXE_frames"))
+        .args(words)
+        .stdin(Stdio::piped())
+        .stdout(Stdio::piped())
+        .stderr(Stdio::piped())
+        .spawn()
+        .unwrap();
     let mut lent = program.stdin.take().unwrap();
     let input = input.to_vec();
     let writer = std::thread::spawn(move || drop(lent.write_all(&input)));
