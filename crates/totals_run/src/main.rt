@@ -10,7 +10,7 @@ use totals::{CartResult, Fraction, Tally, Totalled};
 // One result more than a list may have.
 const TOO_MANY: usize = 4097;
 
-// The sum of the first so many results. A loan of structs is outside what the borrow checker covers, so it is all that is done here.
+// The sum of the first so many results.
 fn sum_front(list: [CartResult; TOO_MANY], count: usize) -> Totalled
     requires { count ≤ 4097 }
     ensures { result ≡ totals_of (take count list) }
