@@ -1,7 +1,8 @@
 /* MEKHTURIA, THE FLOOR CONTROLLER, for C.
  *
  * Corrections of the mass axis to instrument carts, each taken exactly once, also while carts move. The floor lies in memory that you lend; the
- * library has none of its own, and calls nothing. Build it with `tools/prove mekhturia`, and link target/staticlib/libmekhturia.a.
+ * library has none of its own, and calls nothing but memcpy, memmove and memset. Build it with `tools/prove mekhturia`, and
+ * link target/staticlib/libmekhturia.a.
  *
  * Every call may be made with any numbers and any lent memory. It hands back a STATUS, MEKHTURIA_ANSWERED or why nothing was touched, and
  * writes its ANSWER into words that you lend, eight at least: the refusal's number, or 0 and what was done. A refusal changes nothing that is
