@@ -249,10 +249,8 @@ pub fn row_of(carts: &[u64], number: CartNumber) -> [u64; 16]
     ensures { result ≡ list_of 16 ((carts_in carts.now).next number.0) }
 {
     let mut row = [0u64; 16];
-    let mut i: usize = 0;
-    while i < 16 {
+    for i in 0..16 {
         row[i] = next_of(carts, number, Station(i as u64));
-        i += 1;
     }
     row
 }
@@ -264,10 +262,8 @@ pub fn put_row(carts: &mut [u64], number: CartNumber, row: [u64; 16])
     ensures carts_unchanged { canonical_in carts.new ≡ canonical_in carts.old }
     ensures carts_len_unchanged { length carts.new ≡ length carts.old }
 {
-    let mut i: usize = 0;
-    while i < 16 {
+    for i in 0..16 {
         put_next(carts, number, Station(i as u64), row[i]);
-        i += 1;
     }
 }
 

@@ -28,9 +28,7 @@ pub fn clear(words: &mut [u64])
     ensures by_index { (k : ℕ) → get_or words.new k 0 ≡ 0 }
     ensures words_len_unchanged { length words.new ≡ length words.old }
 {
-    let mut i: usize = 0;
-    while i < words.len() {
+    for i in 0..words.len() {
         words[i] = 0;
-        i += 1;
     }
 }

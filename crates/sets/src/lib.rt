@@ -5,6 +5,8 @@ ghost use Rattle.std.specs.Prelude.{◌≡◌, true, cond, ℕ, ◌<◌, ◌≤�
 ghost use Rattle.std.proofs.Math.Option.{some};
 ghost use Rattle.protocol.specs.CartSets.{has, union, minus, with, without, set_of};
 ghost use Rattle.sets.specs.Masks.{within, disjoint, least, size};
+ghost use Rattle.sets.specs.Walks.{GivesLeast};
+ghost use Rattle.std.specs.Iterator.{at_most};
 
 // Is the member in the set?
 pub fn has(set: u64, member: u64) -> bool
@@ -95,4 +97,34 @@ pub fn all_below(n: u64) -> u64
     ensures { result ≡ set_of n (λ _. true) }
 {
     if n < 64 { (1 << n) - 1 } else { u64::MAX }
+}
+
+// The members of a set that are still to come, from the least one on.
+#[derive(Clone, Copy, Debug, PartialEq, Eq)]
+pub struct Members {
+    pub left: u64,
+}
+
+// A walk over a set, from its least member on: whoever has nothing to do at a number that is not in the set may as well walk.
+pub fn members_of(set: u64) -> Members
+    ensures { result ≡ record { left = set } }
+{
+    Members { left: set }
+}
+
+impl Iterator for Members {
+    type Item = u64;
+
+    ghost next_gives = { GivesLeast };
+
+    ghost remaining = { λ s. at_most s.left };
+
+    fn next(&mut self) -> Option<u64> {
+        if self.left == 0 {
+            return None;
+        }
+        let least = first(self.left);
+        self.left = without_first(self.left);
+        Some(least)
+    }
 }

@@ -140,11 +140,9 @@ pub fn leave_groups(stations: &mut [u64], cart: CartNumber)
     ensures stations_unchanged { stations_in stations.new ≡ stations_in stations.old }
     ensures stations_len_unchanged { length stations.new ≡ length stations.old }
 {
-    let mut group: u64 = 0;
-    while group < GROUPS {
+    for group in 0..GROUPS {
         let members = sets::without_member(group_of(stations, group), cart.0);
         put_group(stations, group, members);
-        group += 1;
     }
 }
 

@@ -14,6 +14,3 @@ invariant-loop-i l =
     × (length l.carts ≡ length l.initial.carts)
     × (carts_in l.carts ≡ written_to l.i (carts_in l.initial.carts) l.number.0 l.row)
     × (canonical_in l.carts ≡ canonical_in l.initial.carts)
-
-abbrev pub decreases-loop-i : goal.decreases-loop-i
-decreases-loop-i l = 16 - l.i

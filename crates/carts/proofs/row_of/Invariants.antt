@@ -10,6 +10,3 @@ use Rattle.carts.proofs.row_of.Given as goal
 
 abbrev pub invariant-loop-i : goal.invariant-loop-i
 invariant-loop-i l = (l.i ≤ 16) × (length l.row ≡ 16) × ReadTo ((carts_in l.carts).next l.number.0) l.row l.i
-
-abbrev pub decreases-loop-i : goal.decreases-loop-i
-decreases-loop-i l = 16 - l.i

@@ -15,6 +15,3 @@ invariant-loop-group l =
     × (length l.stations ≡ length l.initial.stations)
     × (head_in l.stations ≡ left_to l.group (head_in l.initial.stations) l.cart.0)
     × (stations_in l.stations ≡ stations_in l.initial.stations)
-
-abbrev pub decreases-loop-group : goal.decreases-loop-group
-decreases-loop-group l = group_count - l.group
