@@ -1,14 +1,14 @@
 -- Laws of the decoder, over plain numbers and lists.
-use mathlib.Core.Path.{◌≡◌, refl, sym, ap, ap₂, ◌∙◌, subst}
+use mathlib.Core.Path.{◌≡◌, refl, sym, ap, ap₂, ◌∙◌}
 use mathlib.Core.Bool.{true, false}
 use mathlib.Core.List.{List, [], ◌∷◌}
-use Prim.Native.Nat.{ℕ, suc, ◌+◌, ◌-◌, ◌*◌, ◌/◌, ◌%◌, ◌^◌, ◌≤◌, ◌<◌}
+use Prim.Native.Nat.{ℕ, ◌+◌, ◌-◌, ◌*◌, ◌/◌, ◌%◌, ◌^◌, ◌≤◌, ◌<◌}
 use native.Mathlib.Numerals.{add-one}
 use native.Mathlib.Omega.{arith}
 use lib.Dec.{eqb, ltb}
 use lib.ListN.{length, get_or, take, drop, length-drop, drop_of_length-le}
-use lib.Seq.{length-take-le, get_or-take, get_or-drop, drop-cons, take-take}
-use lib.Pow.{pow_mono, pow-add, mod-pow-add, shr-shr}
+use lib.Seq.{drop-cons}
+use lib.Pow.{mod-pow-add, shr-shr}
 use borrow.Author.Tests.{ne_eqb, lt-ltb, le-ltb, ltb-false}
 use Rattle.protocol.proofs.Tests.{by_test, by_lt, by_eq}
 use Rattle.protocol.proofs.Accepted.{is_long_lem}
@@ -18,81 +18,24 @@ use Rattle.protocol.specs.Events.{start, enter, send, wire, radio, move, flag, g
 use Rattle.protocol.specs.Store.{not_long}
 use Rattle.protocol.specs.Frames.{Fields, Reading, big_endian, fields_of, unlisted, text_length, wrong_length, event_of, last_kind, fields_refusal, frame_refusal, frame_of, read_at, end, refused_frame, taken}
 use Rattle.frames.specs.declared.Halves.{Halves}
-use Rattle.frames.specs.Decoded.{low_octets, fields_in}
+use Rattle.frames.specs.Decoded.{fields_in}
+use Rattle.std.specs.Int.{w64, from_be_bytes}
 
 -- NUMBERS OF EIGHT OCTETS
 
--- the octets of a word as they are read, from the last on
-module _ (l : List ℕ) (at : ℕ) (h : at + 8 ≤ length l) where
-  abbrev eight : List ℕ
-  eight = take 8 (drop at l)
-
-  eight_long : length eight ≡ 8
-  eight_long = let z = length-drop at l in length-take-le 8 (drop at l) (omega arith)
-
-  pub none_read : low_octets 0 0 ≡ drop 8 (take 8 (drop at l))
-  unfolding low_octets
-  none_read = sym (drop_of_length-le eight {i = 8} (let z = eight_long in omega arith))
-
-  -- one octet more
-  pub octet_read : (i v b : ℕ) → i < 8 → low_octets i v ≡ drop (8 - i) (take 8 (drop at l)) → b ≡ get_or l (at + 7 - i) 0 → b < 256
-      → low_octets (i + 1) (v * 256 + b) ≡ drop (8 - (i + 1)) (take 8 (drop at l))
-  unfolding low_octets
-  octet_read i v b s e eb small =
-      ap (λ (n : ℕ). low_octets n (v * 256 + b)) (add-one i)
-      ∙ ap₂ (λ (x y : ℕ). x ∷ low_octets i y) low high
-      ∙ ap₂ (λ (x : ℕ) (k : List ℕ). x ∷ k) (eb ∙ here) (e ∙ ap (λ (n : ℕ). drop n eight) next)
-      ∙ sym (drop-cons eight (7 - i) 0 inside)
-      ∙ ap (λ (n : ℕ). drop n eight) before
-    where
-      low : (v * 256 + b) % 256 ≡ b
-      low = omega arith
-
-      high : (v * 256 + b) / 256 ≡ v
-      high = omega arith
-
-      next : 8 - i ≡ suc (7 - i)
-      next = omega arith
-
-      before : 7 - i ≡ 8 - (i + 1)
-      before = omega arith
-
-      place : at + 7 - i ≡ at + (7 - i)
-      place = omega arith
-
-      inside : 7 - i < length eight
-      inside = let z = eight_long in omega arith
-
-      here : get_or l (at + 7 - i) 0 ≡ get_or eight (7 - i) 0
-      here =
-          ap (λ (n : ℕ). get_or l n 0) place
-          ∙ sym (get_or-drop at l (7 - i) 0)
-          ∙ sym (get_or-take 8 (drop at l) (7 - i) 0 (omega arith))
-
-  pub all_read : (i v : ℕ) → i ≡ 8 → low_octets i v ≡ drop (8 - i) (take 8 (drop at l)) → low_octets 8 v ≡ take 8 (drop at l)
-  all_read i v q e = subst (λ (n : ℕ). low_octets n v ≡ drop (8 - n) eight) q e
-
--- one octet of a word is put behind those that were before it
-pub octet_turned : (i w v n : ℕ) → i < 8 → big_endian v (low_octets (8 - i) w) ≡ n → big_endian (v * 256 + w % 256) (low_octets (8 - (i + 1)) (w / 256)) ≡ n
-unfolding big_endian low_octets
-octet_turned i w v n h e = ap (λ (k : ℕ). big_endian v (low_octets k w)) one_more ∙ e
-  where
-    one_more : suc (8 - (i + 1)) ≡ 8 - i
-    one_more = omega arith
-
-pub all_turned : (i w v n : ℕ) → i ≡ 8 → big_endian v (low_octets (8 - i) w) ≡ n → v ≡ n
-unfolding big_endian low_octets
-all_turned i w v n q e = subst (λ (k : ℕ). big_endian v (low_octets (8 - k) w) ≡ n) q e
-
--- i octets make a number below 2^(8 i)
-pub few_fit : (i v : ℕ) → i < 8 → v < 2 ^ (8 * i) → v < 72057594037927936
-few_fit i v h l = let w : 8 * i ≤ 56 = omega arith in let m : 2 ^ (8 * i) ≤ 2 ^ 56 = pow_mono w in omega arith
-
-pub more_fit : (i v b v' : ℕ) → v < 2 ^ (8 * i) → b < 256 → v' ≡ v * 256 + b → v' < 2 ^ (8 * (i + 1))
-more_fit i v b v' l h e =
-    let p : 2 ^ (8 * i + 8) ≡ 2 ^ (8 * i) * 256 = pow-add 2 (8 * i) 8 in
-    let q : 8 * (i + 1) ≡ 8 * i + 8 = omega arith in
-    subst (λ (x : ℕ). v' < 2 ^ x) (sym q) (omega arith)
+-- eight octets as the library makes a number of them, and as the written steps do
+pub word_made : (l : List ℕ) → length l ≡ 8 → from_be_bytes w64 l ≡ big_endian 0 l
+unfolding big_endian
+word_made [] n = absurd (omega arith)
+word_made (a ∷ []) n = absurd (omega arith)
+word_made (a ∷ b ∷ []) n = absurd (omega arith)
+word_made (a ∷ b ∷ c ∷ []) n = absurd (omega arith)
+word_made (a ∷ b ∷ c ∷ d ∷ []) n = absurd (omega arith)
+word_made (a ∷ b ∷ c ∷ d ∷ e ∷ []) n = absurd (omega arith)
+word_made (a ∷ b ∷ c ∷ d ∷ e ∷ f ∷ []) n = absurd (omega arith)
+word_made (a ∷ b ∷ c ∷ d ∷ e ∷ f ∷ g ∷ []) n = absurd (omega arith)
+word_made (a ∷ b ∷ c ∷ d ∷ e ∷ f ∷ g ∷ h ∷ []) n = omega arith
+word_made (a ∷ b ∷ c ∷ d ∷ e ∷ f ∷ g ∷ h ∷ x ∷ l) n = absurd (omega arith)
 
 -- FIELDS
 
@@ -103,37 +46,39 @@ octets_split : (a b c d e f g h : ℕ) → a < 256 → b < 256 → c < 256 → d
 unfolding big_endian
 octets_split a b c d e f g h ha hb hc hd he hf hg hh n q = (omega arith, omega arith)
 
-word_split : (w n : ℕ) → n ≡ big_endian 0 (low_octets 8 w)
-    → (big_endian 0 (take 3 (low_octets 8 w)) ≡ n / 2 ^ 40) × (big_endian 0 (drop 3 (low_octets 8 w)) ≡ n % 2 ^ 40)
-unfolding low_octets
-word_split w n q =
-    octets_split _ _ _ _ _ _ _ _ (omega arith) (omega arith) (omega arith) (omega arith) (omega arith) (omega arith) (omega arith) (omega arith) n q
-
-behind_three : (l : List ℕ) → drop 3 (take 8 l) ≡ take 5 (drop 3 l)
-behind_three [] = refl
-behind_three (x ∷ []) = refl
-behind_three (x ∷ y ∷ []) = refl
-behind_three (x ∷ y ∷ z ∷ l) = refl
+-- the same of the octets at the front of a list
+front_split : (l : List ℕ) → 8 ≤ length l → ((k : ℕ) → get_or l k 0 < 256) → (n : ℕ) → n ≡ big_endian 0 (take 8 l)
+    → (big_endian 0 (take 3 l) ≡ n / 2 ^ 40) × (big_endian 0 (take 5 (drop 3 l)) ≡ n % 2 ^ 40)
+front_split [] m small n q = absurd (omega arith)
+front_split (a ∷ []) m small n q = absurd (omega arith)
+front_split (a ∷ b ∷ []) m small n q = absurd (omega arith)
+front_split (a ∷ b ∷ c ∷ []) m small n q = absurd (omega arith)
+front_split (a ∷ b ∷ c ∷ d ∷ []) m small n q = absurd (omega arith)
+front_split (a ∷ b ∷ c ∷ d ∷ e ∷ []) m small n q = absurd (omega arith)
+front_split (a ∷ b ∷ c ∷ d ∷ e ∷ f ∷ []) m small n q = absurd (omega arith)
+front_split (a ∷ b ∷ c ∷ d ∷ e ∷ f ∷ g ∷ []) m small n q = absurd (omega arith)
+front_split (a ∷ b ∷ c ∷ d ∷ e ∷ f ∷ g ∷ h ∷ l) m small n q =
+    octets_split a b c d e f g h (small 0) (small 1) (small 2) (small 3) (small 4) (small 5) (small 6) (small 7) n q
 
 -- the fields of the frame at the front of these octets, from the two numbers that they make
-pub fields_made : (l : List ℕ) (f : Halves) (w v : ℕ) → low_octets 8 w ≡ take 8 l → f.head ≡ big_endian 0 (low_octets 8 w)
-    → low_octets 8 v ≡ take 8 (drop 8 l) → f.set ≡ big_endian 0 (low_octets 8 v) → fields_in f ≡ fields_of l
+pub fields_made : (l : List ℕ) (f : Halves) → 8 ≤ length l → ((k : ℕ) → get_or l k 0 < 256) → f.head ≡ big_endian 0 (take 8 l)
+    → f.set ≡ big_endian 0 (take 8 (drop 8 l)) → fields_in f ≡ fields_of l
 unfolding fields_of
-fields_made l f w v e h d s = λ i. record {
+fields_made l f m small h s = λ i. record {
   kind = (let z = high in let q : f.head / 2 ^ 60 ≡ big_endian 0 (take 3 l) / 1048576 = omega arith in q) i;
   station = (let z = high in let q : f.head / 2 ^ 56 % 16 ≡ big_endian 0 (take 3 l) / 65536 % 16 = omega arith in q) i;
   cart = (let z = high in let q : f.head / 2 ^ 50 % 64 ≡ big_endian 0 (take 3 l) / 1024 % 64 = omega arith in q) i;
   other = (let z = high in let q : f.head / 2 ^ 46 % 16 ≡ big_endian 0 (take 3 l) / 64 % 16 = omega arith in q) i;
   length = (let z = high in let q : f.head / 2 ^ 40 % 64 ≡ big_endian 0 (take 3 l) % 64 = omega arith in q) i;
   zero = sym low i;
-  set = (s ∙ ap (big_endian 0) d) i;
+  set = s i;
 }
   where
     high : big_endian 0 (take 3 l) ≡ f.head / 2 ^ 40
-    high = ap (big_endian 0) (sym (take-take 3 8 l (omega arith)) ∙ ap (take 3) (sym e)) ∙ (word_split w f.head h).0
+    high = (front_split l m small f.head h).0
 
     low : big_endian 0 (take 5 (drop 3 l)) ≡ f.head % 2 ^ 40
-    low = ap (big_endian 0) (sym (behind_three l) ∙ ap (drop 3) (sym e)) ∙ (word_split w f.head h).1
+    low = (front_split l m small f.head h).1
 
 -- other, length and zero are the bits below the cart
 pub low_fields : (head set : ℕ)

@@ -18,10 +18,10 @@ use Rattle.protocol.specs.Frames.{fields_of, unlisted, text_length, wrong_length
 use Rattle.protocol.specs.Events as events
 use Rattle.frames.specs.declared.Event.{Event}
 use Rattle.frames.specs.declared.Event.TheVariants.{Start, Enter, Send, Wire, Radio, Move, Flag, Group, SendGroup, SendLong, Retire}
-use Rattle.frames.specs.declared.Reading.{Reading}
-use Rattle.frames.specs.declared.Reading.TheVariants.{Taken, End, Refused}
+use Rattle.std.specs.Prelude.{Option, None, Some, Result, Ok, Err}
+use Rattle.refusals.specs.declared.Refusal.{Refusal}
 use Rattle.frames.specs.declared.Halves.{Halves}
-use Rattle.frames.specs.Decoded.{fields_in, if_listed, if_whole, frame_in, event_in, taken_in, reading_in, size_of, longest_frame, TextFits, refusal_number, refusal_of}
+use Rattle.frames.specs.Decoded.{fields_in, if_listed, if_whole, frame_in, event_in, taken_in, frame_reading, reading_in, size_of, longest_frame, TextFits, refusal_number, refusal_of}
 use Rattle.frames.specs.contracts.Event.{the_type as event_type}
 use Rattle.frames.proofs.Laws.{low_fields, send_fields, long_fields, low_sixteen, unlisted_send, unlisted_wire, unlisted_move, unlisted_flag, unlisted_group, unlisted_send_group, unlisted_send_long, unlisted_retire}
 use Rattle.frames.proofs.Laws.{long_length, long_wrong, short_length, short_wrong, long_text, short_text, text_at_most}
@@ -51,7 +51,7 @@ module _ (f : frames.Fields) (behind : ℕ) (l : List ℕ) where
       unstray = eq-eqb (unlisted f) 0 u
 
       -- a frame without a text
-      alone_read : (f.kind ≡ 9 → ⊥) → f.length ≡ 0 → event_in l e ≡ event_at f l → size_of e ≡ 16 → reading_in l (Taken e) ≡ frame_in l f behind
+      alone_read : (f.kind ≡ 9 → ⊥) → f.length ≡ 0 → event_in l e ≡ event_at f l → size_of e ≡ 16 → frame_reading l (Ok e) ≡ frame_in l f behind
       alone_read short t g s =
           let none = short_length f short in
           let same : size_of e ≡ 16 + text_length f = omega arith in
@@ -59,22 +59,22 @@ module _ (f : frames.Fields) (behind : ℕ) (l : List ℕ) where
 
       -- a frame with a text
       whole_read : (wrong : Bool) (n : ℕ) → wrong ≡ wrong_length limits f → n ≡ text_length f → event_in l e ≡ event_of limits f (take n (drop 16 l)) → size_of e ≡ 16 + n
-          → reading_in l (if_whole wrong n behind e) ≡ frame_in l f behind
+          → frame_reading l (if_whole wrong n behind e) ≡ frame_in l f behind
       whole_read wrong n is long g s =
           let event : event_in l e ≡ event_at f l = g ∙ ap (λ (m : ℕ). event_of limits f (take m (drop 16 l))) long in
           let size : size_of e ≡ 16 + text_length f = omega arith in
-          on_cond (λ (x : Reading). reading_in l x ≡ frame_in l f behind) wrong
+          on_cond (λ (x : Result Event Refusal). frame_reading l x ≡ frame_in l f behind) wrong
           (λ t. read_refused 4 (wrong_text f behind k unstray (sym is ∙ t)) (λ z. omega arith))
-          (λ t. on_cond (λ (x : Reading). reading_in l x ≡ frame_in l f behind) (ltb behind n)
+          (λ t. on_cond (λ (x : Result Event Refusal). frame_reading l x ≡ frame_in l f behind) (ltb behind n)
           (λ b. read_refused 1 (cut_text f behind k unstray (sym is ∙ t) (let y = ltb-true behind n b in omega arith)) (λ z. omega arith))
           (λ b. ap₂ taken event size ∙ read_taken (no_refusal f behind k unstray (sym is ∙ t) (let y = ltb-false behind n b in omega arith))))
 
     -- a frame without a text, with a number that is zero where the fields not listed are
     listed_read : (f.kind ≡ 9 → ⊥) → (stray : ℕ) → (stray ≡ 0 → unlisted f ≡ 0) → (unlisted f ≡ 0 → stray ≡ 0) → (unlisted f ≡ 0 → f.length ≡ 0)
-        → (e : Event) (r : Reading) → r ≡ if_listed stray e → size_of e ≡ 16 → event_in l e ≡ event_at f l → reading_in l r ≡ frame_in l f behind
+        → (e : Event) (r : Result Event Refusal) → r ≡ if_listed stray e → size_of e ≡ 16 → event_in l e ≡ event_at f l → frame_reading l r ≡ frame_in l f behind
     listed_read short stray only all alone e r q s g =
-        ap (reading_in l) q
-        ∙ on_cond (λ (x : Reading). reading_in l x ≡ frame_in l f behind) (eqb stray 0)
+        ap (frame_reading l) q
+        ∙ on_cond (λ (x : Result Event Refusal). frame_reading l x ≡ frame_in l f behind) (eqb stray 0)
         (λ t. let u = only (eqb-true stray 0 t) in alone_read e u short (alone u) g s)
         (λ n. stray_read stray all (eqb-false stray 0 n))
 
@@ -94,10 +94,10 @@ module _ (f : Halves) (behind : ℕ) (l : List ℕ) where
   pub unknown_read : last_kind < fields.kind → refused_frame 2 ≡ frame_in l fields behind
   unknown_read k = read_refused fields behind l 2 (no_kind fields behind k) (λ z. omega arith)
 
-  module _ (e : Event) (r : Reading) where
+  module _ (e : Event) (r : Result Event Refusal) where
     -- start, enter, radio: station and cart are listed, and the low bits are those below the cart
     pub station_read : fields.kind < 9 → unlisted fields ≡ fields.other + fields.length + fields.zero + fields.set
-        → r ≡ if_listed (f.head % 2 ^ 50 + 0 + f.set) e → size_of e ≡ 16 → event_in l e ≡ event_at fields l → reading_in l r ≡ frame_in l fields behind
+        → r ≡ if_listed (f.head % 2 ^ 50 + 0 + f.set) e → size_of e ≡ 16 → event_in l e ≡ event_at fields l → frame_reading l r ≡ frame_in l fields behind
     station_read k u q s g =
         let low = low_fields f.head f.set in
         listed_read fields behind l (omega arith) (λ y. omega arith) (f.head % 2 ^ 50 + 0 + f.set) (λ z. u ∙ low.0 z) (λ z. low.1 (sym u ∙ z)) (λ z. omega (arith, u, z)) e r q s g
@@ -105,29 +105,29 @@ module _ (f : Halves) (behind : ℕ) (l : List ℕ) where
     -- wire, move, flag and group: other is listed, the low bits are those below it; what is not listed above it has this sum, and what is not listed of
     -- the set is this
     other_read : (above set : ℕ) → fields.kind < 9 → unlisted fields ≡ above + fields.length + fields.zero + set
-        → r ≡ if_listed (f.head % 2 ^ 46 + above + set) e → size_of e ≡ 16 → event_in l e ≡ event_at fields l → reading_in l r ≡ frame_in l fields behind
+        → r ≡ if_listed (f.head % 2 ^ 46 + above + set) e → size_of e ≡ 16 → event_in l e ≡ event_at fields l → frame_reading l r ≡ frame_in l fields behind
     other_read above set k u q s g =
         listed_read fields behind l (omega arith) (λ y. omega arith) (f.head % 2 ^ 46 + above + set) (λ z. omega arith) (λ z. omega arith) (λ z. omega (arith, u, z)) e r q s g
 
     pub wire_read : fields.kind ≡ 3 → r ≡ if_listed (f.head % 2 ^ 46 + fields.cart + f.set) e → size_of e ≡ 16 → event_in l e ≡ event_at fields l
-        → reading_in l r ≡ frame_in l fields behind
+        → frame_reading l r ≡ frame_in l fields behind
     wire_read k = other_read fields.cart f.set (omega arith) (unlisted_wire fields k)
 
     pub move_read : fields.kind ≡ 5 → r ≡ if_listed (f.head % 2 ^ 46 + fields.station + f.set) e → size_of e ≡ 16 → event_in l e ≡ event_at fields l
-        → reading_in l r ≡ frame_in l fields behind
+        → frame_reading l r ≡ frame_in l fields behind
     move_read k = other_read fields.station f.set (omega arith) (unlisted_move fields k)
 
     pub flag_read : fields.kind ≡ 6 → r ≡ if_listed (f.head % 2 ^ 46 + (fields.station + fields.other / 2) + f.set) e → size_of e ≡ 16
-        → event_in l e ≡ event_at fields l → reading_in l r ≡ frame_in l fields behind
+        → event_in l e ≡ event_at fields l → frame_reading l r ≡ frame_in l fields behind
     flag_read k = other_read (fields.station + fields.other / 2) f.set (omega arith) (unlisted_flag fields k)
 
     pub group_read : fields.kind ≡ 7 → r ≡ if_listed (f.head % 2 ^ 46 + (fields.station + fields.cart) + 0) e → size_of e ≡ 16
-        → event_in l e ≡ event_at fields l → reading_in l r ≡ frame_in l fields behind
+        → event_in l e ≡ event_at fields l → frame_reading l r ≡ frame_in l fields behind
     group_read k = let u = unlisted_group fields k in other_read (fields.station + fields.cart) 0 (omega arith) (omega (arith, u))
 
     -- retire: of the head the cart alone is listed, and the low bits are those below it
     pub retire_read : fields.kind ≡ 10 → r ≡ if_listed (f.head % 2 ^ 50 + fields.station + f.set) e → size_of e ≡ 16
-        → event_in l e ≡ event_at fields l → reading_in l r ≡ frame_in l fields behind
+        → event_in l e ≡ event_at fields l → frame_reading l r ≡ frame_in l fields behind
     retire_read k q s g =
         let u = unlisted_retire fields k in
         let low = low_fields f.head f.set in
@@ -138,29 +138,29 @@ module _ (f : Halves) (behind : ℕ) (l : List ℕ) where
 
     -- send, to a set or to a group, with no stray field: the low bits are those below the length
     short_read : fields.kind < 9 → unlisted fields ≡ 0 → r ≡ if_whole (ltb 32 fields.length) fields.length behind e
-        → size_of e ≡ 16 + fields.length → event_in l e ≡ event_of limits fields (take fields.length (drop 16 l)) → reading_in l r ≡ frame_in l fields behind
+        → size_of e ≡ 16 + fields.length → event_in l e ≡ event_of limits fields (take fields.length (drop 16 l)) → frame_reading l r ≡ frame_in l fields behind
     short_read k u q s g =
         let short = short_length fields (λ y. omega arith) in
         let wrong = ap (ltb 32) short ∙ short_wrong fields (λ y. omega arith) in
-        ap (reading_in l) q ∙ whole_read fields behind l (omega arith) e u (ltb 32 fields.length) fields.length wrong short g s
+        ap (frame_reading l) q ∙ whole_read fields behind l (omega arith) e u (ltb 32 fields.length) fields.length wrong short g s
 
     pub send_read : fields.kind ≡ 2 → f.head % 2 ^ 40 + f.head / 2 ^ 46 % 1024 ≡ 0 → r ≡ if_whole (ltb 32 fields.length) fields.length behind e
-        → size_of e ≡ 16 + fields.length → event_in l e ≡ event_of limits fields (take fields.length (drop 16 l)) → reading_in l r ≡ frame_in l fields behind
+        → size_of e ≡ 16 + fields.length → event_in l e ≡ event_of limits fields (take fields.length (drop 16 l)) → frame_reading l r ≡ frame_in l fields behind
     send_read k z = short_read (omega arith) (unlisted_send fields k ∙ (send_fields f.head).0 z)
 
     pub send_group_read : fields.kind ≡ 8 → f.head % 2 ^ 40 + fields.cart + f.set ≡ 0 → r ≡ if_whole (ltb 32 fields.length) fields.length behind e
-        → size_of e ≡ 16 + fields.length → event_in l e ≡ event_of limits fields (take fields.length (drop 16 l)) → reading_in l r ≡ frame_in l fields behind
+        → size_of e ≡ 16 + fields.length → event_in l e ≡ event_of limits fields (take fields.length (drop 16 l)) → frame_reading l r ≡ frame_in l fields behind
     send_group_read k z = let u = unlisted_send_group fields k in short_read (omega arith) (omega (arith, u, z))
 
     -- a long send: its length is the last sixteen bits, which are of the zero field
     pub send_long_read : fields.kind ≡ 9 → f.head % 2 ^ 40 / 65536 + f.head / 2 ^ 40 % 65536 ≡ 0
         → r ≡ if_whole (not_long limits (f.head % 65536)) (f.head % 65536) behind e
-        → size_of e ≡ 16 + f.head % 65536 → event_in l e ≡ event_of limits fields (take (f.head % 65536) (drop 16 l)) → reading_in l r ≡ frame_in l fields behind
+        → size_of e ≡ 16 + f.head % 65536 → event_in l e ≡ event_of limits fields (take (f.head % 65536) (drop 16 l)) → frame_reading l r ≡ frame_in l fields behind
     send_long_read k z q s g =
         let u = unlisted_send_long fields k ∙ (long_fields f.head).0 (omega arith) in
         let long = low_sixteen f.head ∙ long_length fields k in
         let wrong = ap (not_long limits) long ∙ long_wrong fields k in
-        ap (reading_in l) q ∙ whole_read fields behind l (omega arith) e u (not_long limits (f.head % 65536)) (f.head % 65536) wrong long g s
+        ap (frame_reading l) q ∙ whole_read fields behind l (omega arith) e u (not_long limits (f.head % 65536)) (f.head % 65536) wrong long g s
 
   -- with one
   pub send_stray : fields.kind ≡ 2 → (f.head % 2 ^ 40 + f.head / 2 ^ 46 % 1024 ≡ 0 → ⊥) → refused_frame 3 ≡ frame_in l fields behind
@@ -278,11 +278,11 @@ module _ (l : List ℕ) (f : frames.Fields) (text : List ℕ) (k : f.kind ≤ la
       (λ nine. let z = long_text f w nine in let a = z.0 in let b = z.1 in (omega arith, omega arith))
       (λ other. clash true refl (ap is_long g ∙ not_long_lem f text other k))
 
-module _ (l : List ℕ) (at : ℕ) (r : Reading) (read : reading_in (drop at l) r ≡ read_at limits l at) where
+module _ (l : List ℕ) (at : ℕ) (r : Result (Option Event) Refusal) (read : reading_in (drop at l) r ≡ read_at limits l at) where
   -- the same for the decoder's event
-  module _ (e : Event) (q : r ≡ Taken e) where
+  module _ (e : Event) (q : r ≡ Ok (Some e)) where
     there : read_at limits l at ≡ taken_in (drop at l) e
-    there = sym read ∙ ap (λ (x : Reading). reading_in (drop at l) x) q
+    there = sym read ∙ ap (λ (x : Result (Option Event) Refusal). reading_in (drop at l) x) q
 
     pub event_inside : (at + size_of e ≤ length l) × (size_of e ≤ longest_frame)
     event_inside = taken_inside l at _ (size_of e) there
@@ -301,7 +301,7 @@ module _ (l : List ℕ) (at : ℕ) (r : Reading) (read : reading_in (drop at l) 
   pub same_number : refusal_of r ≡ refusal_number (read_at limits l at)
   same_number = written r ∙ ap refusal_number read
     where
-      written : (x : Reading) → refusal_of x ≡ refusal_number (reading_in (drop at l) x)
-      written End = refl
-      written (Refused n) = refl
-      written (Taken e) = refl
+      written : (x : Result (Option Event) Refusal) → refusal_of x ≡ refusal_number (reading_in (drop at l) x)
+      written (Ok None) = refl
+      written (Ok (Some e)) = refl
+      written (Err n) = refl

@@ -1,6 +1,9 @@
 -- What the decoder's values say, in the words of the written steps.
-use Rattle.std.specs.Prelude.{Bool, cond, List, [], ◌∷◌, ℕ, zero, suc, ◌+◌, ◌/◌, ◌%◌, ◌^◌, ◌≤◌, ◌<◌, eqb, ltb, take, drop}
+use Rattle.std.specs.Prelude.{Bool, cond, List, [], ℕ, ◌+◌, ◌/◌, ◌%◌, ◌^◌, ◌≤◌, ◌<◌, eqb, ltb, take, drop, Option, None, Some, Result, Ok, Err}
 use Prim.{Unit}
+use Rattle.refusals.specs.declared.Refusal.{Refusal}
+use Rattle.refusals.specs.declared.Refusal.TheVariants.{CutShort, StrayField, WrongLength}
+use Rattle.refusals.specs.Numbers.{number_of}
 use Rattle.protocol.specs.Floor.{limits, most_text}
 use Rattle.protocol.specs.Events.{start, enter, send, wire, radio, move, flag, group, send_group, send_long, retire}
 use Rattle.protocol.specs.Events as events
@@ -8,8 +11,6 @@ use Rattle.protocol.specs.Frames.{Fields, text_length, event_of, fields_refusal,
 use Rattle.protocol.specs.Frames as frames
 use Rattle.frames.specs.declared.Event.{Event}
 use Rattle.frames.specs.declared.Event.TheVariants.{Start, Enter, Send, Wire, Radio, Move, Flag, Group, SendGroup, SendLong, Retire}
-use Rattle.frames.specs.declared.Reading.{Reading}
-use Rattle.frames.specs.declared.Reading.TheVariants.{End, Refused, Taken}
 use Rattle.frames.specs.declared.Halves.{Halves}
 
 -- the event, with these octets from its frame on: "A send is followed by its text", and so are a send to a group and a long one; a radio step's text
@@ -63,11 +64,16 @@ TextFits (Retire c) = Unit
 abbrev pub taken_in : List ℕ → Event → frames.Reading
 taken_in l e = taken (event_in l e) (size_of e)
 
--- what was read at the front of these octets: "a frame is either taken apart into one event or refused"
-abbrev pub reading_in : List ℕ → Reading → frames.Reading
-reading_in l End = end
-reading_in l (Refused r) = refused_frame r
-reading_in l (Taken e) = taken_in l e
+-- the frame at the front of these octets: "a frame is either taken apart into one event or refused"
+abbrev pub frame_reading : List ℕ → Result Event Refusal → frames.Reading
+frame_reading l (Ok e) = taken_in l e
+frame_reading l (Err r) = refused_frame (number_of r)
+
+-- what was read at the front of these octets: nothing where none is left, and else the frame
+abbrev pub reading_in : List ℕ → Result (Option Event) Refusal → frames.Reading
+reading_in l (Ok None) = end
+reading_in l (Ok (Some e)) = taken_in l e
+reading_in l (Err r) = refused_frame (number_of r)
 
 -- the refusal number of what was read, 0 for an event and for "end"
 abbrev pub refusal_number : frames.Reading → ℕ
@@ -76,15 +82,10 @@ refusal_number (refused_frame r) = r
 refusal_number (taken e size) = 0
 
 -- the same of the decoder's reading, for which the octets do not matter
-abbrev pub refusal_of : Reading → ℕ
+abbrev pub refusal_of : Result (Option Event) Refusal → ℕ
 refusal_of r = refusal_number (reading_in [] r)
 
 -- FRAMES
-
--- n octets of a number, least significant first
-unfoldable pub low_octets : ℕ → ℕ → List ℕ
-low_octets zero w = []
-low_octets (suc n) w = w % 256 ∷ low_octets n (w / 256)
 
 -- the fields of a frame: "kind 4 bits, station 4, cart 6, other 4, length 6, zero 40, set 64"
 abbrev pub fields_in : Halves → Fields
@@ -101,13 +102,13 @@ fields_in f =
     }
 
 -- an event whose frame has fields of this sum not listed for its kind: "Fields not listed for a kind must be zero"
-abbrev pub if_listed : ℕ → Event → Reading
-if_listed n e = cond (eqb n 0) (Taken e) (Refused 3)
+abbrev pub if_listed : ℕ → Event → Result Event Refusal
+if_listed n e = cond (eqb n 0) (Ok e) (Err StrayField)
 
 -- an event with a text of this length, which may be wrong for its kind, and so many octets behind its frame: 4, "Text of 32 accepted, 33 is 4", "for
 -- kind 9, 4 for other lengths", and then 1, "fewer text octets than the length"
-abbrev pub if_whole : (wrong : Bool) → ℕ → ℕ → Event → Reading
-if_whole wrong length behind e = cond wrong (Refused 4) (cond (ltb behind length) (Refused 1) (Taken e))
+abbrev pub if_whole : (wrong : Bool) → ℕ → ℕ → Event → Result Event Refusal
+if_whole wrong length behind e = cond wrong (Err WrongLength) (cond (ltb behind length) (Err CutShort) (Ok e))
 
 -- the reading of a frame with these fields, at the front of these octets, and so many octets behind it
 abbrev pub frame_in : List ℕ → Fields → ℕ → frames.Reading

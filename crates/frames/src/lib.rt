@@ -6,9 +6,10 @@ ghost use Rattle.std.proofs.Math.Seq.{paste};
 ghost use Rattle.protocol.specs.Floor.{limits};
 ghost use Rattle.protocol.specs.Store.{not_long};
 ghost use Rattle.protocol.specs.Frames.{big_endian, fields_of, read_at};
-ghost use Rattle.frames.specs.Decoded.{low_octets, fields_in, if_listed, if_whole, frame_in, size_of, reading_in, refusal_of};
+ghost use Rattle.frames.specs.Decoded.{fields_in, if_listed, if_whole, frame_in, size_of, frame_reading, reading_in, refusal_of};
 
 use ids::{CartNumber, Station};
+use refusals::Refusal;
 
 // An event.
 #[derive(Clone, Copy)]
@@ -35,14 +36,6 @@ pub enum Event {
     Retire(CartNumber),
 }
 
-// What stands at a place: nothing, a frame that is refused, or an event.
-#[derive(Clone, Copy)]
-pub enum Reading {
-    End,
-    Refused(u64),
-    Taken(Event),
-}
-
 // The sixteen octets of a frame as two numbers: kind to zero, and the set.
 #[derive(Clone, Copy)]
 struct Halves {
@@ -67,31 +60,19 @@ const LENGTH_BIT: u64 = 1 << 40;
 // The lowest bit of the head above a long text's length: "the last sixteen of the forty zero bits hold that length".
 const ABOVE_LONG: u64 = 1 << 16;
 
-fn wide(x: u8) -> u64
-    ensures { (result ≡ x) × (result < 256) }
-{
-    x as u64
-}
-
-// Eight octets as one number, the first the least significant: the machine's own order, in which it loads all eight at once.
+// Eight octets as one number: "packed most significant bit first".
 fn word_at(octets: &[u8], at: usize) -> u64
     requires { at + 8 ≤ length octets.now }
-    ensures { low_octets 8 result ≡ take 8 (drop at octets.now) }
+    ensures { result ≡ big_endian 0 (take 8 (drop at octets.now)) }
 {
-    let mut value: u64 = 0;
-    let mut i: usize = 0;
-    while i < 8 {
-        value = value * 256 + wide(octets[at + 7 - i]);
-        i += 1;
-    }
-    value
+    let eight: &[u8; 8] = octets[at..].first_chunk().unwrap();
+    u64::from_be_bytes(*eight)
 }
 
-// The sixteen octets at a place, as the machine loads them.
-fn words_at(octets: &[u8], at: usize) -> Halves
+// The frame at a place: kind to zero, and the set.
+fn halves_at(octets: &[u8], at: usize) -> Halves
     requires { at + 16 ≤ length octets.now }
-    ensures head_value { low_octets 8 result.head ≡ take 8 (drop at octets.now) }
-    ensures set_value { low_octets 8 result.set ≡ take 8 (drop (at + 8) octets.now) }
+    ensures { fields_in result ≡ fields_of (drop at octets.now) }
 {
     Halves {
         head: word_at(octets, at),
@@ -99,87 +80,51 @@ fn words_at(octets: &[u8], at: usize) -> Halves
     }
 }
 
-// The number that the octets of a word make, most significant first.
-fn swapped(word: u64) -> u64
-    ensures { result ≡ big_endian 0 (low_octets 8 word) }
-{
-    let mut left = word;
-    let mut value: u64 = 0;
-    let mut i: usize = 0;
-    while i < 8 {
-        value = value * 256 + left % 256;
-        left = left / 256;
-        i += 1;
-    }
-    value
-}
-
-// The frame at a place: "fields packed most significant bit first".
-fn halves_at(octets: &[u8], at: usize) -> Halves
-    requires { at + 16 ≤ length octets.now }
-    ensures { fields_in result ≡ fields_of (drop at octets.now) }
-{
-    let words = words_at(octets, at);
-    Halves {
-        head: swapped(words.head),
-        set: swapped(words.set),
-    }
-}
-
 // The event of a frame whose kind does not list the low bits of the head, a field above them and the set, if all that is zero: "Fields not listed for a
 // kind must be zero."
-fn if_listed(low: u64, field: u64, set: u64, e: Event) -> Reading
+fn if_listed(low: u64, field: u64, set: u64, e: Event) -> Result<Event, Refusal>
     ensures { result ≡ if_listed (low + field + set) e }
 {
-    if low != 0 {
-        return Reading::Refused(3);
+    if low != 0 || field != 0 || set != 0 {
+        return Err(Refusal::StrayField);
     }
-    if field != 0 {
-        return Reading::Refused(3);
-    }
-    if set != 0 {
-        return Reading::Refused(3);
-    }
-    Reading::Taken(e)
+    Ok(e)
 }
 
 // An event with a text of this length, and so many octets behind its frame: "Checks run down the table".
-fn if_whole(length: u64, behind: usize, e: Event) -> Reading
+fn if_whole(length: u64, behind: usize, e: Event) -> Result<Event, Refusal>
     ensures { result ≡ if_whole (ltb limits.text length) length behind e }
 {
     if (products::TEXT as u64) < length {
-        return Reading::Refused(4);
+        return Err(Refusal::WrongLength);
     }
     if (behind as u64) < length {
-        return Reading::Refused(1);
+        return Err(Refusal::CutShort);
     }
-    Reading::Taken(e)
+    Ok(e)
 }
 
 // The same of a long text: "33 to 512 octets", and "4 for other lengths".
-fn if_whole_long(length: u64, behind: usize, e: Event) -> Reading
+fn if_whole_long(length: u64, behind: usize, e: Event) -> Result<Event, Refusal>
     ensures { result ≡ if_whole (not_long limits length) length behind e }
 {
-    if length <= products::TEXT as u64 {
-        return Reading::Refused(4);
-    }
-    if (products::LONG as u64) < length {
-        return Reading::Refused(4);
+    if length <= products::TEXT as u64 || (products::LONG as u64) < length {
+        return Err(Refusal::WrongLength);
     }
     if (behind as u64) < length {
-        return Reading::Refused(1);
+        return Err(Refusal::CutShort);
     }
-    Reading::Taken(e)
+    Ok(e)
 }
 
 // "2 send (station, length, set)", with so many octets behind the frame.
-fn send_of(f: Halves, behind: usize) -> Reading
+fn send_of(f: Halves, behind: usize) -> Result<Event, Refusal>
     requires { (fields_in f).kind ≡ 2 }
-    ensures { (l : List ℕ) → reading_in l result ≡ frame_in l (fields_in f) behind }
+    ensures { (l : List ℕ) → frame_reading l result ≡ frame_in l (fields_in f) behind }
 {
     let stray = f.head % LENGTH_BIT + f.head / OTHER_BIT % 1024;
     if stray != 0 {
-        return Reading::Refused(3);
+        return Err(Refusal::StrayField);
     }
     let length = f.head / LENGTH_BIT % 64;
     let e = Event::Send(Station(f.head / STATION_BIT % 16), f.set, length as usize);
@@ -188,9 +133,9 @@ fn send_of(f: Halves, behind: usize) -> Reading
 
 // "New frame kind 6 carries a cart and, in the other field, 1 for steady or 0 for not; 2 to 15 there is refusal 3": of that field all but the lowest bit
 // is as a field that is not listed.
-fn flag_of(f: Halves) -> Reading
+fn flag_of(f: Halves) -> Result<Event, Refusal>
     requires { (fields_in f).kind ≡ 6 }
-    ensures { (l : List ℕ) (behind : ℕ) → reading_in l result ≡ frame_in l (fields_in f) behind }
+    ensures { (l : List ℕ) (behind : ℕ) → frame_reading l result ≡ frame_in l (fields_in f) behind }
 {
     let station = f.head / STATION_BIT % 16;
     let other = f.head / OTHER_BIT % 16;
@@ -200,9 +145,9 @@ fn flag_of(f: Halves) -> Reading
 }
 
 // "Kind 7 carries a group number in the other field and the set".
-fn group_of(f: Halves) -> Reading
+fn group_of(f: Halves) -> Result<Event, Refusal>
     requires { (fields_in f).kind ≡ 7 }
-    ensures { (l : List ℕ) (behind : ℕ) → reading_in l result ≡ frame_in l (fields_in f) behind }
+    ensures { (l : List ℕ) (behind : ℕ) → frame_reading l result ≡ frame_in l (fields_in f) behind }
 {
     let stray = f.head / STATION_BIT % 16 + f.head / CART_BIT % 64;
     let e = Event::Group(f.head / OTHER_BIT % 16, f.set);
@@ -210,16 +155,13 @@ fn group_of(f: Halves) -> Reading
 }
 
 // "Kind 8 carries station, group (other field) and length, then text", with so many octets behind the frame.
-fn send_group_of(f: Halves, behind: usize) -> Reading
+fn send_group_of(f: Halves, behind: usize) -> Result<Event, Refusal>
     requires { (fields_in f).kind ≡ 8 }
-    ensures { (l : List ℕ) → reading_in l result ≡ frame_in l (fields_in f) behind }
+    ensures { (l : List ℕ) → frame_reading l result ≡ frame_in l (fields_in f) behind }
 {
     let stray = f.head % LENGTH_BIT + f.head / CART_BIT % 64;
-    if stray != 0 {
-        return Reading::Refused(3);
-    }
-    if f.set != 0 {
-        return Reading::Refused(3);
+    if stray != 0 || f.set != 0 {
+        return Err(Refusal::StrayField);
     }
     let length = f.head / LENGTH_BIT % 64;
     let group = f.head / OTHER_BIT % 16;
@@ -229,13 +171,13 @@ fn send_group_of(f: Halves, behind: usize) -> Reading
 
 // "Kind 9 is a send whose text has 33 to 512 octets; the last sixteen of the forty zero bits hold that length, and the six-bit length stays zero", with
 // so many octets behind the frame. Cart, other and the six-bit length are the sixteen bits below the station.
-fn send_long_of(f: Halves, behind: usize) -> Reading
+fn send_long_of(f: Halves, behind: usize) -> Result<Event, Refusal>
     requires { (fields_in f).kind ≡ 9 }
-    ensures { (l : List ℕ) → reading_in l result ≡ frame_in l (fields_in f) behind }
+    ensures { (l : List ℕ) → frame_reading l result ≡ frame_in l (fields_in f) behind }
 {
     let stray = f.head % LENGTH_BIT / ABOVE_LONG + f.head / LENGTH_BIT % 65536;
     if stray != 0 {
-        return Reading::Refused(3);
+        return Err(Refusal::StrayField);
     }
     let length = f.head % ABOVE_LONG;
     let e = Event::SendLong(Station(f.head / STATION_BIT % 16), f.set, length as usize);
@@ -243,9 +185,9 @@ fn send_long_of(f: Halves, behind: usize) -> Reading
 }
 
 // "Kind 10 carries a cart": the low bits are those below it.
-fn retire_of(f: Halves) -> Reading
+fn retire_of(f: Halves) -> Result<Event, Refusal>
     requires { (fields_in f).kind ≡ 10 }
-    ensures { (l : List ℕ) (behind : ℕ) → reading_in l result ≡ frame_in l (fields_in f) behind }
+    ensures { (l : List ℕ) (behind : ℕ) → frame_reading l result ≡ frame_in l (fields_in f) behind }
 {
     let stray = f.head / STATION_BIT % 16;
     let e = Event::Retire(CartNumber(f.head / CART_BIT % 64));
@@ -253,9 +195,9 @@ fn retire_of(f: Halves) -> Reading
 }
 
 // A frame of a kind above 7, with so many octets behind it: "refusal 2 no longer covers a kind once a request defines it".
-fn latest_of(f: Halves, behind: usize) -> Reading
+fn latest_of(f: Halves, behind: usize) -> Result<Event, Refusal>
     requires { 7 < (fields_in f).kind }
-    ensures { (l : List ℕ) → reading_in l result ≡ frame_in l (fields_in f) behind }
+    ensures { (l : List ℕ) → frame_reading l result ≡ frame_in l (fields_in f) behind }
 {
     let kind = f.head / KIND_BIT;
     if kind == 8 {
@@ -267,13 +209,13 @@ fn latest_of(f: Halves, behind: usize) -> Reading
     if kind == 10 {
         return retire_of(f);
     }
-    Reading::Refused(2)
+    Err(Refusal::NoSuchKind)
 }
 
 // A frame of a kind that came later than the first release, with so many octets behind it.
-fn later_of(f: Halves, behind: usize) -> Reading
+fn later_of(f: Halves, behind: usize) -> Result<Event, Refusal>
     requires { 5 < (fields_in f).kind }
-    ensures { (l : List ℕ) → reading_in l result ≡ frame_in l (fields_in f) behind }
+    ensures { (l : List ℕ) → frame_reading l result ≡ frame_in l (fields_in f) behind }
 {
     let kind = f.head / KIND_BIT;
     if 7 < kind {
@@ -288,8 +230,8 @@ fn later_of(f: Halves, behind: usize) -> Reading
 // A frame with so many octets behind it, taken apart by its kind or refused. Kinds are asked for one after the other, and not by a table of jumps:
 // which comes cannot be guessed, and a table has to be read before it is known that the guess was wrong. For the same reason those of the first release
 // are told from the later ones by a comparison, and never more than three are asked for in a row.
-fn reading_of(f: Halves, behind: usize) -> Reading
-    ensures { (l : List ℕ) → reading_in l result ≡ frame_in l (fields_in f) behind }
+fn reading_of(f: Halves, behind: usize) -> Result<Event, Refusal>
+    ensures { (l : List ℕ) → frame_reading l result ≡ frame_in l (fields_in f) behind }
 {
     let head = f.head;
     let kind = head / KIND_BIT;
@@ -323,16 +265,17 @@ fn reading_of(f: Halves, behind: usize) -> Reading
 }
 
 // What stands at a place of the octets. "With no octet left, a position past the end counted so, the reader says end."
-pub fn frame_at(octets: &[u8], at: usize) -> Reading
+pub fn frame_at(octets: &[u8], at: usize) -> Result<Option<Event>, Refusal>
     ensures { reading_in (drop at octets.now) result ≡ read_at limits octets.now at }
 {
     if octets.len() <= at {
-        return Reading::End;
+        return Ok(None);
     }
     if octets.len() - at < FRAME {
-        return Reading::Refused(1);
+        return Err(Refusal::CutShort);
     }
-    reading_of(halves_at(octets, at), octets.len() - at - FRAME)
+    let e = reading_of(halves_at(octets, at), octets.len() - at - FRAME)?;
+    Ok(Some(e))
 }
 
 // How many octets an event took: its frame, and of a send of any kind the text.
@@ -349,13 +292,12 @@ pub fn size_of(e: Event) -> usize
 }
 
 // The refusal number of a reading, 0 for an event and at the end.
-pub fn refusal(reading: Reading) -> u64
+pub fn refusal(reading: Result<Option<Event>, Refusal>) -> u64
     ensures { result ≡ refusal_of reading }
 {
     match reading {
-        Reading::End => 0,
-        Reading::Refused(number) => number,
-        Reading::Taken(_) => 0,
+        Ok(_) => 0,
+        Err(refusal) => refusal.number(),
     }
 }
 
@@ -366,11 +308,6 @@ pub fn keep(input: &mut [u8], at: usize, have: usize) -> usize
     ensures value { (result ≡ have - at) × (input.new ≡ paste input.old 0 (drop at input.old) (have - at)) }
     ensures input_len_unchanged { length input.new ≡ length input.old }
 {
-    let n = have - at;
-    let mut i: usize = 0;
-    while i < n {
-        input[i] = input[at + i];
-        i += 1;
-    }
-    n
+    input.copy_within(at..have, 0);
+    have - at
 }
