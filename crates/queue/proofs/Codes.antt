@@ -1,32 +1,44 @@
--- A room, or none, in a word.
-use mathlib.Core.Path.{◌≡◌, refl}
+-- A room, or none: as the code has it, and in a word.
+use mathlib.Core.Path.{◌≡◌, refl, ap, ◌∙◌}
 use mathlib.Core.Option.{Option, none, some}
 use Prim.Native.Nat.{ℕ, ◌<◌, ◌≤◌}
 use native.Mathlib.Omega.{arith}
 use borrow.Author.Tests.{lt-ltb, le-ltb}
-use Rattle.protocol.proofs.Tests.{by_lt}
-use Rattle.queue.specs.Rooms.{room_code, room_in}
+use Rattle.std.specs.Prelude as code
+use Rattle.std.specs.Prelude.{Some, None}
+use Rattle.queue.specs.Rooms.{room_code, room_in, room_word, room_at}
 
 -- the room, if any, is one of the first n
 abbrev pub Below : ℕ → Option ℕ → Type 0
 Below n none = 0 ≤ n
 Below n (some m) = m < n
 
-pub room_in_lem : (k : ℕ) → k < 32 → room_in k ≡ some k
-room_in_lem k h = rw (lt-ltb k 32 h)
+-- what the code has says the room, or none
+pub decoded : (o : Option ℕ) → room_in (room_code o) ≡ o
+decoded none = refl
+decoded (some m) = refl
 
-pub no_room_in : (k : ℕ) → 32 ≤ k → room_in k ≡ none
-no_room_in k h = rw (le-ltb k 32 h)
+pub encoded : (h : code.Option ℕ) → h ≡ room_code (room_in h)
+encoded None = refl
+encoded (Some m) = refl
 
--- the word of a room, or of none, says it
-pub decoded : (o : Option ℕ) (n : ℕ) → n ≤ 32 → Below n o → room_in (room_code o) ≡ o
-decoded none n l h = refl
-decoded (some m) n l h = room_in_lem m (omega arith)
+pub code_says : (o : Option ℕ) {h : code.Option ℕ} → h ≡ room_code o → o ≡ room_in h
+code_says none e = rw e refl
+code_says (some m) e = rw e refl
 
-pub code_fits : (o : Option ℕ) (n : ℕ) → n ≤ 32 → Below n o → room_code o ≤ 32
-code_fits none n l h = omega arith
-code_fits (some m) n l h = omega arith
+pub is_room : (o : Option ℕ) {h : code.Option ℕ} (m : ℕ) → h ≡ Some m → h ≡ room_code o → o ≡ some m
+is_room o m found e = code_says o e ∙ ap room_in found
 
--- what a word says has that word
-pub encoded : (k : ℕ) → k ≤ 32 → k ≡ room_code (room_in k)
-encoded k h = by_lt k 32 (λ l. rw (room_in_lem k l)) (λ l. rw (no_room_in k l) (omega arith))
+pub is_none : (o : Option ℕ) {h : code.Option ℕ} → h ≡ None → h ≡ room_code o → o ≡ none
+is_none o found e = code_says o e ∙ ap room_in found
+
+-- in a word
+pub room_at_lem : (k : ℕ) → k < 32 → room_at k ≡ some k
+room_at_lem k h = rw (lt-ltb k 32 h)
+
+pub no_room_at : (k : ℕ) → 32 ≤ k → room_at k ≡ none
+no_room_at k h = rw (le-ltb k 32 h)
+
+pub word_says : (o : Option ℕ) (n : ℕ) → n ≤ 32 → Below n o → room_at (room_word o) ≡ o
+word_says none n l h = refl
+word_says (some m) n l h = room_at_lem m (omega arith)

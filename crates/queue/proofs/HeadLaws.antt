@@ -12,9 +12,8 @@ use Rattle.protocol.specs.Wireless.{stands_before, head_with, head_among}
 use Rattle.protocol.specs.Deregister.{in_order}
 use Rattle.protocol.proofs.Tests.{by_eq, by_lt, by_test, clash, on_cond}
 use Rattle.protocol.proofs.InOrder.{in_order_first, without_room}
-use Rattle.protocol.proofs.QueueOrder.{Ahead, stands_ahead, stands_behind, before_ahead}
+use Rattle.protocol.proofs.QueueOrder.{stands_ahead, stands_behind, before_ahead}
 use Rattle.sets.proofs.Walk.{nothing_between}
-use Rattle.queue.specs.Rooms.{room_code}
 use Rattle.queue.specs.Keys.{has_entry, first_with, first_among}
 use Rattle.queue.proofs.Codes.{Below}
 
@@ -77,15 +76,7 @@ module _ (F : Floor) (pick : ℕ → Bool) where
   first_is zero = λ k l. absurd (omega arith)
   first_is (suc n) = is_more n (first_among F pick n) (first_is n)
 
-  -- where one is picked, a room is found, and its word says it
-  pub first_found : (n r k : ℕ) → k < n → pick k ≡ true → r ≡ room_code (first_among F pick n) → first_among F pick n ≡ some r
-  first_found n r k l p e = found (first_among F pick n) (first_is n) e
-    where
-      found : (o : Option ℕ) → IsFirst n o → r ≡ room_code o → o ≡ some r
-      found none q e = clash (pick k) p (q k l)
-      found (some m) q e = ap some (sym e)
-
-  -- and in queue order it comes first
+  -- what is found comes first in queue order
   pub first_in_order : (n m : ℕ) → first_among F pick n ≡ some m → (m < n) × ((pick m ≡ true) × (in_order F pick n ≡ m ∷ in_order F (without_room pick m) n))
   first_in_order n m e =
       let z : IsFirst n (some m) = subst (IsFirst n) e (first_is n) in

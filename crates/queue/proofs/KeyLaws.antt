@@ -12,9 +12,10 @@ use Rattle.protocol.specs.Floor.{Floor}
 use Rattle.protocol.specs.Wireless.{stands_before}
 use Rattle.protocol.proofs.Tests.{by_lt, by_eq, by_test, on_cond}
 use Rattle.queue.specs.declared.Best.{Best}
-use Rattle.queue.specs.Rooms.{room_code}
+use Rattle.queue.specs.Rooms.{room_word, room_at}
 use Rattle.queue.specs.Keys.{InKey, key_of, Keyed, has_entry, first_with, first_among, first_of, best_with}
-use Rattle.queue.proofs.HeadLaws.{first_out}
+use Rattle.queue.proofs.Codes.{word_says}
+use Rattle.queue.proofs.HeadLaws.{first_out, first_below}
 
 -- A KEY HOLDS A NUMBER: one of w bits, beside the 4 of its initiator
 pub key_of_width : (w number initiator : ℕ) → number < 2 ^ w → initiator < 16 → key_of number initiator < 2 ^ (w + 4)
@@ -77,7 +78,7 @@ module _ (F : Floor) where
   best_of none = record { head = 32; key = 18446744073709551615 }
   best_of (some m) = record { head = m; key = key_in m }
 
-  best_head : (o : Option ℕ) → (best_of o).head ≡ room_code o
+  best_head : (o : Option ℕ) → (best_of o).head ≡ room_word o
   best_head none = refl
   best_head (some m) = refl
 
@@ -124,5 +125,5 @@ module _ (F : Floor) where
         (f ∙ ap (best_with F pick m) (e ∙ ap best_of (sym skipped)) ∙ best_more m (first_among F pick m) l (of_key m (omega arith)))
 
   -- and the last has found the first
-  pub best_all : (pick : ℕ → Bool) (k : ℕ) (best : Best) → first_among F pick 32 ≡ first_among F pick k → best ≡ best_of (first_among F pick k) → best.head ≡ room_code (first_among F pick 32)
-  best_all pick k best skipped e = ap (λ (b : Best). b.head) (e ∙ ap best_of (sym skipped)) ∙ best_head (first_among F pick 32)
+  pub best_all : (pick : ℕ → Bool) (k : ℕ) (best : Best) → first_among F pick 32 ≡ first_among F pick k → best ≡ best_of (first_among F pick k) → room_at best.head ≡ first_among F pick 32
+  best_all pick k best skipped e = ap room_at (ap (λ (b : Best). b.head) (e ∙ ap best_of (sym skipped)) ∙ best_head (first_among F pick 32)) ∙ word_says (first_among F pick 32) 32 (omega arith) (first_below F pick 32)

@@ -7,7 +7,7 @@ use native.Mathlib.Omega.{arith}
 use lib.Dec.{eqb, ltb}
 use lib.ListN.{length}
 use borrow.Author.Tests.{lt-ltb, le-ltb, eq-eqb, ne_eqb}
-use mir.Val.{bool_byte}
+use Rattle.std.specs.Int.{from_bool}
 use Rattle.protocol.specs.Folds.{count}
 use Rattle.protocol.specs.CartSets.{has, without}
 use Rattle.protocol.proofs.Tests.{by_eq, and_left, and_second_false, eqb_self}
@@ -16,7 +16,7 @@ use Rattle.sets.proofs.MaskLaws.{without_other}
 use Rattle.sets.proofs.Walk.{nothing_between}
 use Rattle.stations.specs.View.{Stations, stations_in, entries_in}
 use Rattle.stations.proofs.TableLaws.{entries_word, entries_inside, not_in_entries}
-use Rattle.messages.specs.View.{Rooms, rooms_in, HasRoom}
+use Rattle.messages.specs.View.{Rooms, rooms_in}
 use Rattle.queue.specs.Rooms.{room_count}
 use Rattle.queue.specs.Places.{is_before, is_ahead, place_among}
 
@@ -77,7 +77,7 @@ others_ahead S M t m k e =
     (λ q. not_ahead (stations_in S) M t m k (not_in_entries S k t (sym (without_other (entries_in S t) m k q) ∙ e)))
 
 -- COUNTED, one by one: a yes is 1
-pub at_most_one : (b : Bool) → bool_byte b ≤ 1
+pub at_most_one : (b : Bool) → from_bool b ≤ 1
 at_most_one true = omega arith
 at_most_one false = omega arith
 
@@ -88,13 +88,13 @@ module _ (f : ℕ → Bool) where
   count_skips a b h out = nothing_between (λ n. count n f) a b h (λ k l g. rw (out k l g) (omega arith))
 
   -- one more room is looked at
-  pub count_on : (a k x : ℕ) (b : Bool) → count k f ≡ count a f → x ≡ count a f → b ≡ f k → x + bool_byte b ≡ count (k + 1) f
+  pub count_on : (a k x y : ℕ) (b : Bool) → y ≡ from_bool b → count k f ≡ count a f → x ≡ count a f → b ≡ f k → x + y ≡ count (k + 1) f
   unfolding count
-  count_on a k x b same e g =
+  count_on a k x _ b one_if same e g =
       let one : k + 1 ≡ suc k = omega arith in
-      rw (one, count) (ap (λ (y : ℕ). x + y) (byte b ∙ ap (λ (y : Bool). cond y 1 0) g) ∙ ap (λ (y : ℕ). y + cond (f k) 1 0) (e ∙ sym same))
+      rw (one, count) (ap (λ (y : ℕ). x + y) (one_if ∙ byte b ∙ ap (λ (y : Bool). cond y 1 0) g) ∙ ap (λ (y : ℕ). y + cond (f k) 1 0) (e ∙ sym same))
     where
-      byte : (b : Bool) → bool_byte b ≡ cond b 1 0
+      byte : (b : Bool) → from_bool b ≡ cond b 1 0
       byte true = refl
       byte false = refl
 

@@ -1,6 +1,6 @@
--- THE ROOMS OF THE HELD MESSAGES, and one of them or none in a word.
-use Rattle.std.specs.Prelude.{◌≡◌, cond, List, [], ℕ, ◌/◌, ◌<◌, ◌≤◌, length, ltb}
-use Rattle.std.proofs.Math.Option.{Option, none, some}
+-- THE ROOMS OF THE HELD MESSAGES, and one of them or none.
+use Rattle.std.specs.Prelude.{◌≡◌, Option, None, Some, cond, List, [], ℕ, ◌/◌, ◌<◌, ◌≤◌, length, ltb}
+use Rattle.std.proofs.Math.Option as math
 use Rattle.protocol.specs.Floor.{Floor, whole_floor}
 use Rattle.messages.specs.View.{HasRoom}
 use Rattle.view.specs.View.{lent, floor_in}
@@ -21,11 +21,21 @@ HasRooms messages = room_count messages ≤ 32
 abbrev pub QueueRooms : List ℕ → List ℕ → ℕ → Type 0
 QueueRooms stations messages t = (m : ℕ) → m < 32 → ((tables_floor stations messages).queue m t ≡ 0 → ⊥) → HasRoom messages m
 
+-- a room, or none, as the code has it
+abbrev pub room_code : math.Option ℕ → Option ℕ
+room_code math.none = None
+room_code (math.some m) = Some m
+
+-- and as the floor has it
+abbrev pub room_in : Option ℕ → math.Option ℕ
+room_in None = math.none
+room_in (Some m) = math.some m
+
 -- a room, or none, in a word: 32 is none
-abbrev pub room_code : Option ℕ → ℕ
-room_code none = 32
-room_code (some m) = m
+abbrev pub room_word : math.Option ℕ → ℕ
+room_word math.none = 32
+room_word (math.some m) = m
 
 -- the room, or none, that a word says
-abbrev pub room_in : ℕ → Option ℕ
-room_in word = cond (ltb word 32) (some word) none
+abbrev pub room_at : ℕ → math.Option ℕ
+room_at word = cond (ltb word 32) (math.some word) math.none

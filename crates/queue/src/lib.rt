@@ -7,20 +7,27 @@ ghost use Rattle.protocol.specs.Wireless.{head_among};
 ghost use Rattle.sets.specs.Masks.{disjoint};
 ghost use Rattle.stations.specs.View.{rooms, HasStation, stations_in};
 ghost use Rattle.messages.specs.View.{HasRoom, rooms_in};
-ghost use Rattle.queue.specs.Rooms.{tables_floor, room_count, HasRooms, QueueRooms, room_code};
+ghost use Rattle.queue.specs.Rooms.{tables_floor, room_count, HasRooms, QueueRooms, room_code, room_at};
 ghost use Rattle.queue.specs.Places.{is_before, is_ahead, place_among};
 ghost use Rattle.queue.specs.Keys.{InKey, key_of, Keyed, KeyedRooms, has_entry, first_among, first_of, best_with};
 
 use ids::Station;
 
 // The word for no room.
-pub const NONE: usize = 32;
+const NONE: usize = 32;
 
-// The room that stands first so far, or none, and its key.
+// The room that stands first so far, or none, and its key. The room is a bare word, since each word is chosen by itself, without a branch, at every entry.
 #[derive(Clone, Copy)]
 struct Best {
     head: usize,
     key: u64,
+}
+
+// The room that a word says, or none.
+fn room_in(word: usize) -> Option<usize>
+    ensures { result ≡ room_code (room_at word) }
+{
+    if word < NONE { Some(word) } else { None }
 }
 
 // "smallest number first; between equal numbers the higher initiator stands first": of two messages, the one with the smaller key.
@@ -55,7 +62,7 @@ fn best_with(stations: &[u64], messages: &[u64], station: Station, m: usize, bes
 }
 
 // "the head message of the queue": its room, or none. Only rooms that have an entry are looked at.
-pub fn head(stations: &[u64], messages: &[u64], station: Station) -> usize
+pub fn head(stations: &[u64], messages: &[u64], station: Station) -> Option<usize>
     requires { HasStation stations.now station.0 × QueueRooms stations.now messages.now station.0 × Keyed (tables_floor stations.now messages.now) station.0 }
     ensures { result ≡ room_code (head_among (tables_floor stations.now messages.now) station.0 32) }
 {
@@ -63,17 +70,15 @@ pub fn head(stations: &[u64], messages: &[u64], station: Station) -> usize
         head: NONE,
         key: u64::MAX,
     };
-    let mut left = stations::entries_of(stations, station);
-    while 0 < left {
-        let m = sets::first(left) as usize;
-        left = sets::without_first(left);
+    for m in sets::members_of(stations::entries_of(stations, station)) {
+        let m = m as usize;
         best = best_with(stations, messages, station, m, best);
     }
-    best.head
+    room_in(best.head)
 }
 
 // Of the messages in these rooms, the one that stands first in a queue: its room, or none.
-pub fn first_among(messages: &[u64], among: u64) -> usize
+pub fn first_among(messages: &[u64], among: u64) -> Option<usize>
     requires { KeyedRooms messages.now among }
     ensures { result ≡ room_code (first_among (tables_floor [] messages.now) (has among) 32) }
 {
@@ -81,13 +86,11 @@ pub fn first_among(messages: &[u64], among: u64) -> usize
         head: NONE,
         key: u64::MAX,
     };
-    let mut left = among;
-    while 0 < left {
-        let m = sets::first(left) as usize;
-        left = sets::without_first(left);
+    for m in sets::members_of(among) {
+        let m = m as usize;
         best = first_of(best, m, key_of(messages, m));
     }
-    best.head
+    room_in(best.head)
 }
 
 // Does the message in room k stand before that in room m: "smallest number first; between equal numbers the higher initiator stands first"? All four
@@ -127,11 +130,9 @@ pub fn place_of(stations: &[u64], messages: &[u64], station: Station, m: usize) 
     ensures { result ≡ place_among (stations_in stations.now) (rooms_in messages.now) station.0 m (room_count messages.now) }
 {
     let mut before: u64 = 0;
-    let mut left = sets::without_member(stations::entries_of(stations, station), m as u64);
-    while 0 < left {
-        let k = sets::first(left) as usize;
-        left = sets::without_first(left);
-        before += is_ahead(stations, messages, station, k, m) as u64;
+    let others = sets::without_member(stations::entries_of(stations, station), m as u64);
+    for k in sets::members_of(others) {
+        before += u64::from(is_ahead(stations, messages, station, k as usize, m));
     }
     before + 1
 }

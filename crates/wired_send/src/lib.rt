@@ -18,19 +18,17 @@ use ids::{MessageNumber, Station};
 use products::Bounds;
 use reports::Effect;
 
-// "Its room is then used again": the first of the rooms whose message no station waits for any more; 32 where every room is taken.
-pub fn free_room(messages: &[u64], held: usize) -> usize
+// "Its room is then used again": the first of the rooms whose message no station waits for any more; none where every room is taken.
+pub fn free_room(messages: &[u64], held: usize) -> Option<usize>
     requires { (held * 7 ≤ length messages.now) × (held ≤ 32) }
     ensures { result ≡ first_free held messages.now }
 {
-    let mut m: usize = 0;
-    while m < held {
+    for m in 0..held {
         if messages::waiting_of(messages, m) == 0 {
-            return m;
+            return Some(m);
         }
-        m += 1;
     }
-    queue::NONE
+    None
 }
 
 // One station has no copy of the message in room m, no ack list and no entry for it.
@@ -47,10 +45,8 @@ fn clear_copies(stations: &mut [u64], rows: u64, m: usize)
     requires { (length stations.old ≡ 116 + rows * 116) × (rows ≤ 16) × (m < rooms) }
     ensures { Leaves stations.old stations.new (without_copies (stations_in stations.old) m) }
 {
-    let mut t: u64 = 0;
-    while t < rows {
+    for t in 0..rows {
         clear_copy(stations, m, Station(t));
-        t += 1;
     }
 }
 

@@ -1,5 +1,4 @@
 -- `queue::all_acked` meets its contract.
-use borrow.Author.Rules.{rules}
 use Rattle.stations.specs.View.{stations_in}
 use Rattle.queue.proofs.AckLaws.{tested}
 use Rattle.queue.proofs.all_acked.Goals as goal

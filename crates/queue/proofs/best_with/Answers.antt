@@ -1,5 +1,4 @@
 -- `queue::best_with` meets its contract.
-use borrow.Author.Rules.{rules}
 use mathlib.Core.Path.{◌∙◌}
 use Rattle.queue.specs.Rooms.{tables_floor}
 use Rattle.queue.proofs.KeyLaws.{empty_entry, looked_at}

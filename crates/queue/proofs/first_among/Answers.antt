@@ -1,53 +1,38 @@
-use mathlib.Core.Path.{◌≡◌}
+use mathlib.Core.Path.{ap, ◌∙◌}
 use mathlib.Core.List.{[]}
-use Prim.Native.Nat.{ℕ, ◌+◌}
+use Prim.Native.Nat.{◌+◌}
 use native.Mathlib.Omega.{arith}
-use borrow.Author.Rules.{rules}
 use Rattle.protocol.specs.CartSets.{has}
-use Rattle.sets.proofs.Walk.{Ahead, ahead_start, ahead_turn, ahead_end}
-use Rattle.queue.specs.Rooms.{tables_floor}
-use Rattle.queue.specs.Keys.{first_among}
+use Rattle.queue.specs.Rooms.{tables_floor, room_code}
+use Rattle.queue.proofs.Steps.{walk_start, walk_turn, walk_end}
 use Rattle.queue.proofs.HeadLaws.{first_skips}
-use Rattle.queue.proofs.KeyLaws.{best_of, best_none, best_again, best_all, picked}
+use Rattle.queue.proofs.KeyLaws.{best_none, best_again, best_all, picked}
 use Rattle.queue.proofs.first_among.Goals as goal
 
-pub loop-left-init : goal.loop-left-init
-loop-left-init c =
+pub loop-m-init : goal.loop-m-init
+loop-m-init c =
     let a = c.args in
     let p = c.requires in
-    (0, ahead_start 32 a.among (omega arith) (λ m e. (p m e).0), best_none (tables_floor [] a.messages.now) (has a.among))
+    (0, walk_start 32 a.among (c.into_iter-m-iterator.ensures.into_iter_gives ∙ c.members_of-m-items.ensures) (omega arith) (λ m e. (p m e).0), best_none (tables_floor [] a.messages.now) (has a.among))
 
 pub key_of-requires : goal.key_of-requires
 key_of-requires c =
     let a = c.args in
-    let p = c.requires in
-    let l = c.loop-left in
-    let f = c.first-m in
-    let w = c.without_first-left in
-    let turn = ahead_turn 32 a.among l.left l.invariant.0 f.result l.invariant.1 (omega arith) f.ensures w.result (w.ensures f.result f.ensures) in
-    let has_room = p f.result turn.member in
+    let l = c.loop-m in
+    let turn = walk_turn 32 a.among l.invariant.0 c.next.ensures.steps l.invariant.1 c.in-Some.is in
+    let has_room = c.requires c.in-Some.m turn.member in
     (has_room.1, has_room.2)
 
-pub loop-left-smaller : goal.loop-left-smaller
-loop-left-smaller c =
-    let a = c.args in
-    let l = c.loop-left in
-    let f = c.first-m in
-    let w = c.without_first-left in
-    (ahead_turn 32 a.among l.left l.invariant.0 f.result l.invariant.1 (omega arith) f.ensures w.result (w.ensures f.result f.ensures)).less
-
-pub loop-left-preserved : goal.loop-left-preserved
-loop-left-preserved c =
+pub loop-m-preserved : goal.loop-m-preserved
+loop-m-preserved c =
     let a = c.args in
     let p = c.requires in
     let F = tables_floor [] a.messages.now in
     let pick = has a.among in
-    let l = c.loop-left in
+    let l = c.loop-m in
     let k = l.invariant.0 in
-    let f = c.first-m in
-    let w = c.without_first-left in
-    let m = f.result in
-    let turn = ahead_turn 32 a.among l.left k m l.invariant.1 (omega arith) f.ensures w.result (w.ensures m f.ensures) in
+    let m = c.in-Some.m in
+    let turn = walk_turn 32 a.among k c.next.ensures.steps l.invariant.1 c.in-Some.is in
     let now = picked F pick m l.best c.key_of.result c.first_of-best.result turn.member c.key_of.ensures c.first_of-best.ensures in (
       m + 1,
       turn.ahead,
@@ -59,8 +44,7 @@ returns c =
     let a = c.args in
     let F = tables_floor [] a.messages.now in
     let pick = has a.among in
-    let l = c.loop-left in
+    let l = c.loop-m in
     let k = l.invariant.0 in
-    let none : l.left ≡ 0 = omega arith in
-    let A : Ahead 32 a.among 0 k = rw none at l.invariant.1 in
-    best_all F pick k l.best (first_skips F pick k 32 A.within (λ r h n. ahead_end 32 a.among k A r h)) l.invariant.2
+    let none = walk_end 32 a.among k _ c.next.ensures.steps l.invariant.1 c.in-None.is in
+    c.room_in.ensures ∙ ap room_code (best_all F pick k l.best (first_skips F pick k 32 l.invariant.1.within (λ r h n. none r h)) l.invariant.2)

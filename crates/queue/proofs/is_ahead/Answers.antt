@@ -2,7 +2,6 @@
 use native.Mathlib.Omega.{arith}
 use Rattle.stations.specs.View.{stations_in}
 use Rattle.queue.proofs.PlaceLaws.{no_room, no_entry_there, entry_there}
-use borrow.Author.Rules.{rules}
 use Rattle.queue.proofs.is_ahead.Goals as goal
 
 pub returns-then-messages-k : goal.returns-then-messages-k

@@ -1,7 +1,6 @@
 -- `queue::is_before` meets its contract.
 use Rattle.messages.specs.View.{rooms_in}
 use Rattle.queue.proofs.PlaceLaws.{same_number, other_number}
-use borrow.Author.Rules.{rules}
 use Rattle.queue.proofs.is_before.Goals as goal
 
 pub returns-then-number-its_number : goal.returns-then-number-its_number

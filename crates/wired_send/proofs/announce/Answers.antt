@@ -2,7 +2,6 @@
 use mathlib.Core.Path.{ap, ◌∙◌, subst}
 use Prim.Native.Nat.{ℕ}
 use native.Mathlib.Numerals.{add-one}
-use borrow.Author.Rules.{rules}
 use Rattle.lines.specs.declared.Record as word
 use Rattle.stations.specs.View.{Stations, stations_in, with_sent}
 use Rattle.wired_lines.specs.ToEvery.{PushedToEvery}

@@ -1,11 +1,8 @@
-use mathlib.Core.Path.{◌≡◌, refl, ap, ◌∙◌}
-use Prim.Native.Nat.{◌≤◌, ◌-◌}
+use mathlib.Core.Path.{refl, ap, ◌∙◌}
 use native.Mathlib.Omega.{arith}
-use lib.ListN.{length}
-use borrow.Author.Rules.{rules}
-use Rattle.stations.specs.View.{Stations, head_in, stations_in}
+use Rattle.stations.specs.View.{Stations, stations_in}
 use Rattle.wired_send.specs.Copies.{without_copy}
-use Rattle.wired_send.proofs.CopyLaws.{cleared_stations, cleared_none, cleared_more, cleared_all}
+use Rattle.wired_send.proofs.CopyLaws.{cleared_none, cleared_more, cleared_all}
 use Rattle.wired_send.proofs.clear_copies.Goals as goal
 
 pub loop-t-init : goal.loop-t-init

@@ -1,6 +1,5 @@
 -- `wired_send::clear_copy` meets its contract.
 use mathlib.Core.Path.{ap, ◌∙◌}
-use borrow.Author.Rules.{rules}
 use Rattle.stations.specs.View.{Stations, with_queue}
 use Rattle.wired_send.proofs.clear_copy.Goals as goal
 

@@ -1,7 +1,5 @@
-use Prim.Native.Nat.{◌-◌}
 use native.Mathlib.Omega.{arith}
-use borrow.Author.Rules.{rules}
-use Rattle.wired_send.proofs.RoomLaws.{TakenTo, taken_more, free_here, free_nowhere}
+use Rattle.wired_send.proofs.RoomLaws.{taken_more, free_here, free_nowhere}
 use Rattle.wired_send.proofs.free_room.Goals as goal
 
 pub loop-m-init : goal.loop-m-init

@@ -3,7 +3,6 @@ use mathlib.Core.Path.{◌≡◌, subst}
 use Prim.Native.Nat.{ℕ}
 use native.Mathlib.Omega.{arith}
 use lib.ListN.{length}
-use borrow.Author.Rules.{rules}
 use Rattle.messages.specs.View.{rooms_in, with_message}
 use Rattle.store.proofs.Room.{room_made}
 use Rattle.wired_send.proofs.keep_long_message.Goals as goal

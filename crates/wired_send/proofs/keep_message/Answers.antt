@@ -2,7 +2,6 @@
 use mathlib.Core.Path.{◌≡◌, subst}
 use Prim.Native.Nat.{ℕ}
 use lib.ListN.{length}
-use borrow.Author.Rules.{rules}
 use Rattle.messages.specs.View.{rooms_in, with_message}
 use Rattle.wired_send.proofs.keep_message.Goals as goal
 

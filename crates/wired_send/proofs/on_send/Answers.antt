@@ -1,5 +1,4 @@
 -- `wired_send::on_send` meets its contract.
-use borrow.Author.Rules.{rules}
 use Rattle.wired_send.proofs.on_send.Goals as goal
 
 pub returns : goal.returns

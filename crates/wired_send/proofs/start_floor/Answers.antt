@@ -1,6 +1,5 @@
 -- `wired_send::start_floor` meets its contract.
 use mathlib.Core.Path.{ap, ◌∙◌}
-use borrow.Author.Rules.{rules}
 use Rattle.stations.specs.View.{Head, head}
 use Rattle.wired_send.proofs.start_floor.Goals as goal
 
