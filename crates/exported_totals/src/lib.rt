@@ -5,7 +5,7 @@ ghost use Rattle.std.specs.Prelude.{◌≡◌};
 ghost use Rattle.totals.specs.Totals.{totals_of, joined, ratio_of};
 ghost use Rattle.exported_totals.specs.Numbers.{summed_of, terms_of};
 
-use totals::{CartResult, Fraction, Tally, Totalled};
+use totals::{CartResult, Tally, TotalsError};
 
 // What a sum or a join came to: the number of its refusal, or 0 and the totals.
 #[repr(C)]
@@ -24,19 +24,19 @@ pub struct Terms {
     pub received: u64,
 }
 
-fn numbers_of(outcome: Totalled) -> Summed
+fn numbers_of(outcome: Result<Tally, TotalsError>) -> Summed
     ensures { result ≡ summed_of outcome }
 {
     match outcome {
-        Totalled::Refused(refusal) => Summed {
-            refusal,
-            received: 0,
-            passed: 0,
-        },
-        Totalled::Of(totals) => Summed {
+        Ok(totals) => Summed {
             refusal: 0,
             received: totals.received,
             passed: totals.passed,
+        },
+        Err(error) => Summed {
+            refusal: error.number(),
+            received: 0,
+            passed: 0,
         },
     }
 }
@@ -76,13 +76,13 @@ pub extern "C" fn mekhturia_totals_ratio(received: u64, passed: u64) -> Terms
     ensures { result ≡ terms_of (ratio_of (record { received = received; passed = passed })) }
 {
     match totals::ratio(Tally { received, passed }) {
-        Fraction::None => Terms {
+        None => Terms {
             passed: 0,
             received: 0,
         },
-        Fraction::Over(p, r) => Terms {
-            passed: p,
-            received: r,
+        Some(over) => Terms {
+            passed: over.passed,
+            received: over.received,
         },
     }
 }

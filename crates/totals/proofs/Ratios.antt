@@ -6,16 +6,17 @@ use native.Mathlib.Omega.{arith}
 use lib.Dec.{eqb}
 use borrow.Author.Tests.{eqb-false, eqb-true, ne_eqb}
 use borrow.Table.Steps.{cases}
+use Rattle.std.specs.Prelude.{None}
 use Rattle.totals.specs.declared.Tally.{Tally}
-use Rattle.totals.specs.declared.Fraction.TheVariants.{None, Over}
-use Rattle.totals.specs.Totals.{gcd, ratio_of, reduced}
+use Rattle.totals.specs.declared.Fraction.{Fraction}
+use Rattle.totals.specs.Totals.{gcd, over, ratio_of, reduced}
 use Rattle.totals.proofs.Gcd.{gcd_divides, quotients_coprime}
 
 pub nothing_received : (A : Tally) → A.received ≡ 0 → ratio_of A ≡ None
 unfolding ratio_of
 nothing_received A e = rw e
 
-pub some_received : (A : Tally) → (A.received ≡ 0 → ⊥) → ratio_of A ≡ Over (reduced A).passed (reduced A).received
+pub some_received : (A : Tally) → (A.received ≡ 0 → ⊥) → ratio_of A ≡ over (reduced A).passed (reduced A).received
 unfolding ratio_of
 some_received A n = rw (ne_eqb A.received 0 n)
 
@@ -23,11 +24,14 @@ pub none_received : (A : Tally) → ratio_of A ≡ None → A.received ≡ 0
 none_received A e =
     cases (eqb A.received 0)
     (λ z. eqb-true A.received 0 z)
-    (λ z. absurd (let y : None ≡ Over _ _ = sym e ∙ some_received A (eqb-false A.received 0 z) in let x : ◌≡◌ {A = ℕ} 0 1 = cc in omega arith))
+    (λ z. absurd (let y : None ≡ over _ _ = sym e ∙ some_received A (eqb-false A.received 0 z) in let x : ◌≡◌ {A = ℕ} 0 1 = cc in omega arith))
 
 -- the divisor that the code has found
-pub ratio_found : (A : Tally) (g : ℕ) → (A.received ≡ 0 → ⊥) → g ≡ gcd A.passed A.received → Over (A.passed / g) (A.received / g) ≡ ratio_of A
-ratio_found A g n e = ap (λ (x : ℕ). Over (A.passed / x) (A.received / x)) e ∙ sym (some_received A n)
+pub ratio_found : (A : Tally) (g : ℕ) → (A.received ≡ 0 → ⊥) → g ≡ gcd A.passed A.received → over (A.passed / g) (A.received / g) ≡ ratio_of A
+ratio_found A g n e = ap (λ (x : ℕ). over (A.passed / x) (A.received / x)) e ∙ sym (some_received A n)
+
+abbrev reduced_fraction : Tally → Fraction
+reduced_fraction A = record { passed = (reduced A).passed; received = (reduced A).received }
 
 -- which fraction it is, where there is one
 pub record FractionOf (A : Tally) (p r : ℕ) : Type 0 where
@@ -35,13 +39,14 @@ pub record FractionOf (A : Tally) (p r : ℕ) : Type 0 where
   pub passed : p ≡ (reduced A).passed
   pub received : r ≡ (reduced A).received
 
-pub fraction_of : (A : Tally) (p r : ℕ) → ratio_of A ≡ Over p r → FractionOf A p r
+pub fraction_of : (A : Tally) (p r : ℕ) → ratio_of A ≡ over p r → FractionOf A p r
 fraction_of A p r e =
     cases (eqb A.received 0)
-    (λ z. absurd (let y : None ≡ Over p r = sym (nothing_received A (eqb-true A.received 0 z)) ∙ e in let x : ◌≡◌ {A = ℕ} 0 1 = cc in omega arith))
+    (λ z. absurd (let y : None ≡ over p r = sym (nothing_received A (eqb-true A.received 0 z)) ∙ e in let x : ◌≡◌ {A = ℕ} 0 1 = cc in omega arith))
     (λ z. let n = eqb-false A.received 0 z in
-    let y : Over p r ≡ Over (reduced A).passed (reduced A).received = sym e ∙ some_received A n in
-    record { some = n; passed = cc; received = cc })
+    let y : over p r ≡ over (reduced A).passed (reduced A).received = sym e ∙ some_received A n in
+    let its : ◌≡◌ {A = Fraction} (record { passed = p; received = r }) (reduced_fraction A) = cc in
+    record { some = n; passed = ap (λ (f : Fraction). f.passed) its; received = ap (λ (f : Fraction). f.received) its })
 
 -- both parts, multiplied by the divisor, are the totals again
 pub whole_passed : (A : Tally) (p r : ℕ) → FractionOf A p r → gcd A.passed A.received * p ≡ A.passed

@@ -7,12 +7,11 @@ use native.Mathlib.Numerals.{add-one}
 use native.Mathlib.Omega.{arith}
 use lib.Dec.{ltb}
 use lib.ListN.{get_or, length, length-append, take}
-use borrow.Author.Tests.{le-ltb, lt-ltb, ltb-false}
-use borrow.Table.Steps.{cases}
+use borrow.Author.Tests.{le-ltb, lt-ltb}
+use Rattle.std.specs.Prelude.{Ok, Err}
 use Rattle.totals.specs.declared.CartResult.{CartResult}
 use Rattle.totals.specs.declared.Tally.{Tally}
-use Rattle.totals.specs.declared.Totalled.{Totalled}
-use Rattle.totals.specs.declared.Totalled.TheVariants.{Refused, Of}
+use Rattle.totals.specs.declared.TotalsError.TheVariants.{TooLong}
 use Rattle.totals.specs.Totals.{InRange, added, counted, joined, joined_if_both, most_counted, most_results, most_total, nothing, sum_of, too_large, totals_of}
 use Rattle.totals.proofs.Joins.{added_assoc, added_comm, added_nothing, fits, neither_too_large}
 
@@ -31,11 +30,11 @@ sum_bounded (r ∷ l) h =
     (omega arith, omega arith)
 
 -- 4,096 results of at most 4,294,967,295 stay far below 2^64, two such lists too: 23 arises in joins of joins alone
-pub lists_join : (l k : List CartResult) → InRange l → InRange k → length l ≤ most_results → length k ≤ most_results → joined (sum_of l) (sum_of k) ≡ Of (sum_of (l ++ k))
+pub lists_join : (l k : List CartResult) → InRange l → InRange k → length l ≤ most_results → length k ≤ most_results → joined (sum_of l) (sum_of k) ≡ Ok (sum_of (l ++ k))
 lists_join l k hl hk nl nk =
     let a = sum_bounded l hl in let b = sum_bounded k hk in
     let p = a.0 in let q = a.1 in let r = b.0 in let s = b.1 in
-    sym (neither_too_large (sum_of l) (sum_of k) (omega arith) (omega arith)) ∙ ap Of (sym (sum_append l k))
+    sym (neither_too_large (sum_of l) (sum_of k) (omega arith) (omega arith)) ∙ ap Ok (sym (sum_append l k))
 
 pub sum_fits : (l : List CartResult) → InRange l → length l ≤ most_results → too_large (sum_of l) ≡ false
 sum_fits l h n =
@@ -49,13 +48,13 @@ if_long n x y h = rw (lt-ltb most_results n h)
 pub if_short : {X : Type 0} (n : ℕ) (x y : X) → n ≤ most_results → y ≡ cond (ltb most_results n) x y
 if_short n x y h = rw (le-ltb most_results n h)
 
-pub long_list : (l : List CartResult) → most_results < length l → totals_of l ≡ Refused 22
+pub long_list : (l : List CartResult) → most_results < length l → totals_of l ≡ Err TooLong
 unfolding totals_of
-long_list l n = sym (if_long (length l) (Refused 22) (Of (sum_of l)) n)
+long_list l n = sym (if_long (length l) (Err TooLong) (Ok (sum_of l)) n)
 
-pub short_list : (l : List CartResult) → length l ≤ most_results → totals_of l ≡ Of (sum_of l)
+pub short_list : (l : List CartResult) → length l ≤ most_results → totals_of l ≡ Ok (sum_of l)
 unfolding totals_of
-short_list l n = sym (if_short (length l) (Refused 22) (Of (sum_of l)) n)
+short_list l n = sym (if_short (length l) (Err TooLong) (Ok (sum_of l)) n)
 
 pub answers_join : (l k : List CartResult) → InRange l → InRange k → length (l ++ k) ≤ most_results → totals_of (l ++ k) ≡ joined_if_both (totals_of l) (totals_of k)
 answers_join l k hl hk n =
@@ -100,19 +99,6 @@ take_all : (l : List CartResult) → take (length l) l ≡ l
 take_all [] = refl
 take_all (r ∷ l) = ap (λ (k : List CartResult). r ∷ k) (take_all l)
 
-pub taken_within : (n t : ℕ) → t ≡ cond (ltb most_results n) 0 n → (t ≤ n) × (t ≤ most_results)
-taken_within n t e =
-    cases (ltb most_results n)
-    (λ b. let z : t ≡ 0 = rw b at e in (omega arith, omega arith))
-    (λ b. let z : t ≡ n = rw b at e in let h = ltb-false most_results n b in (omega arith, omega arith))
-
 -- where the walk ends, the answer is the written one
-pub walk_ends : (l : List CartResult) (t : ℕ) (A : Tally) (r : Totalled) → t ≡ cond (ltb most_results (length l)) 0 (length l) → Walked l t A
-    → r ≡ cond (ltb most_results (length l)) (Refused 22) (Of A) → r ≡ totals_of l
-unfolding totals_of
-walk_ends l t A r et w er =
-    cases (ltb most_results (length l))
-    (λ b. let y : r ≡ Refused 22 = rw b at er in rw b y)
-    (λ b. let z : t ≡ length l = rw b at et in
-    let y : r ≡ Of A = rw b at er in
-    rw b (y ∙ ap Of (w.is ∙ ap (λ (n : ℕ). sum_of (take n l)) z ∙ ap sum_of (take_all l))))
+pub walk_ends : (l : List CartResult) (A : Tally) → length l ≤ most_results → Walked l (length l) A → Ok A ≡ totals_of l
+walk_ends l A n w = ap Ok (w.is ∙ ap sum_of (take_all l)) ∙ sym (short_list l n)

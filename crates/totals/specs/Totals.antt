@@ -1,12 +1,20 @@
 -- PASSED OVER PER RECEIPT: "how many numbers a cart passes over for each correction it receives, over all sites".
--- `CartResult`, `Tally`, `Totalled` and `Fraction` are the types of src/lib.rt; their numbers are natural numbers here, of any size.
-use Rattle.std.specs.Prelude.{Bool, true, false, cond, ◌||◌, List, [], ◌∷◌, ℕ, zero, suc, ◌+◌, ◌/◌, ◌%◌, ◌≤◌, eqb, ltb, length}
+-- `CartResult`, `Tally`, `TotalsError` and `Fraction` are the types of src/lib.rt; their numbers are natural numbers here, of any size.
+use Rattle.std.specs.Prelude.{Bool, true, false, cond, ◌||◌, Option, None, Some, Result, Ok, Err, List, [], ◌∷◌, ℕ, zero, suc, ◌+◌, ◌/◌, ◌%◌, ◌≤◌, eqb, ltb, length}
 use Rattle.totals.specs.declared.CartResult.{CartResult}
 use Rattle.totals.specs.declared.Tally.{Tally}
-use Rattle.totals.specs.declared.Totalled.{Totalled}
-use Rattle.totals.specs.declared.Totalled.TheVariants.{Refused, Of}
+use Rattle.totals.specs.declared.TotalsError.{TotalsError}
+use Rattle.totals.specs.declared.TotalsError.TheVariants.{TooLong, TooLarge}
 use Rattle.totals.specs.declared.Fraction.{Fraction}
-use Rattle.totals.specs.declared.Fraction.TheVariants.{None, Over}
+
+-- THE REFUSALS, by their numbers
+abbrev pub number_of : TotalsError → ℕ
+number_of TooLong = 22
+number_of TooLarge = 23
+
+-- totals, or why there are none
+abbrev pub Totalled : Type 0
+Totalled = Result Tally TotalsError
 
 -- THE SUM OF A LIST
 
@@ -31,7 +39,7 @@ most_results = 4096
 
 -- "22 a list longer than 4,096, before any adding"
 unfoldable pub totals_of : List CartResult → Totalled
-totals_of l = cond (ltb most_results (length l)) (Refused 22) (Of (sum_of l))
+totals_of l = cond (ltb most_results (length l)) (Err TooLong) (Ok (sum_of l))
 
 -- "each with cart, received and passed, both at most 4,294,967,295"
 abbrev pub most_counted : ℕ
@@ -56,9 +64,13 @@ gcd a b = gcd_within (suc b) a b
 abbrev pub reduced : Tally → Tally
 reduced A = record { received = A.received / gcd A.passed A.received; passed = A.passed / gcd A.passed A.received }
 
+-- a ratio, which there is
+abbrev pub over : ℕ → ℕ → Option Fraction
+over p r = Some (record { passed = p; received = r })
+
 -- "The answer is total passed over total received, in lowest terms, or "none" where nothing was received"
-unfoldable pub ratio_of : Tally → Fraction
-ratio_of A = cond (eqb A.received 0) None (Over (reduced A).passed (reduced A).received)
+unfoldable pub ratio_of : Tally → Option Fraction
+ratio_of A = cond (eqb A.received 0) None (over (reduced A).passed (reduced A).received)
 
 -- JOINS: "Site results are joined by their totals as counted, never by the reduced fractions"
 
@@ -71,10 +83,10 @@ too_large A = ltb most_total A.received || ltb most_total A.passed
 
 -- "23 a join whose total exceeds 64 bits": either of the two
 unfoldable pub joined : Tally → Tally → Totalled
-joined A B = cond (too_large (added A B)) (Refused 23) (Of (added A B))
+joined A B = cond (too_large (added A B)) (Err TooLarge) (Ok (added A B))
 
 -- the same of two answers: a refusal stays
 abbrev pub joined_if_both : Totalled → Totalled → Totalled
-joined_if_both (Refused r) x = Refused r
-joined_if_both (Of A) (Refused r) = Refused r
-joined_if_both (Of A) (Of B) = joined A B
+joined_if_both (Err e) x = Err e
+joined_if_both (Ok A) (Err e) = Err e
+joined_if_both (Ok A) (Ok B) = joined A B

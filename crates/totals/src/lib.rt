@@ -3,112 +3,82 @@
 // This is no part of the floor: nothing here reads one. What each answer is, is written in specs/Totals.
 #![tactic(auto)]
 
-ghost use Rattle.std.specs.Prelude.{◌≡◌, cond, ◌+◌, ◌≤◌, ltb};
-ghost use Rattle.totals.specs.Totals.{added, counted, most_counted, most_results, most_total, totals_of, joined, gcd, ratio_of};
+ghost use Rattle.std.specs.Prelude.{◌≡◌};
+ghost use Rattle.totals.specs.Totals.{number_of, totals_of, joined, gcd, ratio_of};
 
 // "cart results, each with cart, received and passed, both at most 4,294,967,295". The cart is not looked at.
 #[repr(C)]
-#[derive(Clone, Copy)]
+#[derive(Clone, Copy, Debug, PartialEq, Eq)]
 pub struct CartResult {
     pub cart: u32,
     pub received: u32,
     pub passed: u32,
 }
 
-// "totals as counted": how many corrections were received, and how many numbers passed over.
-#[derive(Clone, Copy)]
+// "totals as counted": how many corrections were received, and how many numbers passed over. None of either is "the empty result".
+#[derive(Clone, Copy, Debug, Default, PartialEq, Eq)]
 pub struct Tally {
     pub received: u64,
     pub passed: u64,
 }
 
-// What a sum or a join answers: the number of a refusal, or the totals.
-#[derive(Clone, Copy)]
-pub enum Totalled {
-    Refused(u64),
-    Of(Tally),
+// Why there are no totals.
+#[derive(Clone, Copy, Debug, PartialEq, Eq)]
+pub enum TotalsError {
+    // 22: "a list longer than 4,096, before any adding".
+    TooLong,
+    // 23: "a join whose total exceeds 64 bits".
+    TooLarge,
 }
 
-// "total passed over total received, in lowest terms, or none where nothing was received".
-#[derive(Clone, Copy)]
-pub enum Fraction {
-    None,
-    Over(u64, u64),
+impl TotalsError {
+    // Its number in the table of refusals.
+    pub fn number(self) -> u64
+        ensures { result ≡ number_of self }
+    {
+        match self {
+            TotalsError::TooLong => 22,
+            TotalsError::TooLarge => 23,
+        }
+    }
+}
+
+// "total passed over total received, in lowest terms".
+#[derive(Clone, Copy, Debug, PartialEq, Eq)]
+pub struct Fraction {
+    pub passed: u64,
+    pub received: u64,
 }
 
 const MOST_RESULTS: usize = 4096;
 
-const MOST_TOTAL: u64 = 18446744073709551615;
-
-// How many results of a list are added: none of one that is too long.
-fn results_taken(count: usize) -> usize
-    ensures { result ≡ cond (ltb most_results count) 0 count }
-{
-    if MOST_RESULTS < count {
-        return 0;
-    }
-    count
-}
-
-// The totals with one result more.
-fn add_result(totals: Tally, res: CartResult) -> Tally
-    requires { (totals.received + most_counted ≤ most_total) × (totals.passed + most_counted ≤ most_total) }
-    ensures { result ≡ added totals (counted res) }
-{
-    let received = res.received as u64;
-    let passed = res.passed as u64;
-    Tally {
-        received: totals.received + received,
-        passed: totals.passed + passed,
-    }
-}
-
-// What is answered of a list of so many results, whose totals are these.
-fn sum_answer(count: usize, totals: Tally) -> Totalled
-    ensures { result ≡ cond (ltb most_results count) (Totalled.Refused 22) (Totalled.Of totals) }
-{
-    if MOST_RESULTS < count {
-        return Totalled::Refused(22);
-    }
-    Totalled::Of(totals)
-}
-
-// The totals of a lent list, or "22 a list longer than 4,096, before any adding". Each element is handed to `add_result`; that its two
-// numbers fit 32 bits is said for the proof alone, which has it of a field that is read and not of a whole element.
-pub fn sum(results: &[CartResult]) -> Totalled
+// The totals of a lent list, or "22 a list longer than 4,096, before any adding". That the two numbers of a result fit 32 bits is said for the
+// proof alone.
+pub fn sum(results: &[CartResult]) -> Result<Tally, TotalsError>
     ensures { result ≡ totals_of results.now }
 {
-    let count = results.len();
-    let taken = results_taken(count);
-    let mut totals = Tally {
-        received: 0,
-        passed: 0,
-    };
-    let mut i = 0;
-    while i < taken {
-        prove!(results[i].received <= u32::MAX);
-        prove!(results[i].passed <= u32::MAX);
-        totals = add_result(totals, results[i]);
-        i = i + 1;
+    if MOST_RESULTS < results.len() {
+        return Err(TotalsError::TooLong);
     }
-    sum_answer(count, totals)
+    let mut totals = Tally::default();
+    for res in results {
+        prove!(res.received <= u32::MAX);
+        prove!(res.passed <= u32::MAX);
+        totals.received += u64::from(res.received);
+        totals.passed += u64::from(res.passed);
+    }
+    Ok(totals)
 }
 
 // Two sites' totals joined, or "23 a join whose total exceeds 64 bits".
-pub fn join(a: Tally, b: Tally) -> Totalled
+pub fn join(a: Tally, b: Tally) -> Result<Tally, TotalsError>
     ensures { result ≡ joined a b }
 {
-    let received = a.received;
-    let passed = a.passed;
-    if MOST_TOTAL - received < b.received {
-        return Totalled::Refused(23);
-    }
-    if MOST_TOTAL - passed < b.passed {
-        return Totalled::Refused(23);
-    }
-    Totalled::Of(Tally {
-        received: received + b.received,
-        passed: passed + b.passed,
+    let received = a.received.checked_add(b.received);
+    let passed = a.passed.checked_add(b.passed);
+    Ok(Tally {
+        received: received.ok_or(TotalsError::TooLarge)?,
+        passed: passed.ok_or(TotalsError::TooLarge)?,
     })
 }
 
@@ -126,15 +96,16 @@ fn common_divisor(a: u64, b: u64) -> u64
     x
 }
 
-// The ratio of the totals.
-pub fn ratio(totals: Tally) -> Fraction
+// The ratio of the totals, or "none" where nothing was received.
+pub fn ratio(totals: Tally) -> Option<Fraction>
     ensures { result ≡ ratio_of totals }
 {
-    let received = totals.received;
-    let passed = totals.passed;
-    if received == 0 {
-        return Fraction::None;
+    if totals.received == 0 {
+        return None;
     }
-    let divisor = common_divisor(passed, received);
-    Fraction::Over(passed / divisor, received / divisor)
+    let divisor = common_divisor(totals.passed, totals.received);
+    Some(Fraction {
+        passed: totals.passed / divisor,
+        received: totals.received / divisor,
+    })
 }

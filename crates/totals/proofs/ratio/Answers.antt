@@ -5,8 +5,8 @@ use Rattle.totals.proofs.Gcd.{gcd_positive}
 use Rattle.totals.proofs.Ratios.{nothing_received, ratio_found}
 use Rattle.totals.proofs.ratio.Goals as goal
 
-pub returns-then-received-eq0 : goal.returns-then-received-eq0
-returns-then-received-eq0 c = sym (nothing_received c.args.totals (omega arith))
+pub returns-then-totals-eq0 : goal.returns-then-totals-eq0
+returns-then-totals-eq0 c = sym (nothing_received c.args.totals (omega arith))
 
 pub nonzero_div-result : goal.nonzero_div-result
 nonzero_div-result c = let t = c.args.totals in let e = c.common_divisor-divisor.ensures in let z = gcd_positive t.passed t.received (omega arith) in omega arith

@@ -1,19 +1,26 @@
 -- `totals::sum` meets its contract: a turn counts one result, and where the walk ends the answer is the written one.
-use mathlib.Core.Path.{◌≡◌, ◌∙◌}
+use mathlib.Core.Path.{◌≡◌, sym}
+use Prim.Native.Nat.{◌+◌}
 use lib.ListN.{length}
 use native.Mathlib.Omega.{arith}
-use Rattle.totals.proofs.Sums.{walk_goes_on, walk_ends, taken_within}
+use Rattle.totals.proofs.Sums.{long_list, room_for_one, walk_goes_on, walk_ends}
 use Rattle.totals.proofs.sum.Goals as goal
 
-pub loop-i-preserved : goal.loop-i-preserved
-loop-i-preserved c =
-    let k = taken_within (length c.args.results.now) c.results_taken-taken.result c.results_taken-taken.ensures in
-    record {
-      walked = walk_goes_on c.args.results.now c.loop-i.i c.loop-i.totals _ _ c.loop-i.invariant.walked (omega arith) (omega arith) (omega arith) c.add_result-totals.ensures;
-      within = omega arith;
-    }
+pub returns-then-results-gt-MOST_RESULTS : goal.returns-then-results-gt-MOST_RESULTS
+returns-then-results-gt-MOST_RESULTS c = sym (long_list c.args.results.now c.if-results-gt-MOST_RESULTS.true)
+
+pub overflow_add-totals-in-loop-res : goal.overflow_add-totals-in-loop-res
+overflow_add-totals-in-loop-res c =
+    let room = room_for_one c.args.results.now c.loop-res.res-index c.loop-res.totals c.loop-res.invariant (omega arith) in
+    let h = c.from-in-loop-res.ensures in
+    omega (arith, room.1)
+
+pub loop-res-preserved : goal.loop-res-preserved
+loop-res-preserved c =
+    walk_goes_on c.args.results.now c.loop-res.res-index c.loop-res.totals _ (record { cart = 0; received = 0; passed = 0 }) c.loop-res.invariant (omega arith) (omega arith) (omega arith)
+    (λ i. record { received = c.loop-res.totals.received + c.from.ensures i; passed = c.loop-res.totals.passed + c.from-in-loop-res.ensures i })
 
 pub returns : goal.returns
 returns c =
-    let e : c.loop-i.i ≡ c.results_taken-taken.result = omega arith in
-    walk_ends c.args.results.now c.loop-i.i c.loop-i.totals _ (e ∙ c.results_taken-taken.ensures) c.loop-i.invariant.walked c.sum_answer.ensures
+    let e : c.loop-res.res-index ≡ length c.args.results.now = omega arith in
+    walk_ends c.args.results.now c.loop-res.totals (omega arith) (rw e at c.loop-res.invariant)
