@@ -45,6 +45,11 @@ pub taken_there : (l : List ℕ) (e : Event) (n : ℕ) → frame_of limits l ≡
 unfolding read_at
 taken_there l e n q = let z = (taken_inside l 0 e n q).0 in omega arith
 
+-- the same of a frame at a place
+pub read_some : (l : List ℕ) (at : ℕ) (e : Event) (n : ℕ) → read_at limits l at ≡ taken e n → 16 ≤ n
+unfolding read_at
+read_some l at e n q = taken_some (drop at l) e n q
+
 -- looking at as many frames as there are octets is enough
 enough : (n m : ℕ) (l : List ℕ) → length l ≤ n → length l ≤ m → check_from n l ≡ check_from m l
 unfolding check_from frame_of

@@ -2,6 +2,7 @@
 use Rattle.std.specs.Prelude.{◌≡◌, List, [], ◌∷◌, ◌++◌, ℕ, zero, suc, ◌+◌, length, drop}
 use Rattle.protocol.specs.Floor.{limits}
 use Rattle.protocol.specs.Frames.{end, refused_frame, taken, frame_of}
+use Rattle.frame_reader.specs.Reads.{refusal_code}
 use Rattle.frame_reader.specs.declared.Checked.{Checked}
 
 -- what a check finds: how many whole frames stand at the front, how many octets they take, and the refusal number of what stands behind them
@@ -38,7 +39,7 @@ checked l = check_from (length l) l
 
 -- what the running check answers, in these words
 abbrev pub check_in : Checked → Found
-check_in r = record { frames = r.frames; octets = r.at; refusal = r.refusal }
+check_in r = record { frames = r.frames; octets = r.at; refusal = refusal_code r.refusal }
 
 -- A STREAM THAT COMES PIECE BY PIECE
 

@@ -1,5 +1,5 @@
--- `frame_reader::check` meets its contract: a reader that moves has passed a whole frame, and one that does not has come to the end of the check.
-use mathlib.Core.Path.{◌≡◌, ap, subst, sym, ◌∙◌}
+-- `frame_reader::check` meets its contract: a reader that gives an event has passed a whole frame, and one that gives none has come to the end of the check.
+use mathlib.Core.Path.{◌≡◌, refl, ap, ap₂, subst, sym, ◌∙◌}
 use mathlib.Core.List.{List}
 use Prim.Native.Nat.{ℕ, ◌+◌, ◌<◌, ◌≤◌}
 use native.Mathlib.Omega.{arith}
@@ -7,38 +7,41 @@ use lib.ListN.{drop}
 use Rattle.protocol.specs.Floor.{limits}
 use Rattle.protocol.specs.Frames.{read_at, moved_to}
 use Rattle.frames.specs.Decoded.{refusal_number}
+use Rattle.frame_reader.specs.Reads.{refusal_code}
 use Rattle.frame_reader.specs.Checks.{whole, after, checked}
-use Rattle.frame_reader.proofs.Stream.{Stand, next, next_inside, passed, no_further}
+use Rattle.frame_reader.proofs.Stream.{Stand, next, next_inside, passed, no_further, read_some, same_found}
 use Rattle.frame_reader.proofs.check.Goals as goal
 
-pub loop-reader-smaller : goal.loop-reader-smaller
-loop-reader-smaller c =
-    let i = c.loop-reader.invariant in
-    let t : Stand c.args.octets.now = record { frames = c.loop-reader.frames; at = c.loop-reader.reader.at; rest = i.rest; few = i.few; inside = i.inside } in
-    let z = next_inside c.args.octets.now t in
-    omega arith
-
-pub loop-reader-preserved : goal.loop-reader-preserved
-loop-reader-preserved c =
-    let i = c.loop-reader.invariant in
+pub loop-frames-preserved : goal.loop-frames-preserved
+loop-frames-preserved c =
+    let i = c.loop-frames.invariant in
     let l = c.args.octets.now in
-    let t : Stand l = record { frames = c.loop-reader.frames; at = c.loop-reader.reader.at; rest = i.rest; few = i.few; inside = i.inside } in
-    let z = next_inside l t in
+    let r = c.loop-frames.reader in
+    let t : Stand l = record { frames = c.loop-frames.frames; at = r.at; rest = i.rest; few = i.few; inside = i.inside } in
+    let s = c.in-Some.ensures.steps in
+    let some = read_some r.octets.now r.at _ _ s.gave in
+    let behind = ap (moved_to r.at) s.gave in
+    let moved = s.moved ∙ ap (λ (k : List ℕ). moved_to r.at (read_at limits k r.at)) i.octets in
     let moves : t.at < next t = omega arith in
-    let octets : c.loop-reader.next.octets.now ≡ l = ap (λ x. x.now) i.behind ∙ i.octets in
+    let z = next_inside l t in
     record {
-      rest = subst (λ (n : ℕ). after (whole (t.frames + 1) n) (checked (drop n l)) ≡ checked l) (sym i.next) (passed l t moves);
+      rest = subst (λ (n : ℕ). after (whole (t.frames + 1) n) (checked (drop n l)) ≡ checked l) (sym moved) (passed l t moves);
       few = omega arith;
       inside = omega arith;
-      octets = octets;
-      behind = c.moved-next-in-loop-reader.ensures.0;
-      next = subst (λ (k : List ℕ). c.moved-next-in-loop-reader.result.at ≡ moved_to c.loop-reader.next.at (read_at limits k c.loop-reader.next.at)) octets c.moved-next-in-loop-reader.ensures.1;
+      octets = ap (λ x. x.now) s.octets ∙ i.octets;
     }
 
 pub returns : goal.returns
 returns c =
-    let i = c.loop-reader.invariant in
+    let i = c.loop-frames.invariant in
     let l = c.args.octets.now in
-    let t : Stand l = record { frames = c.loop-reader.frames; at = c.loop-reader.reader.at; rest = i.rest; few = i.few; inside = i.inside } in
+    let r = c.loop-frames.reader in
+    let t : Stand l = record { frames = c.loop-frames.frames; at = r.at; rest = i.rest; few = i.few; inside = i.inside } in
+    let s = c.in_default.ensures.steps in
+    let octets = ap (λ x. x.now) s.octets ∙ i.octets in
+    let moved = s.moved ∙ ap (λ (k : List ℕ). moved_to r.at (read_at limits k r.at)) i.octets in
+    let here = s.gave in
     let stays : next t ≤ t.at = omega arith in
-    no_further l t stays c.refusal.result (c.refusal.ensures ∙ ap (λ (k : List ℕ). refusal_number (read_at limits k c.loop-reader.reader.at)) i.octets)
+    same_found refl here refl
+    ∙ no_further l t stays (refusal_code c.refusal.result)
+    (c.refusal.ensures ∙ ap₂ (λ (k : List ℕ) (at : ℕ). refusal_number (read_at limits k at)) octets here)
