@@ -6,9 +6,10 @@ use lib.ListN.{length}
 use Rattle.protocol.specs.Events.{radio, refused, buffer_after}
 use Rattle.protocol.specs.Events as events
 use Rattle.view.specs.View.{Lent}
-use Rattle.event_answers.specs.declared.Answer.{Answer}
-use Rattle.event_answers.specs.declared.Answer.TheVariants.{Refused}
-use Rattle.event_answers.specs.Answers.{answer_in, octets_in, text_of}
+use Rattle.std.specs.Prelude.{Err}
+use Rattle.refusals.specs.declared.Refusal.{Refusal}
+use Rattle.refusals.specs.Numbers.{number_of}
+use Rattle.event_answers.specs.Answers.{Answer, answer_in, octets_in, text_of}
 use Rattle.event_answers.specs.Met.{Met}
 use Rattle.event_answers.specs.Delivered.{Delivered}
 
@@ -24,5 +25,5 @@ module _ (L L' : Lent) (t c : ℕ) (buffer : List ℕ) where
       }
 
   -- a refusal
-  pub delivers_refused : (r : ℕ) → Met L L' (radio t c (length buffer)) (refused r) → Delivered L L' t c (Refused r) buffer buffer
-  delivers_refused r met = delivers (refused r) (Refused r) buffer met refl refl refl
+  pub delivers_refused : (r : Refusal) → Met L L' (radio t c (length buffer)) (refused (number_of r)) → Delivered L L' t c (Err r) buffer buffer
+  delivers_refused r met = delivers (refused (number_of r)) (Err r) buffer met refl refl refl

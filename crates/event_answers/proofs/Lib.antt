@@ -1,4 +1,3 @@
-pub mod Values
 pub mod Meets
 pub mod Broken
 pub mod Readies

@@ -16,9 +16,15 @@ use Rattle.stations.specs.View.{HasHead, head_in}
 use Rattle.view.specs.View.{Lent, floor_in}
 use Rattle.view.proofs.Lengths.{nothing_beyond}
 use Rattle.view.proofs.Standing.{Standing, standing}
+use Rattle.refusals.specs.declared.Refusal.{Refusal}
+use Rattle.refusals.specs.Numbers.{number_of}
 use Rattle.reports.specs.declared.Effect.{Effect}
 use Rattle.event_answers.specs.Answers.{says}
 use Rattle.event_answers.specs.Met.{Met}
+
+-- every refusal has a number
+number_some : (r : Refusal) → number_of r ≡ 0 → ⊥
+number_some r z = grind arith
 
 module _ (L : Lent) (e : Event) where
   abbrev F : Floor
@@ -44,6 +50,10 @@ module _ (L : Lent) (e : Event) where
   -- the same, of a floor that passes
   pub meets_no : (r : ℕ) → passes_form (limits_of L.product) F ≡ true → r ≡ refusal_if (limits_of L.product) F false e → (r ≡ 0 → ⊥) → Met L L e (refused r)
   meets_no r p q n = meets_refused r (refusal_standing p ∙ sym q) n
+
+  -- the same, of what a check found
+  pub meets_check : (r : Refusal) → passes_form (limits_of L.product) F ≡ true → number_of r ≡ refusal_if (limits_of L.product) F false e → Met L L e (refused (number_of r))
+  meets_check r p q = meets_no (number_of r) p q (number_some r)
 
   -- "everything else is accepted"
   pub meets_done : (L' : Lent) (l : Report) → L'.product ≡ L.product → refusal (limits_of L.product) F e ≡ 0 → floor_in L' ≡ (accept (limits_of L.product) F e).floor → l ≡ (accept (limits_of L.product) F e).report → Met L L' e (accepted l)

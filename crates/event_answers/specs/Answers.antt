@@ -1,19 +1,20 @@
 -- THE ANSWERS, in 01's numbers and values: "index from 0, kind, a, b, p, w. Refused: index, no, refusal".
-use Rattle.std.specs.Prelude.{Bool, true, false, cond, List, [], ℕ, eqb, take}
+use Rattle.std.specs.Prelude.{Bool, cond, List, [], ℕ, take, Result, Ok, Err}
 use Rattle.protocol.specs.Events.{refused, accepted}
 use Rattle.protocol.specs.Events as events
+use Rattle.refusals.specs.declared.Refusal.{Refusal}
+use Rattle.refusals.specs.Numbers.{number_of}
 use Rattle.reports.specs.declared.Effect.{Effect}
 use Rattle.reports.specs.declared.Report.{Report}
-use Rattle.reports.specs.Effects.{nothing, accepted_in}
+use Rattle.reports.specs.Effects.{accepted_in}
 use Rattle.event_answers.specs.declared.Outcome.{Outcome}
 use Rattle.event_answers.specs.declared.Outcome.TheVariants.{Started, Entered, Sent, Buffered, Acknowledged, Deleted, Deregistered, Registered, Received, Moved, Flagged, Grouped, SentToGroup, SentLong, Retired}
-use Rattle.event_answers.specs.declared.Answer.{Answer}
-use Rattle.event_answers.specs.declared.Answer.TheVariants.{Refused, Accepted}
+use Rattle.event_answers.specs.declared.Accepted.{Accepted}
 use Rattle.event_answers.specs.declared.Told.{Told}
 
--- "Checks run down the table; the first that applies is the answer": a refusal, or the next where there is none
-abbrev pub first_applying : ℕ → ℕ → ℕ
-first_applying r next = cond (eqb r 0) next r
+-- the answer to an event: what was done and what the step counted, or why it is refused
+abbrev pub Answer : Type 0
+Answer = Result Accepted Refusal
 
 -- kind, a, b, and what the step counted
 abbrev pub values : ℕ → ℕ → ℕ → Effect → Report
@@ -61,22 +62,23 @@ text_size (SentToGroup s n) = 0
 text_size (SentLong s n) = 0
 text_size (Retired c) = 0
 
--- the same in numbers; what a refusal would report is not looked at
-abbrev pub told_of : Answer → Told
-told_of (Refused r) = record { is_refused = true; refusal = r; report = values 0 0 0 nothing; size = 0 }
-told_of (Accepted o f) = record { is_refused = false; refusal = 0; report = report_of o f; size = text_size o }
+-- what is told of an accepted event
+abbrev pub told_of : Accepted → Told
+told_of a = record { report = report_of a.outcome a.effect; size = text_size a.outcome }
 
--- THE WRITTEN ANSWER that these numbers say, with that text
+-- THE WRITTEN ANSWER that this says, with that text
 abbrev pub told_in : Told → List ℕ → events.Answer
-told_in r text = cond r.is_refused (refused r.refusal) (accepted_in r.report text)
+told_in r text = accepted_in r.report text
 
--- how many octets of text an answer says that it adds
+-- how many octets of text an answer says that it adds: a refusal adds none
 abbrev pub octets_in : Answer → ℕ
-octets_in a = (told_of a).size
+octets_in (Ok a) = text_size a.outcome
+octets_in (Err refusal) = 0
 
--- and the written answer that it says: the text of a radio step stands at the front of these octets
+-- and the written answer that it says: "A refusal gives its number alone"; the text of a radio step stands at the front of these octets
 abbrev pub answer_in : Answer → List ℕ → events.Answer
-answer_in a octets = told_in (told_of a) (take (octets_in a) octets)
+answer_in (Ok a) octets = told_in (told_of a) (take (text_size a.outcome) octets)
+answer_in (Err refusal) octets = refused (number_of refusal)
 
 -- one without a text
 abbrev pub says : ℕ → ℕ → ℕ → Effect → events.Answer

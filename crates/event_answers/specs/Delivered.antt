@@ -5,8 +5,7 @@ use Rattle.protocol.specs.Floor.{Product, limits_of}
 use Rattle.protocol.specs.Events.{radio, buffer_after}
 use Rattle.protocol.specs.Step.{answer}
 use Rattle.view.specs.View.{Lent, floor_in}
-use Rattle.event_answers.specs.declared.Answer.{Answer}
-use Rattle.event_answers.specs.Answers.{answer_in, octets_in, text_of}
+use Rattle.event_answers.specs.Answers.{Answer, answer_in, octets_in, text_of}
 use Rattle.event_answers.specs.Met.{Met, Ready}
 
 pub record Delivered (L L' : Lent) (t c : ℕ) (a : Answer) (buffer buffer' : List ℕ) : Type 0 where

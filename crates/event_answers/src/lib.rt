@@ -2,9 +2,10 @@
 #![tactic(auto)]
 
 ghost use Rattle.std.specs.Prelude.{◌≡◌};
-ghost use Rattle.event_answers.specs.Answers.{first_applying, values, flag_number, report_of, text_size, told_of};
+ghost use Rattle.event_answers.specs.Answers.{values, report_of, text_size, told_of};
 
 use ids::{CartNumber, MessageNumber, Station};
+use refusals::Refusal;
 use reports::{Effect, Report};
 
 // What an accepted event did; specs/Answers sets out 01's kind and values for each case.
@@ -42,20 +43,21 @@ pub enum Outcome {
     Retired(CartNumber),
 }
 
-// The answer to an event.
+// An event that was accepted: what was done, and what the step counted.
 #[derive(Clone, Copy)]
-pub enum Answer {
-    // "A refusal gives its number alone."
-    Refused(u64),
-    // What was done, and what the step counted.
-    Accepted(Outcome, Effect),
+pub struct Accepted {
+    pub outcome: Outcome,
+    pub effect: Effect,
 }
 
-// "Checks run down the table; the first that applies is the answer": a refusal, or the next where there is none.
-pub fn first_of(refusal: u64, next: u64) -> u64
-    ensures { result ≡ first_applying refusal next }
-{
-    if refusal == 0 { next } else { refusal }
+// The answer to an event. "A refusal gives its number alone."
+pub type Answer = Result<Accepted, Refusal>;
+
+// What is told of an accepted event: what its line says, and how many octets of text it adds.
+#[derive(Clone, Copy)]
+pub struct Told {
+    pub report: Report,
+    pub size: usize,
 }
 
 // A report of these values.
@@ -65,72 +67,48 @@ fn report(kind: u64, a: u64, b: u64, effect: Effect) -> Report
     Report { kind, a, b, effect }
 }
 
-// "1 for steady or 0 for not"
-fn flag_number(steady: bool) -> u64
-    ensures { result ≡ flag_number steady }
-{
-    steady as u64
-}
-
-// "kind, a, b, p, w" of what was done.
-fn report_of(outcome: Outcome, effect: Effect) -> Report
-    ensures { result ≡ report_of outcome effect }
-{
-    match outcome {
-        Outcome::Started(n, k) => report(0, n, k, effect),
-        Outcome::Entered(station, cart) => report(1, station.0, cart.0, effect),
-        Outcome::Sent(station, number) => report(2, station.0, number.0, effect),
-        Outcome::Buffered(number) => report(3, 1, number.0, effect),
-        Outcome::Acknowledged(number) => report(3, 2, number.0, effect),
-        Outcome::Deleted(number) => report(3, 3, number.0, effect),
-        Outcome::Deregistered(cart) => report(3, 4, cart.0, effect),
-        Outcome::Registered(cart) => report(3, 5, cart.0, effect),
-        Outcome::Received(initiator, number, _) => report(4, initiator.0, number.0, effect),
-        Outcome::Moved(cart, to) => report(5, cart.0, to.0, effect),
-        Outcome::Flagged(cart, steady) => report(6, cart.0, flag_number(steady), effect),
-        Outcome::Grouped(group, members) => report(7, group, members, effect),
-        Outcome::SentToGroup(station, number) => report(8, station.0, number.0, effect),
-        Outcome::SentLong(station, number) => report(9, station.0, number.0, effect),
-        Outcome::Retired(cart) => report(10, cart.0, 0, effect),
+impl Accepted {
+    // "kind, a, b, p, w" of what was done.
+    fn report(self) -> Report
+        ensures { result ≡ report_of self.outcome self.effect }
+    {
+        let effect = self.effect;
+        match self.outcome {
+            Outcome::Started(n, k) => report(0, n, k, effect),
+            Outcome::Entered(station, cart) => report(1, station.0, cart.0, effect),
+            Outcome::Sent(station, number) => report(2, station.0, number.0, effect),
+            Outcome::Buffered(number) => report(3, 1, number.0, effect),
+            Outcome::Acknowledged(number) => report(3, 2, number.0, effect),
+            Outcome::Deleted(number) => report(3, 3, number.0, effect),
+            Outcome::Deregistered(cart) => report(3, 4, cart.0, effect),
+            Outcome::Registered(cart) => report(3, 5, cart.0, effect),
+            Outcome::Received(initiator, number, _) => report(4, initiator.0, number.0, effect),
+            Outcome::Moved(cart, to) => report(5, cart.0, to.0, effect),
+            Outcome::Flagged(cart, steady) => report(6, cart.0, u64::from(steady), effect),
+            Outcome::Grouped(group, members) => report(7, group, members, effect),
+            Outcome::SentToGroup(station, number) => report(8, station.0, number.0, effect),
+            Outcome::SentLong(station, number) => report(9, station.0, number.0, effect),
+            Outcome::Retired(cart) => report(10, cart.0, 0, effect),
+        }
     }
-}
 
-// How many octets of text it adds.
-fn text_size(outcome: Outcome) -> usize
-    ensures { result ≡ text_size outcome }
-{
-    match outcome {
-        Outcome::Received(_, _, size) => size,
-        _ => 0,
+    // How many octets of text it adds.
+    fn text_size(self) -> usize
+        ensures { result ≡ text_size self.outcome }
+    {
+        match self.outcome {
+            Outcome::Received(_, _, size) => size,
+            _ => 0,
+        }
     }
-}
 
-// An answer in numbers: is it a refusal, and with which number; or what it reports, and how many octets of text it adds. Whoever prints it or hands
-// it on asks one question of it, and not once more which of all cases it was.
-#[derive(Clone, Copy)]
-pub struct Told {
-    pub is_refused: bool,
-    pub refusal: u64,
-    pub report: Report,
-    pub size: usize,
-}
-
-// The answer in numbers.
-pub fn told_of(answer: Answer) -> Told
-    ensures { result ≡ told_of answer }
-{
-    match answer {
-        Answer::Refused(refusal) => Told {
-            is_refused: true,
-            refusal,
-            report: report(0, 0, 0, reports::nothing()),
-            size: 0,
-        },
-        Answer::Accepted(outcome, effect) => Told {
-            is_refused: false,
-            refusal: 0,
-            report: report_of(outcome, effect),
-            size: text_size(outcome),
-        },
+    // Whoever prints it or hands it on asks this once, and not once more which of all cases it was.
+    pub fn told(self) -> Told
+        ensures { result ≡ told_of self }
+    {
+        Told {
+            report: self.report(),
+            size: self.text_size(),
+        }
     }
 }
