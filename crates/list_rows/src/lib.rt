@@ -2,7 +2,7 @@
 // text. "for every station and cart, a plain list of messages not yet received": the station's rows that the cart has yet to take.
 #![tactic(auto)]
 
-ghost use Rattle.std.specs.Prelude.{◌≡◌, List, ◌++◌, ℕ, ◌*◌, ◌<◌, ◌≤◌, length, take, drop};
+ghost use Rattle.std.specs.Prelude.{◌≡◌, List, ◌++◌, ℕ, ◌*◌, ◌<◌, ◌≤◌, None, Some, length, take, drop};
 ghost use Rattle.protocol.specs.Folds.{update, by_option};
 ghost use Rattle.rows.specs.Rows.{RowIn};
 ghost use Rattle.list_rows.specs.Rows.{width, text_room, part_in, rows_in, message_of, new_row, taken_by, waits, first_waiting, used_rows, keep_row, squeezed, with_room};
@@ -34,7 +34,7 @@ pub const SENDS: usize = ROWS * WIDTH;
 pub const OCTETS: usize = ROWS * TEXT;
 
 // A message that carts have yet to take.
-#[derive(Clone, Copy)]
+#[derive(Clone, Copy, Debug, PartialEq, Eq)]
 pub struct Message {
     pub initiator: Station,
     pub number: MessageNumber,
@@ -132,11 +132,9 @@ fn squeeze(sends: &mut [u64], octets: &mut [u8], used: usize) -> usize
     ensures result_after { used_rows (rows_in sends.new octets.new) result ≡ squeezed (rows_in sends.old octets.old) used }
     ensures sends_len_unchanged { (length sends.new ≡ length sends.old) × (length octets.new ≡ length octets.old) }
 {
-    let mut kept: usize = 0;
-    let mut row: usize = 0;
-    while row < used {
-        kept = keep_row(sends, octets, row, kept);
-        row += 1;
+    let mut kept = 0;
+    for from in 0..used {
+        kept = keep_row(sends, octets, from, kept);
     }
     kept
 }
@@ -160,25 +158,20 @@ fn is_waiting(sends: &[u64], row: usize, station: Station, cart: CartNumber) -> 
     ensures { (octets : List ℕ) → result ≡ waits station.0 cart.0 (rows_in sends.now octets row) }
 {
     let message = message_at(sends, row);
-    if station.0 != message.initiator.0 {
-        return false;
-    }
-    sets::has(message.carts, cart.0)
+    station == message.initiator && sets::has(message.carts, cart.0)
 }
 
-// The row at the head of the list of the station and the cart; the number of used rows if the list is empty.
-pub fn find_row(sends: &[u64], used: usize, station: Station, cart: CartNumber) -> usize
+// The row at the head of the list of the station and the cart, if the list is not empty.
+pub fn find_row(sends: &[u64], used: usize, station: Station, cart: CartNumber) -> Option<usize>
     requires { (used * width ≤ length sends.now) × (cart.0 < 64) }
-    ensures { (octets : List ℕ) → result ≡ by_option (first_waiting (rows_in sends.now octets) used station.0 cart.0) used (λ m. m) }
+    ensures { (octets : List ℕ) → result ≡ by_option (first_waiting (rows_in sends.now octets) used station.0 cart.0) None Some }
 {
-    let mut row = 0;
-    while row < used {
+    for row in 0..used {
         if is_waiting(sends, row, station, cart) {
-            return row;
+            return Some(row);
         }
-        row += 1;
     }
-    used
+    None
 }
 
 // The cart has taken the row's message.

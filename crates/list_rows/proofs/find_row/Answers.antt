@@ -3,6 +3,7 @@ use mathlib.Core.List.{[]}
 use mathlib.Core.Option.{Option}
 use Prim.Native.Nat.{ℕ}
 use native.Mathlib.Omega.{arith}
+use Rattle.std.specs.Prelude.{None, Some}
 use Rattle.protocol.specs.Folds.{by_option}
 use Rattle.protocol.proofs.Tests.{first_is, first_nowhere, by_eq}
 use Rattle.list_rows.specs.Rows.{rows_in, waits}
@@ -18,13 +19,7 @@ pub returns-then-is_waiting : goal.returns-then-is_waiting
 returns-then-is_waiting c octets =
     let a = c.args in
     let l = c.loop-row in
-    sym (ap (λ (o : Option ℕ). by_option o a.used (λ m. m)) (first_is a.used (λ r. waits a.station.0 a.cart.0 (rows_in a.sends.now octets r)) l.row c.loop-row-test.true (sym (c.is_waiting.ensures octets) ∙ c.if-is_waiting.true) l.invariant))
-
-pub overflow_add-row : goal.overflow_add-row
-overflow_add-row c = omega arith
-
-pub loop-row-smaller : goal.loop-row-smaller
-loop-row-smaller c = omega arith
+    sym (ap (λ (o : Option ℕ). by_option o None Some) (first_is a.used (λ r. waits a.station.0 a.cart.0 (rows_in a.sends.now octets r)) l.row c.loop-row-test.true (sym (c.is_waiting.ensures octets) ∙ c.if-is_waiting.true) l.invariant))
 
 pub loop-row-preserved : goal.loop-row-preserved
 loop-row-preserved c r h =
@@ -38,4 +33,4 @@ pub returns : goal.returns
 returns c octets =
     let a = c.args in
     let l = c.loop-row in
-    sym (ap (λ (o : Option ℕ). by_option o a.used (λ m. m)) (first_nowhere a.used (λ r. waits a.station.0 a.cart.0 (rows_in a.sends.now octets r)) (λ r h. l.invariant r (omega arith))))
+    sym (ap (λ (o : Option ℕ). by_option o None Some) (first_nowhere a.used (λ r. waits a.station.0 a.cart.0 (rows_in a.sends.now octets r)) (λ r h. l.invariant r (omega arith))))

@@ -1,19 +1,21 @@
 -- `list_rows::is_waiting` meets its contract.
-use mathlib.Core.Path.{ap, sym, ◌∙◌}
-use borrow.Author.Tests.{ne_eqb, eq-eqb}
+use mathlib.Core.Path.{ap, ◌∙◌}
+use mathlib.Core.Bool.{Bool, ◌&&◌}
+use lib.Dec.{eqb}
 use Rattle.protocol.specs.CartSets.{has}
 use Rattle.list_rows.specs.declared.Message.{Message}
 use Rattle.list_rows.proofs.is_waiting.Goals as goal
 
-pub returns-then-station-message : goal.returns-then-station-message
-returns-then-station-message c octets =
+pub returns-then-eq : goal.returns-then-eq
+returns-then-eq c octets =
     let a = c.args in
-    let its = ap (λ (m : Message). m.initiator.0) (c.message_at-message.ensures octets) in
-    rw (ne_eqb a.station.0 _ (λ e. c.if-station-message.true (e ∙ sym its)))
+    c.has.ensures
+    ∙ ap (λ (b : Bool). b && has c.message_at-message.result.carts a.cart.0) c.if-eq.ensures
+    ∙ ap (λ (m : Message). eqb a.station.0 m.initiator.0 && has m.carts a.cart.0) (c.message_at-message.ensures octets)
 
-pub returns : goal.returns
-returns c octets =
+pub returns-else-eq : goal.returns-else-eq
+returns-else-eq c octets =
     let a = c.args in
-    let message = c.message_at-message.ensures octets in
-    rw (eq-eqb a.station.0 _ (c.if-station-message.false ∙ ap (λ (m : Message). m.initiator.0) message))
-    (c.has.ensures ∙ ap (λ (m : Message). has m.carts a.cart.0) message)
+    c.if-eq.false
+    ∙ ap (λ (b : Bool). b && has c.message_at-message.result.carts a.cart.0) c.if-eq.ensures
+    ∙ ap (λ (m : Message). eqb a.station.0 m.initiator.0 && has m.carts a.cart.0) (c.message_at-message.ensures octets)

@@ -7,36 +7,30 @@ use Rattle.list_rows.proofs.ListLaws.{squeezed_used, squeezed_rest}
 use borrow.Author.Rules.{rules}
 use Rattle.list_rows.proofs.squeeze.Goals as goal
 
-pub loop-row-init : goal.loop-row-init
+pub loop-from-init : goal.loop-from-init
 unfolding squeezed
-loop-row-init c = (omega arith, refl, refl, refl)
+loop-from-init c = (omega arith, refl, refl, refl)
 
 pub keep_row-kept-requires : goal.keep_row-kept-requires
 keep_row-kept-requires c =
-    let l = c.loop-row in
+    let l = c.loop-from in
     let T = rows_in c.args.sends.now c.args.octets.now in
-    let low : l.kept ≤ l.row = rw (ap (λ (U : Used). U.used) l.invariant.3) (squeezed_used T l.row) in
-    let same = ap (λ (U : Used). (U.rows l.row).size) l.invariant.3 ∙ ap (λ (x : Row). x.size) (squeezed_rest T l.row l.row (omega arith)) in
-    let small = c.requires.2 l.row c.loop-row-test.true in
+    let low : l.kept ≤ l.from = rw (ap (λ (U : Used). U.used) l.invariant.3) (squeezed_used T l.from) in
+    let same = ap (λ (U : Used). (U.rows l.from).size) l.invariant.3 ∙ ap (λ (x : Row). x.size) (squeezed_rest T l.from l.from (omega arith)) in
+    let small = c.requires.2 l.from c.loop-from-test.true in
     (omega arith, omega arith, low, omega arith)
 
-pub overflow_add-row : goal.overflow_add-row
-overflow_add-row c = omega arith
-
-pub loop-row-smaller : goal.loop-row-smaller
-loop-row-smaller c = omega arith
-
-pub loop-row-preserved : goal.loop-row-preserved
+pub loop-from-preserved : goal.loop-from-preserved
 unfolding squeezed
-loop-row-preserved c =
-    let l = c.loop-row in
+loop-from-preserved c =
+    let l = c.loop-from in
     let T = rows_in c.args.sends.now c.args.octets.now in
-    (omega arith, search rules, search rules, c.keep_row-kept.ensures.result_after ∙ ap (λ (U : Used). keep_row U l.row) l.invariant.3 ∙ sym (ap (squeezed T) (add-one l.row)))
+    (omega arith, search rules, search rules, c.keep_row-kept.ensures.result_after ∙ ap (λ (U : Used). keep_row U l.from) l.invariant.3 ∙ sym (ap (squeezed T) (add-one l.from)))
 
 pub returns : goal.returns
 returns c =
-    let l = c.loop-row in
-    let end : l.row ≡ c.args.used = omega arith in
+    let l = c.loop-from in
+    let end : l.from ≡ c.args.used = omega arith in
     record {
       result_after = l.invariant.3 ∙ ap (squeezed (rows_in c.args.sends.now c.args.octets.now)) end;
       sends_len_unchanged = (l.invariant.1, l.invariant.2);
