@@ -1,7 +1,7 @@
 -- THE READING CALL, by what it finds; and its part lies in one of the two slices, where the message's text is.
 use mathlib.Core.Path.{◌≡◌, refl, sym, ap, ap₂, ◌∙◌, subst}
-use mathlib.Core.Bool.{Bool, true, false, cond}
-use mathlib.Core.Option.{none, some}
+use mathlib.Core.Bool.{Bool, true, false}
+use mathlib.Core.Option.{some}
 use mathlib.Core.List.{List, []}
 use Prim.Native.Nat.{ℕ, ◌+◌, ◌*◌, ◌≤◌, ◌<◌}
 use native.Mathlib.Omega.{arith}
@@ -23,27 +23,33 @@ use Rattle.store.proofs.TextLaws.{short_text, long_text}
 use Rattle.store.proofs.Looks.{held_and_long}
 use Rattle.store.proofs.Room.{has_parts}
 use Rattle.view.specs.View.{Lent, lent, floor_in}
-use Rattle.view.proofs.Standing.{Standing, standing}
-use Rattle.queue.specs.Rooms.{room_code}
+use Rattle.view.proofs.Standing.{standing}
+use Rattle.queue.specs.Rooms.{room_code, room_in}
+use Rattle.queue.proofs.Codes.{code_says, is_room}
 use Rattle.form_tables.specs.Tables.{tables}
 use Rattle.form_tables.proofs.Names.{message_held}
 use Rattle.reading.specs.declared.Part.{Part}
-use Rattle.reading.specs.declared.Found.{Found}
-use Rattle.reading.specs.Parts.{part_of, front_part, read_in, LentFrom, lender, IsPart, TextLent}
-use Rattle.reading.proofs.Search.{none_found, one_found}
-
--- a refusal
-abbrev pub refused_by : ℕ → Found
-refused_by r = record { refusal = r; part = front_part }
+use Rattle.std.specs.Prelude.{None, Some, Result, Ok, Err}
+use Rattle.std.specs.Prelude as rust
+use Rattle.refusals.specs.declared.Refusal.{Refusal}
+use Rattle.refusals.specs.declared.Refusal.TheVariants.{NotReady, NoSuchStation, NotHeld}
+use Rattle.refusals.specs.Numbers.{refusal_in}
+use Rattle.reading.specs.Parts.{part_of, front_part, read_in, part_in, lender, IsPart, TextLent}
 
 -- "a call beside it gives the number"
-pub read_number : (L : Lent) (s n : ℕ) (r : Found) → r ≡ read_in L s n → r.refusal ≡ read_refusal (limits_of L.product) (floor_in L) s n
-unfolding read_in
-read_number L s n r e = ap (λ (x : Found). x.refusal) e
+pub read_number : (L : Lent) (s n : ℕ) (r : Result Part Refusal) → r ≡ read_in L s n → refusal_in r ≡ read_refusal (limits_of L.product) (floor_in L) s n
+unfolding read_in read_refusal
+read_number L s n r e =
+    ap refusal_in e
+    ∙ by_test (passes_form (limits_of L.product) (floor_in L))
+    (λ h. by_test (no_station (floor_in L) s)
+    (λ k. rw (h, k) refl)
+    (λ k. by_option_lem (room_of (limits_of L.product) (floor_in L) s n) (λ q. rw (h, k, q) refl) (λ m q. rw (h, k, q) refl)))
+    (λ h. rw h refl)
 
 -- 5: a floor that breaks the form rule
-pub read_broken : (L : Lent) (s n : ℕ) → passes_form (limits_of L.product) (floor_in L) ≡ false → refused_by 5 ≡ read_in L s n
-unfolding read_in read_refusal
+pub read_broken : (L : Lent) (s n : ℕ) → passes_form (limits_of L.product) (floor_in L) ≡ false → Err NotReady ≡ read_in L s n
+unfolding read_in
 read_broken L s n h = rw h refl
 
 -- THE PART OF A ROOM, by the length and the offset that its row has
@@ -61,31 +67,27 @@ module _ (P : Product) (S C M W T O : List ℕ) (s n : ℕ) where
   L = lent P S C M W T O
 
   module _ (passes : passes_form (limits_of P) (floor_in L) ≡ true) where
-    pub read_no_station : (count : ℕ) → count ≡ (head_in S).stations → count ≤ s → refused_by 8 ≡ read_in L s n
-    unfolding read_in read_refusal
+    pub read_no_station : (count : ℕ) → count ≡ (head_in S).stations → count ≤ s → Err NoSuchStation ≡ read_in L s n
+    unfolding read_in
     read_no_station count e l = rw (passes, le-leb (head_in S).stations s (omega arith)) refl
 
-    -- a station of the floor, and m is the room of the message, or 32
-    module _ (held count : ℕ) (e : count ≡ (head_in S).stations) (on_floor : s < count) (rooms : P.held ≡ held) (few : held ≤ 32)
-        (m : ℕ) (code : m ≡ room_code (first held (is_message (tables [] [] M) s n))) where
+    -- a station of the floor, and what the search for the message's room found
+    module _ (held count : ℕ) (e : count ≡ (head_in S).stations) (on_floor : s < count) (rooms : P.held ≡ held)
+        (found : rust.Option ℕ) (code : found ≡ room_code (first held (is_message (tables [] [] M) s n))) where
       there : no_station (floor_in L) s ≡ false
       there = lt-leb (head_in S).stations s (omega arith)
 
-      not_here_lem : m ≡ 32 → room_of (limits_of P) (floor_in L) s n ≡ none
+      room_is : room_of (limits_of P) (floor_in L) s n ≡ room_in found
       unfolding room_of
-      not_here_lem z = ap (λ (h : ℕ). first h (is_message (floor_in L) s n)) rooms ∙ none_found held (is_message (floor_in L) s n) m few code z
+      room_is = ap (λ (h : ℕ). first h (is_message (floor_in L) s n)) rooms ∙ code_says (first held (is_message (floor_in L) s n)) code
 
-      here : (m ≡ 32 → ⊥) → room_of (limits_of P) (floor_in L) s n ≡ some m
-      unfolding room_of
-      here z = ap (λ (h : ℕ). first h (is_message (floor_in L) s n)) rooms ∙ one_found held (is_message (floor_in L) s n) m few code z
+      pub read_not_held : found ≡ None → Err NotHeld ≡ read_in L s n
+      unfolding read_in
+      read_not_held z = rw (passes, there, room_is ∙ ap room_in z) refl
 
-      pub read_not_held : m ≡ 32 → refused_by 28 ≡ read_in L s n
-      unfolding read_in read_refusal
-      read_not_held z = rw (passes, there, not_here_lem z) refl
-
-      pub read_held : (m ≡ 32 → ⊥) → (p : Part) → p ≡ part_of (rooms_in M) m → record { refusal = 0; part = p } ≡ read_in L s n
-      unfolding read_in read_refusal
-      read_held z p q = rw (passes, there, here z) (ap (λ (x : Part). record { refusal = 0; part = x }) q)
+      pub read_held : (m : ℕ) → found ≡ Some m → (p : Part) → p ≡ part_of (rooms_in M) m → Ok p ≡ read_in L s n
+      unfolding read_in
+      read_held m z p q = rw (passes, there, room_is ∙ ap room_in z) (ap (λ (x : Part). Ok x) q)
 
 -- what the search asks of a floor that passes
 pub read_asks : (L : Lent) → passes_form (limits_of L.product) (floor_in L) ≡ true
@@ -97,9 +99,9 @@ read_asks L h =
     (omega arith, omega arith, L.product.held_fit)
 
 -- what part_of asks of the room that was found
-pub part_asks : (held : ℕ) (p : ℕ → Bool) (M : List ℕ) (m : ℕ) → held * 7 ≤ length M → held ≤ 32 → m ≡ room_code (first held p) → (m ≡ 32 → ⊥)
+pub part_asks : (held : ℕ) (p : ℕ → Bool) (M : List ℕ) (found : rust.Option ℕ) (m : ℕ) → held * 7 ≤ length M → held ≤ 32 → found ≡ room_code (first held p) → found ≡ Some m
     → (m * 7 + 7 ≤ length M) × (m < 32)
-part_asks held p M m rows few code z = let y = first_some held p m (one_found held p m few code z) in (omega (arith, y.0, rows), omega (arith, y.0, few))
+part_asks held p M found m rows few code z = let y = first_some held p m (is_room (first held p) m z code) in (omega (arith, y.0, rows), omega (arith, y.0, few))
 
 -- BY WHAT THE CALL LENDS: nothing, or the part of a held message's text
 module _ (L : Lent) (s n : ℕ) where
@@ -119,7 +121,7 @@ module _ (L : Lent) (s n : ℕ) where
       (y.0, eqb-false (F.waiting m) 0 (not-true _ (message_held F s n m y.1)))
 
   pub by_read : (Q : Part → List ℕ → Type 0) → Q front_part [] → (passes_form N F ≡ true → (m : ℕ) → IsRead m → Q (part_of (rooms_in L.messages) m) (F.text m))
-      → Q (read_in L s n).part (read_text N F s n)
+      → Q (part_in (read_in L s n)) (read_text N F s n)
   unfolding read_in read_refusal read_text
   by_read Q nothing found =
       by_test (passes_form N F)
@@ -150,20 +152,6 @@ module _ (texts store : Bor (List ℕ)) (M : List ℕ) (m : ℕ) (held : (rooms_
       (λ l. rw (lt-leb ((rooms_in M).length m) 32 l) (parts.long (held_and_long (rooms_in M) m held l)))
       (λ l. rw (le-leb ((rooms_in M).length m) 32 l) (let z = parts.short in omega arith))
 
--- ONE OF TWO SLICES, by the test of the code
-module _ (x : Part) (texts store : Bor (List ℕ)) where
-  pub of_store : x.stored ≡ true → x.at + x.octets ≤ length (lender x texts store).now → x.at + x.octets ≤ length store.now
-  of_store e h = rw e at h
-
-  pub of_texts : x.stored ≡ false → x.at + x.octets ≤ length (lender x texts store).now → x.at + x.octets ≤ length texts.now
-  of_texts e h = rw e at h
-
-  pub lent_of_store : x.stored ≡ true → (r : Bor (List ℕ)) → LentFrom store x.at x.octets r → IsPart x texts store r
-  lent_of_store e r h = rw e h
-
-  pub lent_of_texts : x.stored ≡ false → (r : Bor (List ℕ)) → LentFrom texts x.at x.octets r → IsPart x texts store r
-  lent_of_texts e r h = rw e h
-
 -- THE CALL'S PART
 module _ (P : Product) (S C M W : List ℕ) (texts store : Bor (List ℕ)) (s n : ℕ) where
   abbrev K : Lent
@@ -175,21 +163,21 @@ module _ (P : Product) (S C M W : List ℕ) (texts store : Bor (List ℕ)) (s n 
       has_parts P.held M texts.now store.now (record { rows = X.lengths.messages; right = X.laid.texts }) X.lengths.texts X.lengths.store
 
   -- it is within its slice
-  pub read_lies : (p : Part) → p ≡ (read_in K s n).part → p.at + p.octets ≤ length (lender p texts store).now
+  pub read_lies : (p : Part) → p ≡ (part_in (read_in K s n)) → p.at + p.octets ≤ length (lender p texts store).now
   read_lies p e =
       subst (λ (x : Part). x.at + x.octets ≤ length (lender x texts store).now) (sym e)
       (by_read K s n (λ x text. x.at + x.octets ≤ length (lender x texts store).now)
       (omega arith)
       (λ h m read. part_lies texts store M m read.1 (there_are_parts h m read.0)))
 
-  read_text_lem : take (read_in K s n).part.octets (drop (read_in K s n).part.at (lender (read_in K s n).part texts store).now) ≡ read_text (limits_of P) (floor_in K) s n
+  read_text_lem : take (part_in (read_in K s n)).octets (drop (part_in (read_in K s n)).at (lender (part_in (read_in K s n)) texts store).now) ≡ read_text (limits_of P) (floor_in K) s n
   read_text_lem =
       by_read K s n (λ x text. take x.octets (drop x.at (lender x texts store).now) ≡ text)
       refl
       (λ h m read. part_text texts store (rooms_in M) m read.1)
 
   -- and what is lent is its text
-  pub text_lent : (p : Part) → p ≡ (read_in K s n).part → (r : Bor (List ℕ)) → IsPart p texts store r → TextLent K texts store s n r
+  pub text_lent : (p : Part) → p ≡ (part_in (read_in K s n)) → (r : Bor (List ℕ)) → IsPart p texts store r → TextLent K texts store s n r
   text_lent p e r lent_so =
-      let own : IsPart (read_in K s n).part texts store r = subst (λ (x : Part). IsPart x texts store r) e lent_so in
+      let own : IsPart (part_in (read_in K s n)) texts store r = subst (λ (x : Part). IsPart x texts store r) e lent_so in
       record { text = own.octets ∙ read_text_lem; part = own }

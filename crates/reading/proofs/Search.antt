@@ -1,11 +1,11 @@
 -- THE ROOM OF A MESSAGE: a search that passes the rooms one by one finds the first that passes a test.
 use mathlib.Core.Path.{◌≡◌, sym, ap, ◌∙◌}
 use mathlib.Core.Bool.{Bool, true, false}
-use mathlib.Core.Option.{none, some}
 use Prim.Native.Nat.{ℕ, ◌+◌, ◌≤◌, ◌<◌}
 use native.Mathlib.Omega.{arith}
 use Rattle.protocol.specs.Folds.{first}
-use Rattle.protocol.proofs.Tests.{by_eq, by_option_lem, first_some, first_is, first_nowhere}
+use Rattle.protocol.proofs.Tests.{by_eq, first_is, first_nowhere}
+use Rattle.std.specs.Prelude.{None, Some}
 use Rattle.queue.specs.Rooms.{room_code}
 
 -- no room before room m passes
@@ -18,23 +18,9 @@ module _ (held : ℕ) (p : ℕ → Bool) (m : ℕ) where
   passed_more b e fails before k l = by_eq k m (λ q. ap p q ∙ sym e ∙ fails) (λ q. before k (omega arith))
 
   -- room m does
-  pub found_here : (b : Bool) → b ≡ p m → b ≡ true → m < held → PassedTo p m → m ≡ room_code (first held p)
+  pub found_here : (b : Bool) → b ≡ p m → b ≡ true → m < held → PassedTo p m → Some m ≡ room_code (first held p)
   found_here b e passes l before = sym (ap room_code (first_is held p m l (sym e ∙ passes) before))
 
   -- no room does
-  pub found_nowhere : held ≤ m → PassedTo p m → 32 ≡ room_code (first held p)
+  pub found_nowhere : held ≤ m → PassedTo p m → None ≡ room_code (first held p)
   found_nowhere g before = sym (ap room_code (first_nowhere held p (λ k h. before k (omega arith))))
-
-  -- WHAT A WORD SAYS that is the code of what was found
-  module _ (few : held ≤ 32) (code : m ≡ room_code (first held p)) where
-    pub none_found : m ≡ 32 → first held p ≡ none
-    none_found z =
-        by_option_lem (first held p)
-        (λ q. q)
-        (λ k q. absurd (let y : m ≡ k = code ∙ ap room_code q in let x = first_some held p k q in omega (arith, x.0)))
-
-    pub one_found : (m ≡ 32 → ⊥) → first held p ≡ some m
-    one_found z =
-        by_option_lem (first held p)
-        (λ q. absurd (z (code ∙ ap room_code q)))
-        (λ k q. let y : m ≡ k = code ∙ ap room_code q in q ∙ ap some (sym y))

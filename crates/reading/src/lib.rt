@@ -11,36 +11,25 @@ ghost use Rattle.messages.specs.View.{HasRoom, rooms_in};
 ghost use Rattle.view.specs.View.{lent, floor_in};
 ghost use Rattle.queue.specs.Rooms.{room_code};
 ghost use Rattle.form_tables.specs.Tables.{tables};
-ghost use Rattle.reading.specs.Parts.{front_part, part_of, read_in, LentFrom, lender, IsPart};
+ghost use Rattle.reading.specs.Parts.{part_of, read_in, lender, IsPart};
 
 use ids::{MessageNumber, Station};
+use refusals::Refusal;
 
 // A part of the lent octets: of the store, or else of the short table; from which octet on, and how many.
-#[derive(Clone, Copy)]
+#[derive(Clone, Copy, Debug, PartialEq, Eq)]
 pub struct Part {
     pub stored: bool,
     pub at: usize,
     pub octets: usize,
 }
 
-// What the reading call comes to: its number, "0 if not refused", and the part that it lends back.
-#[derive(Clone, Copy)]
-pub struct Found {
-    pub refusal: u64,
-    pub part: Part,
-}
-
-// A refusal: "refused, it lends back the empty part at the front of the short table".
-pub fn refused(refusal: u64) -> Found
-    ensures { result ≡ record { refusal = refusal; part = front_part } }
-{
-    let part = Part {
-        stored: false,
-        at: 0,
-        octets: 0,
-    };
-    Found { refusal, part }
-}
+// A refusal has no part: "refused, it lends back the empty part at the front of the short table".
+pub const FRONT: Part = Part {
+    stored: false,
+    at: 0,
+    octets: 0,
+};
 
 // "that text's own part of the short table or of the long store", of the held message in room m: its length says which.
 pub fn part_of(messages: &[u64], m: usize) -> Part
@@ -62,19 +51,22 @@ pub fn part_of(messages: &[u64], m: usize) -> Part
     }
 }
 
-// The room of the held message of that initiator and number, by one pass over the rooms; `queue::NONE`, where it is not held.
-fn room_of(messages: &[u64], held: usize, initiator: Station, number: MessageNumber) -> usize
+// The room of the held message of that initiator and number, by one pass over the rooms; none, where it is not held.
+fn room_of(
+    messages: &[u64],
+    held: usize,
+    initiator: Station,
+    number: MessageNumber,
+) -> Option<usize>
     requires { (held * 7 ≤ length messages.now) × (held ≤ 32) }
     ensures { result ≡ room_code (first held (is_message (tables [] [] messages.now) initiator.0 number.0)) }
 {
-    let mut m: usize = 0;
-    while m < held {
+    for m in 0..held {
         if form_tables::is_message(messages, m, initiator.0, number.0) {
-            return m;
+            return Some(m);
         }
-        m += 1;
     }
-    queue::NONE
+    None
 }
 
 // What the call comes to on a floor that passes: "8, then 28 message not held", or the part of the message's text.
@@ -84,28 +76,17 @@ pub fn read(
     held: usize,
     initiator: Station,
     number: MessageNumber,
-) -> Found
+) -> Result<Part, Refusal>
     requires { HasHead stations.now × (held * 7 ≤ length messages.now) × (held ≤ 32) }
     ensures { (P : Product) (C W T O : List ℕ) → P.held ≡ held → passes_form (limits_of P) (floor_in (lent P stations.now C messages.now W T O)) ≡ true → result ≡ read_in (lent P stations.now C messages.now W T O) initiator.0 number.0 }
 {
     if stations::station_count(stations) <= initiator.0 {
-        return refused(8);
+        return Err(Refusal::NoSuchStation);
     }
-    let m = room_of(messages, held, initiator, number);
-    if m == queue::NONE {
-        return refused(28);
-    }
-    let part = part_of(messages, m);
-    Found { refusal: 0, part }
-}
-
-// n octets of a slice, from `at` on.
-fn cut(octets: &[u8], at: usize, n: usize) -> &[u8]
-    requires { at + n ≤ length octets.now }
-    ensures { LentFrom octets.entry at n result }
-{
-    let end = at + n;
-    &octets[at..end]
+    let Some(m) = room_of(messages, held, initiator, number) else {
+        return Err(Refusal::NotHeld);
+    };
+    Ok(part_of(messages, m))
 }
 
 // "lends back that text's own part": a part of one of the two lent slices.
@@ -113,8 +94,6 @@ pub fn lend<'a>(texts: &'a [u8], store: &'a [u8], part: Part) -> &'a [u8]
     requires { part.at + part.octets ≤ length (lender part texts store).now }
     ensures { IsPart part texts.entry store.entry result }
 {
-    if part.stored {
-        return cut(store, part.at, part.octets);
-    }
-    cut(texts, part.at, part.octets)
+    let lender = if part.stored { store } else { texts };
+    &lender[part.at..part.at + part.octets]
 }

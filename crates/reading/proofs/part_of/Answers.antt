@@ -1,5 +1,4 @@
 -- `reading::part_of` meets its contract.
-use borrow.Author.Rules.{rules}
 use Rattle.messages.specs.View.{rooms_in}
 use Rattle.reading.proofs.PartLaws.{short_part, long_part}
 use Rattle.reading.proofs.part_of.Goals as goal

@@ -1,10 +1,8 @@
 use mathlib.Core.List.{[]}
-use Prim.Native.Nat.{◌-◌}
 use native.Mathlib.Omega.{arith}
-use borrow.Author.Rules.{rules}
 use Rattle.protocol.specs.Floor.{is_message}
 use Rattle.form_tables.specs.Tables.{tables}
-use Rattle.reading.proofs.Search.{PassedTo, passed_more, found_here, found_nowhere}
+use Rattle.reading.proofs.Search.{passed_more, found_here, found_nowhere}
 use Rattle.reading.proofs.room_of.Goals as goal
 
 pub loop-m-init : goal.loop-m-init
