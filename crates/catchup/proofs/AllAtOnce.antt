@@ -19,9 +19,9 @@ use Rattle.protocol.proofs.CatchUp.{found_is, catch_up_at_once}
 use Rattle.protocol.proofs.Places.{given_at_once}
 use Rattle.stations.specs.View.{Stations, stations_in}
 use Rattle.messages.specs.View.{rooms_in}
-use Rattle.queue.specs.Rooms.{tables_floor, room_in}
+use Rattle.queue.specs.Rooms.{tables_floor, room_at}
 use Rattle.queue.specs.Places.{is_before, place_among}
-use Rattle.queue.proofs.Codes.{room_in_lem, no_room_in}
+use Rattle.queue.proofs.Codes.{room_at_lem, no_room_at}
 use Rattle.catchup.specs.Naming.{Covers}
 use Rattle.catchup.specs.Nearest.{nearest_among}
 use Rattle.catchup.specs.Arrival.{nearest_row, stop_in, risen, is_found, occurs, RoomsBelow, queued_for, place_found, deepest_to}
@@ -35,16 +35,16 @@ same_found (some k) m =
     same_test (eqb m k) (eqb k m) (λ e. eq-eqb k m (sym (eqb-true m k e))) (λ e. eq-eqb m k (sym (eqb-true k m e)))
 
 -- a word that says a room is that room
-says_room : (w m : ℕ) → is_found (room_in w) m ≡ true → w ≡ m
+says_room : (w m : ℕ) → is_found (room_at w) m ≡ true → w ≡ m
 says_room w m e =
     by_lt w 32
-    (λ l. sym (eqb-true m w (ap (λ (o : Option ℕ). is_found o m) (sym (room_in_lem w l)) ∙ e)))
-    (λ l. clash false (ap (λ (o : Option ℕ). is_found o m) (sym (no_room_in w l)) ∙ e) refl)
+    (λ l. sym (eqb-true m w (ap (λ (o : Option ℕ). is_found o m) (sym (room_at_lem w l)) ∙ e)))
+    (λ l. clash false (ap (λ (o : Option ℕ). is_found o m) (sym (no_room_at w l)) ∙ e) refl)
 
 -- A MESSAGE IS FOUND FOR ITS OWN INITIATOR ALONE
 
 module _ (F : Floor) (t c : ℕ) (row nearest : List ℕ) (is_nearest : nearest ≡ nearest_row F t c row 32) where
-  found_would : (s : ℕ) → s < 16 → (m : ℕ) → is_found (room_in (get_or nearest s 0)) m ≡ true → Would F t c s (get_or row s 0) m
+  found_would : (s : ℕ) → s < 16 → (m : ℕ) → is_found (room_at (get_or nearest s 0)) m ≡ true → Would F t c s (get_or row s 0) m
   found_would s h m e =
       found (nearest_among F t c s (get_or row s 0) 32) (nearest_is F t c s (get_or row s 0) 32)
       (ap (λ (o : Option ℕ). is_found o m) (sym (entry_says F t c row nearest is_nearest s h)) ∙ e)
@@ -54,16 +54,16 @@ module _ (F : Floor) (t c : ℕ) (row nearest : List ℕ) (is_nearest : nearest 
       found (some k) n f = rw (eqb-true m k f) (would F t c s (get_or row s 0) k n.1.0)
 
   -- so the words of the others do not say its room
-  pub occurs_once : (n : ℕ) → n ≤ 16 → (m : ℕ) → occurs nearest n m ≡ (ltb (F.initiator m) n && is_found (room_in (get_or nearest (F.initiator m) 0)) m)
+  pub occurs_once : (n : ℕ) → n ≤ 16 → (m : ℕ) → occurs nearest n m ≡ (ltb (F.initiator m) n && is_found (room_at (get_or nearest (F.initiator m) 0)) m)
   unfolding occurs
   occurs_once zero h m = rw (le-ltb (F.initiator m) 0 (omega arith))
   occurs_once (suc n) h m =
       by_eq (F.initiator m) n
       (λ z. rw (occurs_once n (omega arith) m, z, le-ltb n n (omega arith), lt-ltb n (suc n) (omega arith)))
-      (λ z. let no : is_found (room_in (get_or nearest n 0)) m ≡ false =
-      by_test (is_found (room_in (get_or nearest n 0)) m) (λ e. absurd (z (found_would n (omega arith) m e).is_initiator)) (λ e. e) in
-      ap₂ ◌||◌ (occurs_once n (omega arith) m) no ∙ or_none (ltb (F.initiator m) n && is_found (room_in (get_or nearest (F.initiator m) 0)) m)
-      ∙ ap (λ (b : Bool). b && is_found (room_in (get_or nearest (F.initiator m) 0)) m) (one_more (F.initiator m) n z))
+      (λ z. let no : is_found (room_at (get_or nearest n 0)) m ≡ false =
+      by_test (is_found (room_at (get_or nearest n 0)) m) (λ e. absurd (z (found_would n (omega arith) m e).is_initiator)) (λ e. e) in
+      ap₂ ◌||◌ (occurs_once n (omega arith) m) no ∙ or_none (ltb (F.initiator m) n && is_found (room_at (get_or nearest (F.initiator m) 0)) m)
+      ∙ ap (λ (b : Bool). b && is_found (room_at (get_or nearest (F.initiator m) 0)) m) (one_more (F.initiator m) n z))
     where
       one_more : (i n : ℕ) → (i ≡ n → ⊥) → ltb i n ≡ ltb i (suc n)
       one_more i n d =
@@ -74,8 +74,8 @@ module _ (F : Floor) (t c : ℕ) (row nearest : List ℕ) (is_nearest : nearest 
   found_named m e =
       let i = F.initiator m in
       let said = sym (occurs_once 16 (omega arith) m) ∙ e in
-      let low = ltb-true i 16 (and_left (ltb i 16) (is_found (room_in (get_or nearest i 0)) m) said) in
-      (found_would i low m (and_right (ltb i 16) (is_found (room_in (get_or nearest i 0)) m) said)).in_copy
+      let low = ltb-true i 16 (and_left (ltb i 16) (is_found (room_at (get_or nearest i 0)) m) said) in
+      (found_would i low m (and_right (ltb i 16) (is_found (room_at (get_or nearest i 0)) m) said)).in_copy
 
   -- so it is in every set that has all the rooms whose copies name the cart
   pub found_below : (b : ℕ) (S : Stations) (set : ℕ) → F.copy ≡ S.copy → Covers b S t c set → RoomsBelow b nearest
@@ -99,18 +99,18 @@ module _ (N : Limits) (F : Floor) (stations messages : List ℕ) (agree : Agree 
       (λ s h. ap₂ ◌-◌ (all_raised s h) (is_row s h))
 
   -- what is found for an initiator is what the protocol's stop finds
-  found_there : (s : ℕ) → s < 16 → room_in (get_or nearest s 0) ≡ (catch_up_stop N F t c s).found
+  found_there : (s : ℕ) → s < 16 → room_at (get_or nearest s 0) ≡ (catch_up_stop N F t c s).found
   found_there s l =
-      sym (stop_found (tables_floor stations messages) t s (get_or row s 0) (room_in (get_or nearest s 0)))
+      sym (stop_found (tables_floor stations messages) t s (get_or row s 0) (room_at (get_or nearest s 0)))
       ∙ ap (λ (r : Stop). r.found) (row_stops_there N F stations messages agree t c beyond s row nearest is_nearest l (is_row s l))
 
   -- the cart is queued for what the protocol's stops find, of the first n initiators
   queued_to_lem : (n : ℕ) → n ≤ 16 → (m : ℕ) → occurs nearest n m ≡ (ltb (F.initiator m) n && found_is (catch_up_stop N F t c (F.initiator m)).found m)
   queued_to_lem n h m =
       occurs_once (tables_floor stations messages) t c row nearest is_nearest n h m
-      ∙ ap (λ (f : ℕ → ℕ). ltb (f m) n && is_found (room_in (get_or nearest (f m) 0)) m) (sym agree.initiator)
+      ∙ ap (λ (f : ℕ → ℕ). ltb (f m) n && is_found (room_at (get_or nearest (f m) 0)) m) (sym agree.initiator)
       ∙ by_lt (F.initiator m) n
-      (λ l. ap (λ (b : Bool). ltb (F.initiator m) n && b) (same_found (room_in (get_or nearest (F.initiator m) 0)) m ∙ ap (λ (o : Option ℕ). found_is o m) (found_there (F.initiator m) (omega arith))))
+      (λ l. ap (λ (b : Bool). ltb (F.initiator m) n && b) (same_found (room_at (get_or nearest (F.initiator m) 0)) m ∙ ap (λ (o : Option ℕ). found_is o m) (found_there (F.initiator m) (omega arith))))
       (λ l. rw (le-ltb (F.initiator m) n l))
 
   pub all_queued : (m : ℕ) → occurs nearest 16 m ≡ (ltb (F.initiator m) 16 && found_is (catch_up_stop N F t c (F.initiator m)).found m)
@@ -146,7 +146,7 @@ module _ (N : Limits) (F : Floor) (stations messages : List ℕ) (agree : Agree 
     deepest_to_lem zero h = refl
     deepest_to_lem (suc n) h =
         ap₂ max (deepest_to_lem n (omega arith))
-        (by_found (room_in (get_or nearest n 0)) (catch_up_stop N F t c n).found (found_there n (omega arith)) ∙ sym (given_at_once N n F t c))
+        (by_found (room_at (get_or nearest n 0)) (catch_up_stop N F t c n).found (found_there n (omega arith)) ∙ sym (given_at_once N n F t c))
       where
         by_found : (o p : Option ℕ) → o ≡ p
             → place_found (queued_for (stations_in stations) t c (occurs nearest (suc n))) (rooms_in messages) t N.held o ≡ by_option p 0 (λ m. place_in N (queued_to (suc n)) m t)

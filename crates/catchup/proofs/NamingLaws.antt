@@ -2,14 +2,18 @@
 use mathlib.Core.Path.{◌≡◌, refl, sym, ap, ◌∙◌}
 use mathlib.Core.Bool.{Bool, true, false, cond}
 use mathlib.Core.List.{List}
-use Prim.Native.Nat.{ℕ, ◌^◌, ◌<◌, ◌≤◌}
+use Prim.Native.Nat.{ℕ, ◌^◌, ◌<◌}
 use native.Mathlib.Omega.{arith}
+use Rattle.std.specs.Prelude as code
+use Rattle.std.specs.Prelude.{Some, None}
+use Rattle.std.proofs.lemmas.Option.{none-some}
 use Rattle.protocol.specs.CartSets.{has}
 use Rattle.protocol.proofs.Tests.{by_test, by_lt}
 use Rattle.protocol.proofs.SetLaws.{has_zero, has_set_of, set_of_lt, member_below}
 use Rattle.stations.specs.View.{Stations, stations_in, rooms, naming_in}
 use Rattle.stations.proofs.TableLaws.{copy_beyond}
 use Rattle.messages.specs.View.{Rooms}
+use Rattle.ids.specs.declared.Station.{Station}
 use Rattle.catchup.specs.Naming.{Covers, named_by}
 
 -- a word has room for them
@@ -31,20 +35,26 @@ naming_covers l t c b low n e = rw e (record {
 
 -- WHOSE NEXT NUMBER A MESSAGE IS ABOUT
 module _ (S : Stations) (R : Rooms) (t c m : ℕ) where
-  pub named_by_lem : (k i : ℕ) (b : Bool) → k ≡ S.copy m t → b ≡ has k c → b ≡ true → i ≡ R.initiator m → i ≡ named_by S R t c m
-  named_by_lem k i b ek eb y e = rw (ap (λ (x : ℕ). has x c) (sym ek) ∙ sym eb ∙ y) e
+  pub named_by_lem : (k : ℕ) (i : Station) (b : Bool) → k ≡ S.copy m t → b ≡ has k c → b ≡ true → i.0 ≡ R.initiator m → Some i ≡ named_by S R t c m
+  named_by_lem k i b ek eb y e = rw (ap (λ (x : ℕ). has x c) (sym ek) ∙ sym eb ∙ y) (ap (λ (x : ℕ). Some (record { 0 = x })) e)
 
-  pub by_nobody : (k : ℕ) (b : Bool) → k ≡ S.copy m t → b ≡ has k c → b ≡ false → 16 ≡ named_by S R t c m
+  pub by_nobody : (k : ℕ) (b : Bool) → k ≡ S.copy m t → b ≡ has k c → b ≡ false → None ≡ named_by S R t c m
   by_nobody k b ek eb n = rw (ap (λ (x : ℕ). has x c) (sym ek) ∙ sym eb ∙ n) refl
 
-  -- one of sixteen is the initiator, and the copy names the cart
-  pub by_initiator : (i : ℕ) → i ≡ named_by S R t c m → i < 16 → (i ≡ R.initiator m) × (has (S.copy m t) c ≡ true)
-  by_initiator i e l =
+  -- whoever is named is the initiator, and the copy names the cart
+  pub by_initiator : (i : Station) {o : code.Option Station} → o ≡ named_by S R t c m → o ≡ Some i → (i.0 ≡ R.initiator m) × (has (S.copy m t) c ≡ true)
+  by_initiator i e found =
       by_test (has (S.copy m t) c)
-      (λ y. (e ∙ ap (λ (b : Bool). cond b (R.initiator m) 16) y, y))
-      (λ n. absurd (let z : i ≡ 16 = (e ∙ ap (λ (b : Bool). cond b (R.initiator m) 16) n) in omega arith))
+      (λ y. (ap (λ (x : code.Option Station). initiator_in x) (sym found ∙ e ∙ ap (λ (b : Bool). cond b (Some (record { 0 = R.initiator m })) None) y), y))
+      (λ n. absurd (none-some i (sym (sym found ∙ e ∙ ap (λ (b : Bool). cond b (Some (record { 0 = R.initiator m })) None) n))))
+    where
+      initiator_in : code.Option Station → ℕ
+      initiator_in None = 0
+      initiator_in (Some s) = s.0
 
-  -- where it is none of them, the copy does not name the cart, or the message is nobody's
-  pub by_none {ℓ} : {P : Type ℓ} (i : ℕ) → i ≡ named_by S R t c m → 16 ≤ i → (has (S.copy m t) c ≡ false → P) → (i ≡ R.initiator m → P) → P
-  by_none i e l absent beyond =
-      by_test (has (S.copy m t) c) (λ y. beyond (e ∙ ap (λ (b : Bool). cond b (R.initiator m) 16) y)) (λ n. absent n)
+  -- where nobody is, the copy does not name the cart
+  pub by_none : {o : code.Option Station} → o ≡ named_by S R t c m → o ≡ None → has (S.copy m t) c ≡ false
+  by_none e nobody =
+      by_test (has (S.copy m t) c)
+      (λ y. absurd (none-some (record { 0 = R.initiator m }) (sym nobody ∙ e ∙ ap (λ (b : Bool). cond b (Some (record { 0 = R.initiator m })) None) y)))
+      (λ n. n)

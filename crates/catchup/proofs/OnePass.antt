@@ -13,7 +13,7 @@ use Rattle.protocol.specs.CartSets.{has}
 use Rattle.protocol.specs.Floor.{Floor}
 use Rattle.protocol.proofs.Tests.{by_test, by_lt, by_eq, clash, and_left, and_right, and_intro}
 use Rattle.protocol.proofs.SetLaws.{has_zero}
-use Rattle.queue.specs.Rooms.{room_code}
+use Rattle.queue.specs.Rooms.{room_word}
 use Rattle.catchup.specs.Nearest.{would_stop, nearer_with, nearest_among, stop_by}
 use Rattle.catchup.specs.Arrival.{nearest_row, stop_in}
 use Rattle.catchup.proofs.ClosedForm.{IsNearest, nearest_is, would}
@@ -65,7 +65,7 @@ module _ (F : Floor) (t c : ℕ) (row : List ℕ) where
   stop_of s o = (stop_by F t s (get_or row s 0) o).upto
 
   abbrev code_of : ℕ → Option ℕ → ℕ
-  code_of s o = room_code o
+  code_of s o = room_word o
 
   -- both rows are known, by the messages in the first n rooms
   pub record Known (n : ℕ) (upto nearest : List ℕ) : Type 0 where
@@ -127,7 +127,7 @@ module _ (F : Floor) (t c : ℕ) (row : List ℕ) where
         pub known_sooner : (n : ℕ) → b ≡ true → n ≡ F.number m → Known (m + 1) (set upto s n) (set nearest s m)
         known_sooner n y e = record {
           stops = row_again F t c row stop_of m s n upto K.stops from low (e ∙ ap (stop_of s) (sym is));
-          rooms = row_again F t c row code_of m s m nearest K.rooms from low (ap room_code (sym is));
+          rooms = row_again F t c row code_of m s m nearest K.rooms from low (ap room_word (sym is));
         }
           where
             passed : (between && has (F.waiting m) t) ≡ true

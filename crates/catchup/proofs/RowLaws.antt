@@ -2,7 +2,7 @@
 use mathlib.Core.Path.{◌≡◌, refl, sym, ap, ◌∙◌, subst}
 use mathlib.Core.List.{List}
 use mathlib.Core.Option.{Option, none, some}
-use Prim.Native.Nat.{ℕ, zero, suc, ◌+◌, ◌-◌, ◌*◌, ◌<◌, ◌≤◌}
+use Prim.Native.Nat.{ℕ, zero, suc, ◌+◌, ◌-◌, ◌*◌, ◌<◌, ◌≤◌, max}
 use native.Mathlib.Numerals.{add-one}
 use native.Mathlib.Omega.{arith}
 use lib.ListN.{length, get_or, set, length-set}
@@ -11,13 +11,13 @@ use Rattle.protocol.specs.Folds.{sum, list_of}
 use Rattle.protocol.specs.Floor.{Floor}
 use Rattle.protocol.proofs.Tests.{by_eq, length_list_of, list_of_at}
 use Rattle.protocol.proofs.Counting.{sum_ext}
-use Rattle.queue.specs.Rooms.{room_code, room_in}
-use Rattle.queue.proofs.Codes.{room_in_lem, no_room_in}
+use Rattle.queue.specs.Rooms.{room_word, room_at}
+use Rattle.queue.proofs.Codes.{word_says}
 use Rattle.catchup.specs.Nearest.{nearest_among, stop_by}
 use Rattle.catchup.specs.Arrival.{nearest_row, stop_in, Rises, rise, risen}
 use Rattle.catchup.proofs.ClosedForm.{IsNearest, nearest_is, would}
 use Rattle.catchup.proofs.StopLaws.{below_expected, other_initiator}
-use Rattle.catchup.proofs.RoomLaws.{nearest_same, nearest_decoded}
+use Rattle.catchup.proofs.RoomLaws.{nearest_same, nearest_below}
 
 -- A ROW BY ITS ENTRIES
 
@@ -68,14 +68,9 @@ module _ (F : Floor) (t c : ℕ) (row : List ℕ) (g : ℕ → Option ℕ → �
       long : length l ≡ 16
       long = row_length m l e
 
--- WHERE A NEXT NUMBER STOPS
-
-module _ (F : Floor) (t s x h : ℕ) where
-  pub at_message : (n : ℕ) → h < 32 → n ≡ F.number h → n ≡ (stop_by F t s x (room_in h)).upto
-  at_message n l e = rw (room_in_lem h l) e
-
-  pub at_level : (y n : ℕ) → 32 ≤ h → y ≡ F.expected t s → n ≡ x + (y - x) → n ≡ (stop_by F t s x (room_in h)).upto
-  at_level y n l e q = rw (no_room_in h l) (omega arith)
+-- THE LATER OF TWO NUMBERS
+pub max_is : (a b : ℕ) → max a b ≡ a + (b - a)
+max_is a b = omega arith
 
 -- HOW FAR THE NEXT NUMBERS RISE
 
@@ -101,8 +96,8 @@ module _ (row upto : List ℕ) where
 
 module _ (F : Floor) (t c : ℕ) (row nearest : List ℕ) (is_nearest : nearest ≡ nearest_row F t c row 32) where
   -- what an entry says
-  pub entry_says : (s : ℕ) → s < 16 → room_in (get_or nearest s 0) ≡ nearest_among F t c s (get_or row s 0) 32
-  entry_says s h = ap room_in (row_entry F t c row (λ s o. room_code o) 32 nearest is_nearest s h) ∙ nearest_decoded F t c s (get_or row s 0) 32 (omega arith)
+  pub entry_says : (s : ℕ) → s < 16 → room_at (get_or nearest s 0) ≡ nearest_among F t c s (get_or row s 0) 32
+  entry_says s h = ap room_at (row_entry F t c row (λ s o. room_word o) 32 nearest is_nearest s h) ∙ word_says _ 32 (omega arith) (nearest_below F t c s (get_or row s 0) 32)
 
   module _ (upto : List ℕ) (is_stop : upto ≡ list_of 16 (stop_in F t row nearest)) where
     stop_entry : (s : ℕ) → s < 16 → get_or upto s 0 ≡ stop_in F t row nearest s

@@ -16,7 +16,10 @@ use Rattle.catchup.specs.Naming.{named_by}
 use Rattle.catchup.specs.Nearest.{would_stop}
 use Rattle.catchup.specs.Arrival.{stops_before}
 use Rattle.catchup.proofs.ClosedForm.{would, would_intro}
-use Rattle.catchup.proofs.NamingLaws.{by_none}
+use Rattle.catchup.proofs.NamingLaws.{by_none, by_initiator}
+use Rattle.std.specs.Prelude as code
+use Rattle.std.specs.Prelude.{Some, None}
+use Rattle.ids.specs.declared.Station.{Station}
 
 module _ (F : Floor) (t c s x m : ℕ) where
   refused : (would_stop F t c s x m ≡ true → ⊥) → false ≡ would_stop F t c s x m
@@ -86,9 +89,12 @@ module _ (R : Rooms) (t m x u n : ℕ) (is_number : n ≡ R.number m) where
   pub by_waiting : (w : ℕ) (b : Bool) → n < u → x ≤ n → w ≡ R.waiting m → b ≡ has w t → b ≡ stops_before R t m x u
   by_waiting w b low far ew eb = rw (lt-ltb (R.number m) u (omega arith), le-leb x (R.number m) (omega arith)) (eb ∙ ap (λ (k : ℕ). has k t) ew)
 
--- a message that is about none of sixteen initiators' numbers stops the cart nowhere
-pub stops_nowhere : (S M : List ℕ) (t c m i : ℕ) → i ≡ named_by (stations_in S) (rooms_in M) t c m → 16 ≤ i → (s x : ℕ) → s < 16 → would_stop (tables_floor S M) t c s x m ≡ false
-stops_nowhere S M t c m i e h s x l =
-    by_none (stations_in S) (rooms_in M) t c m i e h
-    (λ n. sym (not_in_copy (tables_floor S M) t c s x m ((stations_in S).copy m t) (has ((stations_in S).copy m t) c) refl refl n))
-    (λ q. other_initiator (tables_floor S M) t c s x m (λ z. omega (arith, h, l, q, z)))
+-- a message that does not name the cart stops it nowhere, nor does one that is of none of sixteen initiators
+module _ (S M : List ℕ) (t c m : ℕ) {o : code.Option Station} (e : o ≡ named_by (stations_in S) (rooms_in M) t c m) where
+  pub stops_nowhere : o ≡ None → (s x : ℕ) → s < 16 → would_stop (tables_floor S M) t c s x m ≡ false
+  stops_nowhere nobody s x l =
+      sym (not_in_copy (tables_floor S M) t c s x m ((stations_in S).copy m t) (has ((stations_in S).copy m t) c) refl refl (by_none (stations_in S) (rooms_in M) t c m e nobody))
+
+  pub stops_none_of_us : (i : Station) → o ≡ Some i → 16 ≤ i.0 → (s x : ℕ) → s < 16 → would_stop (tables_floor S M) t c s x m ≡ false
+  stops_none_of_us i found h s x l =
+      other_initiator (tables_floor S M) t c s x m (λ z. let q = (by_initiator (stations_in S) (rooms_in M) t c m i e found).0 in omega (arith, h, l, q, z))

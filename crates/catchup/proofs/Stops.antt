@@ -4,13 +4,13 @@ use mathlib.Core.List.{List}
 use mathlib.Core.Option.{Option, none, some}
 use mathlib.Core.Bool.{false}
 use Prim.Native.Nat.{ℕ, zero, suc, ◌<◌, ◌≤◌}
+use Rattle.std.specs.Prelude as code
 use Rattle.protocol.specs.CartSets.{has}
-use native.Mathlib.Omega.{arith}
 use lib.ListN.{get_or}
 use Rattle.protocol.specs.Floor.{Limits, Floor, on_stations, on_messages, set_copy, unstarted}
 use Rattle.protocol.specs.Handoff.{catch_up_stop}
 use Rattle.view.specs.View.{Lent, floor_in}
-use Rattle.queue.specs.Rooms.{tables_floor, room_code, room_in}
+use Rattle.queue.specs.Rooms.{tables_floor, room_code, room_in, room_at}
 use Rattle.catchup.specs.Nearest.{would_stop, nearer_with, nearest_among, stop_by}
 use Rattle.catchup.specs.Arrival.{nearest_row}
 use Rattle.catchup.proofs.ClosedForm.{closed_form}
@@ -84,17 +84,17 @@ module _ (N : Limits) (F : Floor) (stations messages : List ℕ) (agree : Agree 
       ∙ agree_stop t c s x F (tables_floor stations messages) agree o)
 
   -- THE STOP OF ONE INITIATOR, by what `nearest_of` answers
-  pub stops_there : (h : ℕ) → h ≡ room_code (nearest_among (tables_floor stations messages) t c s (F.next c s) 32)
+  pub stops_there : (h : code.Option ℕ) → h ≡ room_code (nearest_among (tables_floor stations messages) t c s (F.next c s) 32)
       → stop_by (tables_floor stations messages) t s (F.next c s) (room_in h) ≡ catch_up_stop N F t c s
   stops_there h e =
       found_stops (room_in h) (F.next c s) refl
-      (ap room_in e ∙ nearest_decoded (tables_floor stations messages) t c s (F.next c s) 32 (omega arith))
+      (ap room_in e ∙ nearest_decoded (tables_floor stations messages) t c s (F.next c s) 32)
 
   -- THE STOP OF EACH INITIATOR, by what `stops_of` answers
   pub row_stops_there : (row nearest : List ℕ) → nearest ≡ nearest_row (tables_floor stations messages) t c row 32 → s < 16 → get_or row s 0 ≡ F.next c s
-      → stop_by (tables_floor stations messages) t s (get_or row s 0) (room_in (get_or nearest s 0)) ≡ catch_up_stop N F t c s
+      → stop_by (tables_floor stations messages) t s (get_or row s 0) (room_at (get_or nearest s 0)) ≡ catch_up_stop N F t c s
   row_stops_there row nearest e l f =
-      found_stops (room_in (get_or nearest s 0)) (get_or row s 0) f (entry_says (tables_floor stations messages) t c row nearest e s l)
+      found_stops (room_at (get_or nearest s 0)) (get_or row s 0) f (entry_says (tables_floor stations messages) t c row nearest e s l)
 
 -- the message that it stops at is the one that was found
 pub stop_found : (F : Floor) (t s x : ℕ) (o : Option ℕ) → (stop_by F t s x o).found ≡ o

@@ -6,7 +6,7 @@ use Rattle.protocol.specs.Folds.{sum, list_of}
 use Rattle.protocol.specs.Floor.{Floor}
 use Rattle.stations.specs.View.{Stations}
 use Rattle.messages.specs.View.{Rooms}
-use Rattle.queue.specs.Rooms.{room_code, room_in}
+use Rattle.queue.specs.Rooms.{room_word, room_at}
 use Rattle.queue.specs.Places.{place_among}
 use Rattle.catchup.specs.Nearest.{nearest_among, stop_by}
 
@@ -20,11 +20,11 @@ level_in S t row s = get_or row s 0 + (S.expected t s - get_or row s 0)
 
 -- the words of the nearest messages among the first n rooms, for a cart with that row of next numbers
 abbrev pub nearest_row : Floor → ℕ → ℕ → List ℕ → ℕ → List ℕ
-nearest_row F t c row n = list_of 16 (λ s. room_code (nearest_among F t c s (get_or row s 0) n))
+nearest_row F t c row n = list_of 16 (λ s. room_word (nearest_among F t c s (get_or row s 0) n))
 
 -- where the next number of initiator s stops, by the words of the nearest messages
 abbrev pub stop_in : Floor → ℕ → List ℕ → List ℕ → ℕ → ℕ
-stop_in F t row nearest s = (stop_by F t s (get_or row s 0) (room_in (get_or nearest s 0))).upto
+stop_in F t row nearest s = (stop_by F t s (get_or row s 0) (room_at (get_or nearest s 0))).upto
 
 -- no next number falls, and none rises by 2^32 or more: sixteen of them can be summed in a word
 abbrev pub Rises : List ℕ → List ℕ → Type 0
@@ -46,7 +46,7 @@ is_found (some k) m = eqb m k
 -- does one of the first n words say room m
 unfoldable pub occurs : List ℕ → ℕ → ℕ → Bool
 occurs nearest zero m = false
-occurs nearest (suc n) m = occurs nearest n m || is_found (room_in (get_or nearest n 0)) m
+occurs nearest (suc n) m = occurs nearest n m || is_found (room_at (get_or nearest n 0)) m
 
 -- the words where no message is the nearest of any initiator
 abbrev pub none_near : List ℕ
@@ -83,4 +83,4 @@ place_found S R t n (some m) = place_among S R t m n
 unfoldable pub deepest_to : Stations → Rooms → ℕ → ℕ → ℕ → List ℕ → ℕ → ℕ
 deepest_to S R t c n nearest zero = 0
 deepest_to S R t c n nearest (suc k) =
-    max (deepest_to S R t c n nearest k) (place_found (queued_for S t c (occurs nearest (suc k))) R t n (room_in (get_or nearest k 0)))
+    max (deepest_to S R t c n nearest k) (place_found (queued_for S t c (occurs nearest (suc k))) R t n (room_at (get_or nearest k 0)))

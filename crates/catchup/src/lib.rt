@@ -3,7 +3,7 @@
 // the held messages that would stop the cart, or the expected number where none would.
 #![tactic(auto)]
 
-ghost use Rattle.std.specs.Prelude.{◌≡◌, true, ℕ, ◌+◌, ◌-◌, ◌<◌, ◌≤◌};
+ghost use Rattle.std.specs.Prelude.{◌≡◌, Some, true, ℕ, ◌+◌, ◌-◌, ◌<◌, ◌≤◌};
 ghost use Rattle.std.proofs.Math.Option.{some};
 ghost use Rattle.protocol.specs.CartSets.{has};
 ghost use Rattle.protocol.specs.Folds.{list_of};
@@ -16,6 +16,9 @@ ghost use Rattle.catchup.specs.Nearest.{would_stop, nearer_with, nearest_among, 
 ghost use Rattle.catchup.specs.Arrival.{stops_before, level_in, nearest_row, stop_in, Rises, rise, is_found, occurs, RoomsBelow, Marks, queued_for, place_found, deepest_to};
 
 use ids::{CartNumber, Station};
+
+// The word for no room in a row of nearest messages: sixteen bare words are handed on by value at every arrival, where sixteen options would be twice as many.
+const NONE: usize = 32;
 
 // Would the message in room m stop the cart at the station, on its way up from the next number among those of the initiator?
 fn would_stop(
@@ -60,19 +63,19 @@ fn nearer(
     initiator: Station,
     next: u64,
     m: usize,
-    nearest: usize,
-) -> usize
-    requires { HasStation stations.now station.0 × HasRooms messages.now × (station.0 < 16) × (cart.0 < 64) × (initiator.0 < initiators) × (m < room_count messages.now) × (nearest ≤ rooms) × ((nearest ≡ 32 → ⊥) → nearest < room_count messages.now) }
+    nearest: Option<usize>,
+) -> Option<usize>
+    requires { HasStation stations.now station.0 × HasRooms messages.now × (station.0 < 16) × (cart.0 < 64) × (initiator.0 < initiators) × (m < room_count messages.now) × ((k : ℕ) → nearest ≡ Some k → k < room_count messages.now) }
     ensures { result ≡ room_code (nearer_with (tables_floor stations.now messages.now) station.0 cart.0 initiator.0 next m (room_in nearest)) }
 {
     if !would_stop(stations, messages, station, cart, initiator, next, m) {
         return nearest;
     }
-    if nearest == queue::NONE {
-        return m;
-    }
-    if messages::number_of(messages, m).0 < messages::number_of(messages, nearest).0 {
-        m
+    let Some(k) = nearest else {
+        return Some(m);
+    };
+    if messages::number_of(messages, m).0 < messages::number_of(messages, k).0 {
+        Some(m)
     } else {
         nearest
     }
@@ -86,45 +89,35 @@ pub fn nearest_of(
     cart: CartNumber,
     initiator: Station,
     next: u64,
-) -> usize
+) -> Option<usize>
     requires has_station { HasStation stations.now station.0 × HasRooms messages.now × (station.0 < 16) × (cart.0 < 64) × (initiator.0 < initiators) }
     requires by_index { (m : ℕ) → has (naming_in (stations_in stations.now) station.0 cart.0) m ≡ true → m < room_count messages.now }
     ensures { result ≡ room_code (nearest_among (tables_floor stations.now messages.now) station.0 cart.0 initiator.0 next 32) }
 {
-    let mut nearest = queue::NONE;
-    let mut left = stations::rooms_naming(stations, station, cart);
-    while 0 < left {
-        let m = sets::first(left) as usize;
-        left = sets::without_first(left);
+    let mut nearest = None;
+    for m in sets::members_of(stations::rooms_naming(stations, station, cart)) {
         nearest = nearer(
-            stations, messages, station, cart, initiator, next, m, nearest,
+            stations, messages, station, cart, initiator, next, m as usize, nearest,
         );
     }
     nearest
 }
 
-// Whose next number the message in room m is about: its initiator's where its copy names the cart, and else nobody's, which is 16.
+// Whose next number the message in room m is about: its initiator's where its copy names the cart, and else nobody's.
 pub fn initiator_for(
     stations: &[u64],
     messages: &[u64],
     station: Station,
     cart: CartNumber,
     m: usize,
-) -> u64
+) -> Option<Station>
     requires { HasStation stations.now station.0 × HasRooms messages.now × (cart.0 < 64) × (m < room_count messages.now) }
     ensures { result ≡ named_by (stations_in stations.now) (rooms_in messages.now) station.0 cart.0 m }
 {
     if sets::has(stations::copy_of(stations, m, station), cart.0) {
-        return messages::initiator_of(messages, m).0;
+        return Some(messages::initiator_of(messages, m));
     }
-    products::INITIATORS as u64
-}
-
-// The later of two numbers, or of two places.
-fn later(a: u64, b: u64) -> u64
-    ensures { result ≡ a + (b - a) }
-{
-    if a < b { b } else { a }
+    None
 }
 
 // Where each next number stops if no message stops the cart: at the expected number, or where it is if it is past that already.
@@ -133,13 +126,8 @@ pub fn levels(stations: &[u64], station: Station, row: [u64; 16]) -> [u64; 16]
     ensures { result ≡ list_of 16 (level_in (stations_in stations.now) station.0 row) }
 {
     let mut upto = row;
-    let mut s: usize = 0;
-    while s < products::INITIATORS {
-        upto[s] = later(
-            row[s],
-            stations::expected_of(stations, station, Station(s as u64)),
-        );
-        s += 1;
+    for s in 0..products::INITIATORS {
+        upto[s] = row[s].max(stations::expected_of(stations, station, Station(s as u64)));
     }
     upto
 }
@@ -185,18 +173,19 @@ pub fn stops_of(
     ensures marks { Marks result.nearest result.found }
 {
     let mut upto = levels(stations, station, row);
-    let mut nearest = [queue::NONE; 16];
+    let mut nearest = [NONE; 16];
     let mut found: u64 = 0;
-    let mut left = naming;
-    while 0 < left {
-        let m = sets::first(left) as usize;
-        left = sets::without_first(left);
-        let s = initiator_for(stations, messages, station, cart, m) as usize;
+    for m in sets::members_of(naming) {
+        let m = m as usize;
+        let Some(initiator) = initiator_for(stations, messages, station, cart, m) else {
+            continue;
+        };
+        let s = initiator.0 as usize;
         if s < products::INITIATORS {
             if stops_before(messages, station, m, row[s], upto[s]) {
                 upto[s] = messages::number_of(messages, m).0;
                 nearest[s] = m;
-                found = sets::with_member(found, s as u64);
+                found = sets::with_member(found, initiator.0);
             }
         }
     }
@@ -213,10 +202,8 @@ pub fn passed_over(row: [u64; 16], upto: [u64; 16]) -> u64
     ensures { result ≡ rise row upto 16 }
 {
     let mut passed: u64 = 0;
-    let mut s: usize = 0;
-    while s < products::INITIATORS {
+    for s in 0..products::INITIATORS {
         passed += upto[s] - row[s];
-        s += 1;
     }
     passed
 }
@@ -228,15 +215,15 @@ pub fn stop_of(
     station: Station,
     initiator: Station,
     next: u64,
-    nearest: usize,
+    nearest: Option<usize>,
 ) -> u64
-    requires { HasStation stations.now station.0 × HasRooms messages.now × (initiator.0 < initiators) × (nearest < 32 → nearest < room_count messages.now) }
+    requires { HasStation stations.now station.0 × HasRooms messages.now × (initiator.0 < initiators) × ((m : ℕ) → nearest ≡ Some m → m < room_count messages.now) }
     ensures { result ≡ (stop_by (tables_floor stations.now messages.now) station.0 initiator.0 next (room_in nearest)).upto }
 {
-    if nearest < queue::NONE {
-        return messages::number_of(messages, nearest).0;
+    match nearest {
+        Some(m) => messages::number_of(messages, m).0,
+        None => next.max(stations::expected_of(stations, station, initiator)),
     }
-    later(next, stations::expected_of(stations, station, initiator))
 }
 
 // The cart is queued for the message in room m. "Putting a cart in a queue entry now also answers the entry's place, .. as it stands right after the
@@ -263,16 +250,16 @@ pub fn enqueue(
     messages: &[u64],
     station: Station,
     cart: CartNumber,
-    nearest: usize,
+    nearest: Option<usize>,
 ) -> u64
-    requires { HasStation stations.old station.0 × HasRooms messages.now × (cart.0 < 64) × (nearest < 32 → nearest < room_count messages.now) }
+    requires { HasStation stations.old station.0 × HasRooms messages.now × (cart.0 < 64) × ((m : ℕ) → nearest ≡ Some m → m < room_count messages.now) }
     ensures leaves { Leaves stations.old stations.new (queued_for (stations_in stations.old) station.0 cart.0 (is_found (room_in nearest))) }
     ensures value { result ≡ place_found (stations_in stations.new) (rooms_in messages.now) station.0 (room_count messages.now) (room_in nearest) }
 {
-    if queue::NONE <= nearest {
-        return 0;
+    match nearest {
+        Some(m) => enqueue_for(stations, messages, station, cart, m),
+        None => 0,
     }
-    enqueue_for(stations, messages, station, cart, nearest)
 }
 
 // The cart is queued for each nearest message, the initiators in rising order; only those that have one are looked at. Answers "the largest place given
@@ -291,12 +278,9 @@ pub fn enqueue_all(
     ensures value { result ≡ deepest_to (stations_in stations.old) (rooms_in messages.now) station.0 cart.0 (room_count messages.now) nearest 16 }
 {
     let mut deepest: u64 = 0;
-    let mut left = found;
-    while 0 < left {
-        let s = sets::first(left) as usize;
-        left = sets::without_first(left);
-        let place = enqueue(stations, messages, station, cart, nearest[s]);
-        deepest = later(deepest, place);
+    for s in sets::members_of(found) {
+        let place = enqueue_for(stations, messages, station, cart, nearest[s as usize]);
+        deepest = deepest.max(place);
     }
     deepest
 }

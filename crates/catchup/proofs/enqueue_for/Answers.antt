@@ -1,6 +1,5 @@
 -- `catchup::enqueue_for` meets its contract.
 use native.Mathlib.Omega.{arith}
-use borrow.Author.Rules.{rules}
 use Rattle.stations.specs.View.{stations_in}
 use Rattle.catchup.proofs.QueueLaws.{one_queued}
 use Rattle.catchup.proofs.enqueue_for.Goals as goal

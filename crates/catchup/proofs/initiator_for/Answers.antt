@@ -1,6 +1,5 @@
 -- `catchup::initiator_for` meets its contract.
 use Rattle.catchup.proofs.NamingLaws.{named_by_lem, by_nobody}
-use borrow.Author.Rules.{rules}
 use Rattle.stations.specs.View.{stations_in}
 use Rattle.messages.specs.View.{rooms_in}
 use Rattle.catchup.proofs.initiator_for.Goals as goal

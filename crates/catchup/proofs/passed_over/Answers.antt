@@ -1,8 +1,4 @@
-use mathlib.Core.Path.{◌≡◌}
-use Prim.Native.Nat.{◌≤◌, ◌-◌}
 use native.Mathlib.Omega.{arith}
-use borrow.Author.Rules.{rules}
-use Rattle.catchup.specs.Arrival.{rise}
 use Rattle.catchup.proofs.RowLaws.{rise_none, rise_fits, rise_again, rise_all}
 use Rattle.catchup.proofs.passed_over.Goals as goal
 

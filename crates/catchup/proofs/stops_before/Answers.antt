@@ -1,5 +1,4 @@
 -- `catchup::stops_before` meets its contract.
-use borrow.Author.Rules.{rules}
 use Rattle.messages.specs.View.{rooms_in}
 use Rattle.catchup.proofs.StopLaws.{not_before, not_so_far, by_waiting}
 use Rattle.catchup.proofs.stops_before.Goals as goal

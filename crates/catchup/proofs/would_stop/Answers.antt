@@ -2,7 +2,6 @@
 use borrow.Author.Tests.{not-true, not-false}
 use Rattle.queue.specs.Rooms.{tables_floor}
 use Rattle.catchup.proofs.StopLaws.{not_held, not_from, not_waiting, not_handled, not_in_copy, by_number}
-use borrow.Author.Rules.{rules}
 use mathlib.Core.Bool.{not}
 use mathlib.Core.Path.{ap}
 use Rattle.catchup.proofs.would_stop.Goals as goal
