@@ -2,15 +2,13 @@
 use mathlib.Core.Path.{◌≡◌, refl, sym, ◌∙◌}
 use mathlib.Core.Bool.{Bool, true, false}
 use mathlib.Core.List.{List, []}
-use Prim.Native.Nat.{ℕ, ◌≤◌, ◌<◌}
+use Prim.Native.Nat.{ℕ}
 use native.Mathlib.Omega.{arith}
-use lib.Dec.{ltb}
-use borrow.Author.Tests.{eq-eqb, ne_eqb, lt-ltb, le-ltb, le-leb, lt-leb}
-use Rattle.protocol.specs.Floor.{Limits, Product, limits_of}
+use borrow.Author.Tests.{eq-eqb, ne_eqb}
+use Rattle.protocol.specs.Floor.{Product, limits_of}
 use Rattle.protocol.specs.Events.{Report, start, refused}
 use Rattle.protocol.specs.Refusals.{wrong_size, refusal, refusal_if}
 use Rattle.protocol.specs.Step.{accept}
-use Rattle.protocol.proofs.Tests.{by_lt}
 use Rattle.stations.specs.View.{HasHead, head_in}
 use Rattle.lines.specs.Form.{sized}
 use Rattle.view.specs.View.{Lent, lent, lengths_in, floor_in}
@@ -22,23 +20,6 @@ use Rattle.reports.specs.Effects.{nothing}
 use Rattle.event_answers.specs.Answers.{says}
 use Rattle.event_answers.specs.Met.{Met}
 use Rattle.event_answers.proofs.Meets.{meets_refused, meets_done, meets_counted}
-
--- 7: "stations not 1 to 16, or carts not 1 to 64", or what the (limits_of P) say
-module _ (M : Limits) (n k : ℕ) where
-  pub no_stations_lem : n ≡ 0 → true ≡ wrong_size M n k
-  no_stations_lem e = rw e refl
-
-  pub many_stations : (n ≡ 0 → ⊥) → M.stations < n → true ≡ wrong_size M n k
-  many_stations e l = rw (lt-ltb 0 n (omega arith), lt-leb n M.stations l) refl
-
-  pub no_carts_lem : (n ≡ 0 → ⊥) → n ≤ M.stations → k ≡ 0 → true ≡ wrong_size M n k
-  no_carts_lem e l z = rw (lt-ltb 0 n (omega arith), le-leb n M.stations l, z) refl
-
-  pub by_carts : (most : ℕ) → M.carts ≡ most → (n ≡ 0 → ⊥) → n ≤ M.stations → (k ≡ 0 → ⊥) → ltb most k ≡ wrong_size M n k
-  by_carts most is e l z =
-      by_lt most k
-      (λ h. rw (lt-ltb most k h, lt-ltb 0 n (omega arith), le-leb n M.stations l, lt-ltb 0 k (omega arith), lt-leb k M.carts (omega arith)) refl)
-      (λ h. rw (le-ltb most k h, lt-ltb 0 n (omega arith), le-leb n M.stations l, lt-ltb 0 k (omega arith), le-leb k M.carts (omega arith)) refl)
 
 -- the checks of a start, down the table
 module _ (P : Product) (S C M W T O : List ℕ) (n k : ℕ) (ok : Bool) (lengths_are : ok ≡ lengths_in (lent P S C M W T O)) where

@@ -10,23 +10,15 @@ ghost use Rattle.view.specs.View.{lent};
 ghost use Rattle.event_answers.specs.Answers.{answer_in};
 ghost use Rattle.event_answers.specs.Met.{Met};
 
-use event_answers::{Answer, Outcome};
+use event_answers::{Accepted, Answer, Outcome};
 use products::Bounds;
+use refusals::Refusal;
 
 // 7: stations not 1 to as many as there may be, or carts not.
 fn wrong_size(n: u64, k: u64, bounds: Bounds) -> bool
     ensures { (M : Limits) → M.stations ≡ bounds.stations → M.carts ≡ bounds.carts → result ≡ wrong_size M n k }
 {
-    if n == 0 {
-        return true;
-    }
-    if bounds.stations < n {
-        return true;
-    }
-    if k == 0 {
-        return true;
-    }
-    bounds.carts < k
+    n == 0 || bounds.stations < n || k == 0 || bounds.carts < k
 }
 
 // Start, of n stations and k carts: it looks at the lengths of the lent parts, at the mark and at the two numbers, "and it writes all the rest
@@ -46,14 +38,17 @@ pub fn start(
     ensures { (P : Product) → NumbersOf P bounds → Met (lent P stations.old carts.old messages.old lines.old texts.now store.now) (lent P stations.new carts.new messages.new lines.new texts.now store.now) (start n k) (answer_in result []) }
 {
     if !form_test::lengths_ok(stations, carts, messages, lines, texts, store, bounds) {
-        return Answer::Refused(5);
+        return Err(Refusal::NotReady);
     }
     if stations::mark_of(stations) == stations::STARTED {
-        return Answer::Refused(6);
+        return Err(Refusal::AlreadyStarted);
     }
     if wrong_size(n, k, bounds) {
-        return Answer::Refused(7);
+        return Err(Refusal::WrongSize);
     }
     wired_send::start_floor(stations, carts, messages, lines, n, k);
-    Answer::Accepted(Outcome::Started(n, k), reports::nothing())
+    Ok(Accepted {
+        outcome: Outcome::Started(n, k),
+        effect: reports::nothing(),
+    })
 }

@@ -4,7 +4,6 @@ use borrow.Author.Tests.{not-true, not-false}
 use Rattle.protocol.specs.Floor.{limits_of}
 use Rattle.products.proofs.Numbers.{product_of, its_numbers}
 use Rattle.event_start.proofs.Starts.{start_lengths, has_head, start_begun, start_size, start_fits, meets_start}
-use borrow.Author.Rules.{rules}
 use mathlib.Core.Bool.{not}
 use mathlib.Core.Path.{ap}
 use Rattle.event_start.proofs.start.Goals as goal
