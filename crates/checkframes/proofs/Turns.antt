@@ -1,6 +1,5 @@
 -- ONE TURN OF A CHECK: what a piece comes to.
 use mathlib.Core.Path.{◌≡◌, refl, sym, ap, ap₂, ◌∙◌, subst}
-use mathlib.Core.Bool.{Bool, true, false}
 use mathlib.Core.List.{List, ◌++◌}
 use Prim.Native.Nat.{ℕ, ◌+◌, ◌-◌, ◌≤◌, ◌<◌}
 use native.Mathlib.Omega.{arith}
@@ -12,33 +11,33 @@ use Rattle.frame_reader.specs.declared.Checked.{Checked}
 use Rattle.protocol.proofs.Tests.{by_lt, by_eq}
 use Rattle.frames.proofs.Kept.{kept_front}
 use Rattle.frame_reader.proofs.Pieces.{check_inside, short_left, stands, fed_more}
+use Rattle.frame_reader.specs.Reads.{refusal_code}
 use Rattle.checkframes.specs.declared.Progress.{Progress}
+use Rattle.checkframes.specs.declared.State.TheVariants.{Wants, Over, Refused}
 use Rattle.checkframes.specs.Progress.{state_after, Inside, Goes, Ended}
 
 -- WHAT IS TO BE DONE
 
-module _ (failed : Bool) (count refusal : ℕ) (reads : failed ≡ false) where
-  pub state_refused : 1 < refusal → 2 ≡ state_after failed count refusal
-  state_refused h = rw (reads, lt-ltb 1 refusal h) refl
+module _ (count refusal : ℕ) where
+  pub state_refused : 1 < refusal → Refused ≡ state_after count refusal
+  state_refused h = rw (lt-ltb 1 refusal h) refl
 
   module _ (h : refusal ≤ 1) where
-    pub state_ended : count ≡ 0 → 1 ≡ state_after failed count refusal
-    state_ended e = rw (reads, le-ltb 1 refusal h, eq-eqb count 0 e) refl
+    pub state_over : count ≡ 0 → Over ≡ state_after count refusal
+    state_over e = rw (le-ltb 1 refusal h, eq-eqb count 0 e) refl
 
-    pub state_wants : (count ≡ 0 → ⊥) → 0 ≡ state_after failed count refusal
-    state_wants n = rw (reads, le-ltb 1 refusal h, ne_eqb count 0 n) refl
+    pub state_wants : (count ≡ 0 → ⊥) → Wants ≡ state_after count refusal
+    state_wants n = rw (le-ltb 1 refusal h, ne_eqb count 0 n) refl
 
--- a check stops at a refused frame only where its number is above 1
-refused_only : (failed : Bool) (count refusal : ℕ) → state_after failed count refusal ≡ 2 → 1 < refusal
-refused_only true count refusal e = absurd (omega arith)
-refused_only false count refusal e =
-    by_lt 1 refusal (λ h. h)
-    (λ h. absurd (by_eq count 0 (λ z. let y : 1 ≡ 2 = state_ended false count refusal refl h z ∙ e in omega arith) (λ n. let y : 0 ≡ 2 = state_wants false count refusal refl h n ∙ e in omega arith)))
+  -- a check stops at a refused frame only where its number is above 1
+  refused_only : state_after count refusal ≡ Refused → 1 < refusal
+  refused_only e =
+      by_lt 1 refusal (λ h. h)
+      (λ h. by_eq count 0 (λ z. cc (state_over h z ∙ e)) (λ n. cc (state_wants h n ∙ e)))
 
--- and it wants more only where it is not
-wants_only : (failed : Bool) (count refusal : ℕ) → state_after failed count refusal ≡ 0 → refusal ≤ 1
-wants_only true count refusal e = absurd (omega arith)
-wants_only false count refusal e = by_lt 1 refusal (λ h. absurd (let y : 2 ≡ 0 = state_refused false count refusal refl h ∙ e in omega arith)) (λ h. h)
+  -- and it wants more only where it is not
+  wants_only : state_after count refusal ≡ Wants → refusal ≤ 1
+  wants_only e = by_lt 1 refusal (λ h. cc (state_refused h ∙ e)) (λ h. h)
 
 -- what stands at the front once the octets behind a piece's frames are kept
 front_is : (l x : List ℕ) (at have : ℕ) → at ≤ have → have ≤ length l → x ≡ paste l 0 (drop at l) (have - at) → take (have - at) x ≡ drop at (take have l)
@@ -73,26 +72,26 @@ module _ (l l₁ : List ℕ) (p : Progress) (count : ℕ) (inside : Inside l p) 
       let d = inside.few in
       (omega arith, omega arith)
 
-  module _ (l₂ : List ℕ) (r : Progress) (failed : Bool) (kept_is : r.kept ≡ have - piece.at) (moved : l₂ ≡ paste l₁ 0 (drop piece.at l₁) (have - piece.at))
-      (still : length l₂ ≡ length l₁) (state_is : r.state ≡ state_after failed count piece.refusal) (found_is_lem : check_in r.found ≡ after (check_in p.found) (check_in piece)) where
+  module _ (l₂ : List ℕ) (r : Progress) (kept_is : r.kept ≡ have - piece.at) (moved : l₂ ≡ paste l₁ 0 (drop piece.at l₁) (have - piece.at))
+      (still : length l₂ ≡ length l₁) (state_is : r.state ≡ state_after count (refusal_code piece.refusal)) (found_is_lem : check_in r.found ≡ after (check_in p.found) (check_in piece)) where
     pub inside_again : Inside l₂ r
     inside_again =
         let a = piece_inside.0 in
         let b = piece_inside.1 in
         let at_is : r.found.at ≡ p.found.at + piece.at = ap (λ (f : Found). f.octets) found_is_lem in
         let frames_is : r.found.frames ≡ p.found.frames + piece.frames = ap (λ (f : Found). f.frames) found_is_lem in
-        let refusal_is : r.found.refusal ≡ piece.refusal = ap (λ (f : Found). f.refusal) found_is_lem in
+        let refusal_is : refusal_code r.found.refusal ≡ refusal_code piece.refusal = ap (λ (f : Found). f.refusal) found_is_lem in
         record {
           room = still ∙ as_long ∙ inside.room;
           kept = omega arith;
           few = let d = inside.few in omega arith;
           wants = λ e.
-              let few = short_left (take have l₁) (let z = wants_only failed count piece.refusal (sym state_is ∙ e) in let y = ap (λ (f : Found). f.refusal) sure in omega arith) in
+              let few = short_left (take have l₁) (let z = wants_only count (refusal_code piece.refusal) (sym state_is ∙ e) in let y = ap (λ (f : Found). f.refusal) sure in omega arith) in
               let left = length-drop (checked (take have l₁)).octets (take have l₁) in
               let size = length-take-le have l₁ there in
               let at_piece : piece.at ≡ (checked (take have l₁)).octets = ap (λ (f : Found). f.octets) sure in
               omega arith;
-          refused = λ e. let z = refused_only failed count piece.refusal (sym state_is ∙ e) in omega arith;
+          refused = λ e. let z = refused_only count (refusal_code piece.refusal) (sym state_is ∙ e) in omega arith;
         }
 
     abbrev more : List ℕ

@@ -1,12 +1,15 @@
 -- HOW FAR A FILE WAS CHECKED. What a read brings is any octets: of those the claims say that they were checked behind all octets before them.
-use Rattle.std.specs.Prelude.{◌≡◌, Bool, cond, List, ◌++◌, ℕ, ◌≤◌, ◌<◌, eqb, ltb, length}
+use Rattle.std.specs.Prelude.{◌≡◌, cond, List, ◌++◌, ℕ, ◌≤◌, ◌<◌, eqb, ltb, length}
 use Rattle.frames.specs.Decoded.{longest_frame}
 use Rattle.frame_reader.specs.Checks.{Found, checked, check_in, Fed}
+use Rattle.frame_reader.specs.Reads.{refusal_code}
 use Rattle.checkframes.specs.declared.Progress.{Progress}
+use Rattle.checkframes.specs.declared.State.{State}
+use Rattle.checkframes.specs.declared.State.TheVariants.{Wants, Over, Refused}
 
--- what is to be done after a read: nothing once it failed (3), once a frame is refused for what it says (2) or once it brought nothing (1)
-abbrev pub state_after : Bool → ℕ → ℕ → ℕ
-state_after failed count refusal = cond failed 3 (cond (ltb 1 refusal) 2 (cond (eqb count 0) 1 0))
+-- what is to be done after a read that did not fail: nothing once a frame is refused for what it says or once it brought nothing
+abbrev pub state_after : ℕ → ℕ → State
+state_after count refusal = cond (ltb 1 refusal) Refused (cond (eqb count 0) Over Wants)
 
 -- between two turns: the octets that are kept are in the input, and where more are wanted they leave room for those; no more frames than octets were
 -- found; and a check that stopped at a refused frame stopped for what the frame says
@@ -14,8 +17,8 @@ pub record Inside (input : List ℕ) (p : Progress) : Type 0 where
   pub room : length input ≡ 65536
   pub kept : p.kept ≤ length input
   pub few : p.found.frames ≤ p.found.at
-  pub wants : p.state ≡ 0 → p.kept < longest_frame
-  pub refused : p.state ≡ 2 → 1 < p.found.refusal
+  pub wants : p.state ≡ Wants → p.kept < longest_frame
+  pub refused : p.state ≡ Refused → 1 < refusal_code p.found.refusal
 
 -- ONE TURN, from what was kept and found to what is kept and found then: whatever was read before, some octets more were read
 abbrev pub Goes : List ℕ → Found → List ℕ → Progress → Type 0
@@ -25,4 +28,4 @@ Goes kept f kept' r = (all : List ℕ) → Fed all kept f → (more : List ℕ) 
 pub record Ended (r : Progress) : Type 0 where
   pub all : List ℕ
   pub found : check_in r.found ≡ checked all
-  pub whatever : r.state ≡ 2 → (later : List ℕ) → check_in r.found ≡ checked (all ++ later)
+  pub whatever : r.state ≡ Refused → (later : List ℕ) → check_in r.found ≡ checked (all ++ later)

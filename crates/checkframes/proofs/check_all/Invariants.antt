@@ -1,4 +1,4 @@
--- `checkframes::check_all` meets its contract. The invariant: what was found and kept is that of all octets so far. The turns fall.
+-- `checkframes::check_all` meets its contract. The invariant: what was found and kept is that of all octets so far.
 use mathlib.Core.List.{List}
 use Prim.Native.Nat.{ℕ}
 use lib.ListN.{take}
@@ -6,8 +6,5 @@ use Rattle.frame_reader.specs.Checks.{check_in, Fed}
 use Rattle.checkframes.specs.Progress.{Inside}
 use Rattle.checkframes.proofs.check_all.Given as goal
 
-abbrev pub invariant-loop-turns : goal.invariant-loop-turns
-invariant-loop-turns g l = Inside l.input l.p × ((all : List ℕ) × Fed all (take l.p.kept l.input) (check_in l.p.found))
-
-abbrev pub decreases-loop-turns : goal.decreases-loop-turns
-decreases-loop-turns g l = l.turns
+abbrev pub invariant-loop : goal.invariant-loop
+invariant-loop g l = Inside l.input l.p × ((all : List ℕ) × Fed all (take l.p.kept l.input) (check_in l.p.found))

@@ -1,35 +1,32 @@
 -- `checkframes::turn` meets its contract.
-use mathlib.Core.Path.{sym, ◌∙◌}
-use lib.Seq.{length-take-le}
+use mathlib.Core.Path.{◌∙◌}
 use Rattle.checkframes.proofs.Turns.{piece_inside, sums_fit, inside_again, piece_goes}
 use Rattle.checkframes.proofs.turn.Goals as goal
 
-pub slice_bounds-check-end-2 : goal.slice_bounds-check-end-2
-slice_bounds-check-end-2 g c = sym (length-take-le _ _ c.read_behind-got.ensures.count_in_bounds.0)
-
-pub keep-left-requires : goal.keep-left-requires
-keep-left-requires g c =
-    let got = c.read_behind-got in
+pub keep-kept-requires : goal.keep-kept-requires
+keep-kept-requires g c =
+    let b = c.read_behind in
+    let n = c.in_ok-count in
     let k = c.check-piece in
-    ((piece_inside c.args.input.now got.new.input c.args.p got.result.count c.requires.0 got.ensures.count_in_bounds.0 got.ensures.count_in_bounds.1 got.ensures.input_len_unchanged k.result k.ensures).0, got.ensures.count_in_bounds.0)
+    ((piece_inside c.args.input.now b.new.input c.args.p n.count c.requires.0 n.ensures.count_in_bounds b.ensures.kept_stay b.ensures.input_len_unchanged k.result k.ensures).0, n.ensures.count_in_bounds)
 
 pub joined-requires : goal.joined-requires
 joined-requires g c =
-    let got = c.read_behind-got in
+    let b = c.read_behind in
+    let n = c.in_ok-count in
     let k = c.check-piece in
-    sums_fit c.args.input.now got.new.input c.args.p got.result.count c.requires.0 got.ensures.count_in_bounds.0 got.ensures.count_in_bounds.1 got.ensures.input_len_unchanged k.result k.ensures c.requires.1
+    sums_fit c.args.input.now b.new.input c.args.p n.count c.requires.0 n.ensures.count_in_bounds b.ensures.kept_stay b.ensures.input_len_unchanged k.result k.ensures c.requires.1
 
 pub returns : goal.returns
 returns g c =
-    let got = c.read_behind-got in
+    let b = c.read_behind in
+    let n = c.in_ok-count in
     let k = c.check-piece in
-    let m = c.keep-left in
-    let t = c.state_after-state in
+    let m = c.keep-kept in
+    let t = c.state_after in
     let j = c.joined in
     record {
-      inside = (
-        inside_again c.args.input.now got.new.input c.args.p got.result.count c.requires.0 got.ensures.count_in_bounds.0 got.ensures.count_in_bounds.1 got.ensures.input_len_unchanged k.result k.ensures m.new.input _ got.result.failed m.ensures.value.0 m.ensures.value.1 m.ensures.input_len_unchanged t.ensures j.ensures,
-        m.ensures.input_len_unchanged ∙ got.ensures.input_len_unchanged,
-      );
-      goes = piece_goes c.args.input.now got.new.input c.args.p got.result.count c.requires.0 got.ensures.count_in_bounds.0 got.ensures.count_in_bounds.1 got.ensures.input_len_unchanged k.result k.ensures m.new.input _ got.result.failed m.ensures.value.0 m.ensures.value.1 m.ensures.input_len_unchanged t.ensures j.ensures;
+      inside = inside_again c.args.input.now b.new.input c.args.p n.count c.requires.0 n.ensures.count_in_bounds b.ensures.kept_stay b.ensures.input_len_unchanged k.result k.ensures m.new.input _ m.ensures.value.0 m.ensures.value.1 m.ensures.input_len_unchanged t.ensures j.ensures;
+      goes = piece_goes c.args.input.now b.new.input c.args.p n.count c.requires.0 n.ensures.count_in_bounds b.ensures.kept_stay b.ensures.input_len_unchanged k.result k.ensures m.new.input _ m.ensures.value.0 m.ensures.value.1 m.ensures.input_len_unchanged t.ensures j.ensures;
+      input_len_unchanged = m.ensures.input_len_unchanged ∙ b.ensures.input_len_unchanged;
     }
