@@ -68,12 +68,10 @@ fn stations_ok(stations: &[u64], n: u64, last: u32) -> bool
     requires { (length stations.now ≡ 116 + n * 116) × (n ≤ 16) × (last ≤ 4294967294) }
     ensures { (M : Limits) → M.last ≡ last → result ≡ test (all n (station_rule M (tables stations.now [] []))) }
 {
-    let mut s: u64 = 0;
-    while s < n {
+    for s in 0..n {
         if !station_ok(stations, Station(s), last) {
             return false;
         }
-        s += 1;
     }
     true
 }
@@ -83,12 +81,10 @@ fn places_ok(carts: &[u64], k: u64) -> bool
     requires { (length carts.now ≡ k * 19) × (k ≤ 64) }
     ensures { result ≡ test (all k (λ c. is (canonical_in carts.now c))) }
 {
-    let mut number: u64 = 0;
-    while number < k {
+    for number in 0..k {
         if !carts::is_canonical(carts, CartNumber(number)) {
             return false;
         }
-        number += 1;
     }
     true
 }
@@ -114,14 +110,12 @@ fn locals_of(carts: &[u64], k: u64) -> [u64; 16]
     ensures { (t : ℕ) → t < 16 → get_or result t 0 ≡ set_of 64 (λ c. local_to ((carts_in carts.now).place c) t) }
 {
     let mut locals = [0u64; 16];
-    let mut number: u64 = 0;
-    while number < k {
+    for number in 0..k {
         let home = home_of(carts, CartNumber(number));
         if home < 16 {
             let s = home as usize;
             locals[s] = sets::with_member(locals[s], number);
         }
-        number += 1;
     }
     locals
 }
@@ -132,12 +126,10 @@ fn locals_ok(stations: &[u64], carts: &[u64], n: usize, k: u64) -> bool
     ensures { result ≡ test (all n (λ t. is (local_right (lent whole_floor stations.now carts.now [] [] [] []) t))) }
 {
     let locals = locals_of(carts, k);
-    let mut t: usize = 0;
-    while t < n {
+    for t in 0..n {
         if stations::local_of(stations, Station(t as u64)) != locals[t] {
             return false;
         }
-        t += 1;
     }
     true
 }
@@ -184,12 +176,10 @@ fn row_ends(carts: &[u64], number: CartNumber, n: u64) -> bool
     requires { HasRow carts.now number.0 × (n ≤ 16) }
     ensures { result ≡ test (all 16 (λ s. when (le n s) (eq ((carts_in carts.now).next number.0 s) 0))) }
 {
-    let mut s = n;
-    while s < 16 {
+    for s in n..16 {
         if 0 < carts::next_of(carts, number, Station(s)) {
             return false;
         }
-        s += 1;
     }
     true
 }
@@ -199,12 +189,10 @@ fn row_sent(stations: &[u64], carts: &[u64], number: CartNumber, n: u64) -> bool
     requires { (length stations.now ≡ 116 + n * 116) × (n ≤ 16) × HasRow carts.now number.0 }
     ensures { result ≡ test (all 16 (λ s. le ((carts_in carts.now).next number.0 s) ((stations_in stations.now).sent s))) }
 {
-    let mut s: u64 = 0;
-    while s < n {
+    for s in 0..n {
         if stations::sent_of(stations, Station(s)) < carts::next_of(carts, number, Station(s)) {
             return false;
         }
-        s += 1;
     }
     row_ends(carts, number, n)
 }
@@ -233,12 +221,10 @@ fn carts_ok(stations: &[u64], carts: &[u64], n: u64, k: u64) -> bool
     requires { (length stations.now ≡ 116 + n * 116) × (n ≤ 16) × (length carts.now ≡ k * 19) × (k ≤ 64) }
     ensures { result ≡ test (all k (cart_rule limits (tables stations.now carts.now []))) }
 {
-    let mut number: u64 = 0;
-    while number < k {
+    for number in 0..k {
         if !cart_ok(stations, carts, CartNumber(number), n) {
             return false;
         }
-        number += 1;
     }
     true
 }
@@ -276,12 +262,10 @@ fn rooms_ok(stations: &[u64], messages: &[u64], held: usize) -> bool
     requires { HasHead stations.now × (length messages.now ≡ held * 7) × (held ≤ 32) }
     ensures { result ≡ test (all held (room_sets (tables stations.now [] messages.now))) }
 {
-    let mut m: usize = 0;
-    while m < held {
+    for m in 0..held {
         if !room_ok(stations, messages, m) {
             return false;
         }
-        m += 1;
     }
     true
 }
@@ -343,12 +327,10 @@ fn is_alone(messages: &[u64], m: usize, s: u64, n: u64) -> bool
     requires { HasRoom messages.now m }
     ensures { result ≡ test (all m (λ k. is (not (is_message (tables [] [] messages.now) s n k)))) }
 {
-    let mut k: usize = 0;
-    while k < m {
+    for k in 0..m {
         if is_message(messages, k, s, n) {
             return false;
         }
-        k += 1;
     }
     true
 }
@@ -398,12 +380,10 @@ fn messages_ok(stations: &[u64], messages: &[u64], rows: u64, held: usize) -> bo
     requires { (length stations.now ≡ 116 + rows * 116) × (length messages.now ≡ held * 7) × (held ≤ 32) }
     ensures { result ≡ test (all held (held_names held (tables stations.now [] messages.now))) }
 {
-    let mut m: usize = 0;
-    while m < held {
+    for m in 0..held {
         if !held_ok(stations, messages, rows, m) {
             return false;
         }
-        m += 1;
     }
     true
 }
@@ -442,8 +422,7 @@ fn gather_entries(stations: &[u64], m: usize, n: u64) -> Gathered
     let mut sets: u64 = 0;
     let mut queued: u64 = 0;
     let mut strays: u64 = 0;
-    let mut t: u64 = 0;
-    while t < n {
+    for t in 0..n {
         let copy = stations::copy_of(stations, m, Station(t));
         let acks = stations::acks_of(stations, m, Station(t));
         let queue = stations::queue_of(stations, m, Station(t));
@@ -451,7 +430,6 @@ fn gather_entries(stations: &[u64], m: usize, n: u64) -> Gathered
         sets = sets::union(sets, sets::union(copy, sets::union(acks, queue)));
         queued = sets::union(queued, queue);
         strays = sets::union(strays, sets::minus(queue, local));
-        t += 1;
     }
     Gathered {
         sets,
@@ -500,12 +478,10 @@ fn entries_ok(stations: &[u64], carts: &[u64], messages: &[u64], rows: u64, held
     ensures { result ≡ test (all held (λ m. all rows (entry_rule limits (tables stations.now carts.now messages.now) m))) }
 {
     let most = most_of(stations::cart_count(stations));
-    let mut m: usize = 0;
-    while m < held {
+    for m in 0..held {
         if !entries_of(stations, carts, messages, m, most, rows) {
             return false;
         }
-        m += 1;
     }
     true
 }
@@ -592,13 +568,11 @@ fn copies_of(stations: &[u64], carts: &[u64], messages: &[u64], m: usize) -> boo
     }
     let end = stations_of(stations);
     let mut missing: u64 = 0;
-    let mut t: u64 = 0;
-    while t < end {
+    for t in 0..end {
         if !copy_named(stations, messages, m, Station(t)) {
             return false;
         }
         missing = sets::union(missing, missing_at(stations, messages, m, Station(t)));
-        t += 1;
     }
     let s = messages::initiator_of(messages, m);
     let n = messages::number_of(messages, m);
@@ -610,12 +584,10 @@ fn copies_ok(stations: &[u64], carts: &[u64], messages: &[u64], held: usize) -> 
     requires { OnTables stations.now carts.now × (length messages.now ≡ held * 7) × (held ≤ 32) }
     ensures { result ≡ test (all held (copies_rule (tables stations.now carts.now messages.now))) }
 {
-    let mut m: usize = 0;
-    while m < held {
+    for m in 0..held {
         if !copies_of(stations, carts, messages, m) {
             return false;
         }
-        m += 1;
     }
     true
 }
@@ -625,15 +597,13 @@ fn rooms_end(stations: &[u64], t: Station, held: usize) -> bool
     requires { HasStation stations.now t.0 × (held ≤ 32) }
     ensures { result ≡ test (rooms_end held stations.now t.0) }
 {
-    let mut m = held;
-    while m < 32 {
+    for m in held..32 {
         if stations::copy_of(stations, m, t) != 0 {
             return false;
         }
         if stations::queue_of(stations, m, t) != 0 {
             return false;
         }
-        m += 1;
     }
     true
 }
@@ -643,12 +613,10 @@ fn ends_ok(stations: &[u64], n: u64, held: usize) -> bool
     requires { (length stations.now ≡ 116 + n * 116) × (n ≤ 16) × (held ≤ 32) }
     ensures { result ≡ test (all n (rooms_end held stations.now)) }
 {
-    let mut t: u64 = 0;
-    while t < n {
+    for t in 0..n {
         if !rooms_end(stations, Station(t), held) {
             return false;
         }
-        t += 1;
     }
     true
 }

@@ -22,12 +22,6 @@ returns-then-not-cart_ok c =
     let t = c.cart_ok in
     all_no c.args.k f a.number (omega arith) (refused (f a.number) t.result t.ensures (not-true _ (ap not c.if-not-cart_ok.true)))
 
-pub overflow_add-number : goal.overflow_add-number
-overflow_add-number c = omega arith
-
-pub loop-number-smaller : goal.loop-number-smaller
-loop-number-smaller c = omega arith
-
 pub loop-number-preserved : goal.loop-number-preserved
 loop-number-preserved c =
     let f = cart_rule limits (tables c.args.stations.now c.args.carts.now []) in

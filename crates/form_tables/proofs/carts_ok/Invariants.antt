@@ -9,6 +9,3 @@ use Rattle.form_tables.proofs.carts_ok.Given as goal
 
 abbrev pub invariant-loop-number : goal.invariant-loop-number
 invariant-loop-number l = (l.number ≤ l.k) × True (all l.number (cart_rule limits (tables l.stations l.carts [])))
-
-abbrev pub decreases-loop-number : goal.decreases-loop-number
-decreases-loop-number l = l.k - l.number

@@ -42,12 +42,6 @@ returns-then-not-copy_named c =
 pub missing_at-requires : goal.missing_at-requires
 missing_at-requires c = let p = c.requires in (omega (arith, p.0.whole, p.0.stations, c.stations_of-end.ensures.floor), p.1, p.2)
 
-pub overflow_add-t : goal.overflow_add-t
-overflow_add-t c = omega arith
-
-pub loop-t-smaller : goal.loop-t-smaller
-loop-t-smaller c = omega arith
-
 pub loop-t-preserved : goal.loop-t-preserved
 loop-t-preserved c =
     let a = c.args in

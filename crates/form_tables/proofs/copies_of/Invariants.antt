@@ -6,6 +6,3 @@ use Rattle.form_tables.proofs.copies_of.Given as goal
 
 abbrev pub invariant-loop-t : goal.invariant-loop-t
 invariant-loop-t l = (l.t ≤ l.end) × Missing (tables l.stations l.carts l.messages) l.m l.t l.missing
-
-abbrev pub decreases-loop-t : goal.decreases-loop-t
-decreases-loop-t l = l.end - l.t

@@ -6,6 +6,3 @@ use Rattle.form_tables.proofs.copies_ok.Given as goal
 
 abbrev pub invariant-loop-m : goal.invariant-loop-m
 invariant-loop-m l = (l.m ≤ l.held) × True (all l.m (copies_rule (tables l.stations l.carts l.messages)))
-
-abbrev pub decreases-loop-m : goal.decreases-loop-m
-decreases-loop-m l = l.held - l.m

@@ -20,12 +20,6 @@ returns-then-not-rooms_end c =
     let t = c.rooms_end in
     all_no s.n f a.t (omega arith) (refused (f a.t) t.result t.ensures (not-true _ (ap not c.if-not-rooms_end.true)))
 
-pub overflow_add-t : goal.overflow_add-t
-overflow_add-t c = omega arith
-
-pub loop-t-smaller : goal.loop-t-smaller
-loop-t-smaller c = omega arith
-
 pub loop-t-preserved : goal.loop-t-preserved
 loop-t-preserved c =
     let s = c.args in

@@ -6,6 +6,3 @@ use Rattle.form_tables.proofs.ends_ok.Given as goal
 
 abbrev pub invariant-loop-t : goal.invariant-loop-t
 invariant-loop-t l = (l.t ≤ l.n) × True (all l.t (rooms_end l.held l.stations))
-
-abbrev pub decreases-loop-t : goal.decreases-loop-t
-decreases-loop-t l = l.n - l.t

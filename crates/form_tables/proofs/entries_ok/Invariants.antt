@@ -8,6 +8,3 @@ use Rattle.form_tables.proofs.entries_ok.Given as goal
 
 abbrev pub invariant-loop-m : goal.invariant-loop-m
 invariant-loop-m l = (l.m ≤ l.held) × True (all l.m (λ k. all l.rows (entry_rule limits (tables l.stations l.carts l.messages) k)))
-
-abbrev pub decreases-loop-m : goal.decreases-loop-m
-decreases-loop-m l = l.held - l.m

@@ -21,12 +21,6 @@ queue_of-queue-requires c = omega arith
 pub local_of-local-requires : goal.local_of-local-requires
 local_of-local-requires c = omega arith
 
-pub overflow_add-t : goal.overflow_add-t
-overflow_add-t c = omega arith
-
-pub loop-t-smaller : goal.loop-t-smaller
-loop-t-smaller c = omega arith
-
 pub loop-t-preserved : goal.loop-t-preserved
 loop-t-preserved c =
     let a = c.loop-t in

@@ -6,6 +6,3 @@ use Rattle.form_tables.proofs.gather_entries.Given as goal
 
 abbrev pub invariant-loop-t : goal.invariant-loop-t
 invariant-loop-t l = (l.t ≤ l.n) × Entries (stations_in l.stations) l.m l.t l.sets l.queued l.strays
-
-abbrev pub decreases-loop-t : goal.decreases-loop-t
-decreases-loop-t l = l.n - l.t

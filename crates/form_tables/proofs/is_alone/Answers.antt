@@ -24,12 +24,6 @@ returns-then-is_message c =
     all_no a.m (λ j. is (not (is_message F a.s a.n j))) k (omega arith)
     (λ h. clash (is_message F a.s a.n k) (sym c.is_message.ensures ∙ c.if-is_message.true) (not-true _ h))
 
-pub overflow_add-k : goal.overflow_add-k
-overflow_add-k c = omega arith
-
-pub loop-k-smaller : goal.loop-k-smaller
-loop-k-smaller c = omega arith
-
 pub loop-k-preserved : goal.loop-k-preserved
 loop-k-preserved c =
     let a = c.args in

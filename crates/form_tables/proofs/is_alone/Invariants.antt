@@ -9,6 +9,3 @@ use Rattle.form_tables.proofs.is_alone.Given as goal
 
 abbrev pub invariant-loop-k : goal.invariant-loop-k
 invariant-loop-k l = (l.k ≤ l.m) × True (all l.k (λ j. is (not (is_message (tables [] [] l.messages) l.s l.n j))))
-
-abbrev pub decreases-loop-k : goal.decreases-loop-k
-decreases-loop-k l = l.m - l.k

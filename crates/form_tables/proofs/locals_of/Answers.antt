@@ -26,12 +26,6 @@ offset_bounds-locals-s-then-home-lt16 c = omega arith
 pub bounds-locals-s-then-home-lt16 : goal.bounds-locals-s-then-home-lt16
 bounds-locals-s-then-home-lt16 c = omega arith
 
-pub overflow_add-number : goal.overflow_add-number
-overflow_add-number c = omega arith
-
-pub loop-number-smaller : goal.loop-number-smaller
-loop-number-smaller c = omega arith
-
 pub loop-number-preserved : goal.loop-number-preserved
 loop-number-preserved c =
     let place = (carts_in c.args.carts.now).place in

@@ -8,6 +8,3 @@ use Rattle.form_tables.proofs.locals_of.Given as goal
 
 abbrev pub invariant-loop-number : goal.invariant-loop-number
 invariant-loop-number l = (l.number ≤ l.k) × (length l.locals ≡ 16) × LocalsTo (carts_in l.carts).place l.locals l.number
-
-abbrev pub decreases-loop-number : goal.decreases-loop-number
-decreases-loop-number l = l.k - l.number

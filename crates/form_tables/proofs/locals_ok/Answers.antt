@@ -27,12 +27,6 @@ returns-then-local_of-locals c =
     all_no s.n (λ k. is (local_right (lent whole_floor s.stations.now s.carts.now [] [] [] []) k)) a.t (omega arith)
     (λ h. c.if-local_of-locals.true ((mask_right s.stations.now s.carts.now a.t found.result _ found.ensures (c.locals_of-locals.ensures a.t (omega arith))).0 h))
 
-pub overflow_add-t : goal.overflow_add-t
-overflow_add-t c = omega arith
-
-pub loop-t-smaller : goal.loop-t-smaller
-loop-t-smaller c = omega arith
-
 pub loop-t-preserved : goal.loop-t-preserved
 loop-t-preserved c =
     let s = c.args in

@@ -8,6 +8,3 @@ use Rattle.form_tables.proofs.locals_ok.Given as goal
 
 abbrev pub invariant-loop-t : goal.invariant-loop-t
 invariant-loop-t l = (l.t ≤ l.n) × True (all l.t (λ j. is (local_right (lent whole_floor l.stations l.carts [] [] [] []) j)))
-
-abbrev pub decreases-loop-t : goal.decreases-loop-t
-decreases-loop-t l = l.n - l.t

@@ -23,12 +23,6 @@ returns-then-not-held_ok c =
     let t = c.held_ok in
     all_no c.args.held (held_before F) a.m (omega arith) (refused (held_before F a.m) t.result t.ensures (not-true _ (ap not c.if-not-held_ok.true))) ∙ names_alone c.args.held F
 
-pub overflow_add-m : goal.overflow_add-m
-overflow_add-m c = omega arith
-
-pub loop-m-smaller : goal.loop-m-smaller
-loop-m-smaller c = omega arith
-
 pub loop-m-preserved : goal.loop-m-preserved
 loop-m-preserved c =
     let F = tables c.args.stations.now [] c.args.messages.now in

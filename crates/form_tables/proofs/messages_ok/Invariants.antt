@@ -8,6 +8,3 @@ use Rattle.form_tables.proofs.messages_ok.Given as goal
 
 abbrev pub invariant-loop-m : goal.invariant-loop-m
 invariant-loop-m l = (l.m ≤ l.held) × True (all l.m (held_before (tables l.stations [] l.messages)))
-
-abbrev pub decreases-loop-m : goal.decreases-loop-m
-decreases-loop-m l = l.held - l.m

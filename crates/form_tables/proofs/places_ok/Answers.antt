@@ -21,12 +21,6 @@ returns-then-not-is_canonical c =
     let t = c.is_canonical in
     all_no c.args.k (λ k. is (canonical_in c.args.carts.now k)) a.number (omega arith) (λ h. clash t.result (t.ensures ∙ h) (not-true _ (ap not c.if-not-is_canonical.true)))
 
-pub overflow_add-number : goal.overflow_add-number
-overflow_add-number c = omega arith
-
-pub loop-number-smaller : goal.loop-number-smaller
-loop-number-smaller c = omega arith
-
 pub loop-number-preserved : goal.loop-number-preserved
 loop-number-preserved c =
     let a = c.loop-number in

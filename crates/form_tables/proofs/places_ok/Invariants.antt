@@ -6,6 +6,3 @@ use Rattle.form_tables.proofs.places_ok.Given as goal
 
 abbrev pub invariant-loop-number : goal.invariant-loop-number
 invariant-loop-number l = (l.number ≤ l.k) × True (all l.number (λ j. is (canonical_in l.carts j)))
-
-abbrev pub decreases-loop-number : goal.decreases-loop-number
-decreases-loop-number l = l.k - l.number

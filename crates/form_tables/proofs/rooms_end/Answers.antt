@@ -29,12 +29,6 @@ returns-then-queue_of-ne0 c =
     let a = c.loop-m in
     all_no 32 f a.m (omega arith) (λ h. c.if-queue_of-ne0.true (c.queue_of.ensures ∙ (h a.invariant.0).1))
 
-pub overflow_add-m : goal.overflow_add-m
-overflow_add-m c = omega arith
-
-pub loop-m-smaller : goal.loop-m-smaller
-loop-m-smaller c = omega arith
-
 pub loop-m-preserved : goal.loop-m-preserved
 loop-m-preserved c =
     let s = c.args in

@@ -6,6 +6,3 @@ use Rattle.form_tables.proofs.rooms_end.Given as goal
 
 abbrev pub invariant-loop-m : goal.invariant-loop-m
 invariant-loop-m l = (l.held ≤ l.m) × (l.m ≤ 32) × True (all l.m (λ k. when (le l.held k) (both (eq ((stations_in l.stations).copy k l.t.0) 0) (eq ((stations_in l.stations).queue k l.t.0) 0))))
-
-abbrev pub decreases-loop-m : goal.decreases-loop-m
-decreases-loop-m l = 32 - l.m

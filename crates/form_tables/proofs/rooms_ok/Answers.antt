@@ -20,12 +20,6 @@ returns-then-not-room_ok c =
     let t = c.room_ok in
     all_no c.args.held f a.m (omega arith) (refused (f a.m) t.result t.ensures (not-true _ (ap not c.if-not-room_ok.true)))
 
-pub overflow_add-m : goal.overflow_add-m
-overflow_add-m c = omega arith
-
-pub loop-m-smaller : goal.loop-m-smaller
-loop-m-smaller c = omega arith
-
 pub loop-m-preserved : goal.loop-m-preserved
 loop-m-preserved c =
     let f = room_sets (tables c.args.stations.now [] c.args.messages.now) in

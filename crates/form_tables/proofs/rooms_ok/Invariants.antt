@@ -7,6 +7,3 @@ use Rattle.form_tables.proofs.rooms_ok.Given as goal
 
 abbrev pub invariant-loop-m : goal.invariant-loop-m
 invariant-loop-m l = (l.m ≤ l.held) × True (all l.m (room_sets (tables l.stations [] l.messages)))
-
-abbrev pub decreases-loop-m : goal.decreases-loop-m
-decreases-loop-m l = l.held - l.m

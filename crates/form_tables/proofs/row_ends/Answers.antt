@@ -12,12 +12,6 @@ returns-then-next_of-gt0 c =
     let next = (carts_in c.args.carts.now).next c.args.number.0 in
     all_no 16 (λ k. when (le c.args.n k) (eq (next k) 0)) c.loop-s.s (omega arith) (λ h. let l = c.loop-s.invariant.0 in omega (arith, h l))
 
-pub overflow_add-s : goal.overflow_add-s
-overflow_add-s c = omega arith
-
-pub loop-s-smaller : goal.loop-s-smaller
-loop-s-smaller c = omega arith
-
 pub loop-s-preserved : goal.loop-s-preserved
 loop-s-preserved c =
     let next = (carts_in c.args.carts.now).next c.args.number.0 in

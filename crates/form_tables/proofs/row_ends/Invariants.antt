@@ -6,6 +6,3 @@ use Rattle.form_tables.proofs.row_ends.Given as goal
 
 abbrev pub invariant-loop-s : goal.invariant-loop-s
 invariant-loop-s l = (l.n ≤ l.s) × (l.s ≤ 16) × True (all l.s (λ k. when (le l.n k) (eq ((carts_in l.carts).next l.number.0 k) 0)))
-
-abbrev pub decreases-loop-s : goal.decreases-loop-s
-decreases-loop-s l = 16 - l.s

@@ -20,12 +20,6 @@ returns-then-sent_of-next_of c =
     let sent = (stations_in c.args.stations.now).sent in
     all_no 16 (λ k. le (next k) (sent k)) c.loop-s.s (omega arith) (λ h. omega arith)
 
-pub overflow_add-s : goal.overflow_add-s
-overflow_add-s c = omega arith
-
-pub loop-s-smaller : goal.loop-s-smaller
-loop-s-smaller c = omega arith
-
 pub loop-s-preserved : goal.loop-s-preserved
 loop-s-preserved c =
     let next = (carts_in c.args.carts.now).next c.args.number.0 in

@@ -7,6 +7,3 @@ use Rattle.form_tables.proofs.row_sent.Given as goal
 
 abbrev pub invariant-loop-s : goal.invariant-loop-s
 invariant-loop-s l = (l.s ≤ l.n) × True (all l.s (λ k. le ((carts_in l.carts).next l.number.0 k) ((stations_in l.stations).sent k)))
-
-abbrev pub decreases-loop-s : goal.decreases-loop-s
-decreases-loop-s l = l.n - l.s

@@ -21,12 +21,6 @@ returns-then-not-station_ok c =
     let t = c.station_ok in
     all_no c.args.n f a.s (omega arith) (refused (f a.s) t.result (t.ensures M e) (not-true _ (ap not c.if-not-station_ok.true)))
 
-pub overflow_add-s : goal.overflow_add-s
-overflow_add-s c = omega arith
-
-pub loop-s-smaller : goal.loop-s-smaller
-loop-s-smaller c = omega arith
-
 pub loop-s-preserved : goal.loop-s-preserved
 loop-s-preserved c =
     let a = c.loop-s in

@@ -10,6 +10,3 @@ use Rattle.form_tables.proofs.stations_ok.Given as goal
 
 abbrev pub invariant-loop-s : goal.invariant-loop-s
 invariant-loop-s l = (l.s ≤ l.n) × ((M : Limits) → M.last ≡ l.last → True (all l.s (station_rule M (tables l.stations [] []))))
-
-abbrev pub decreases-loop-s : goal.decreases-loop-s
-decreases-loop-s l = l.n - l.s
