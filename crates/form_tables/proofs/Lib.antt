@@ -4,4 +4,5 @@ pub mod Locals
 pub mod Places
 pub mod Names
 pub mod Queues
+pub mod Chains
 pub mod Copies

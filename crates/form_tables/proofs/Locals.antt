@@ -1,6 +1,6 @@
 -- The masks of local carts, by one pass over the carts.
 use mathlib.Core.Path.{◌≡◌, sym, ap, ◌∙◌}
-use mathlib.Core.Bool.{Bool, true}
+use mathlib.Core.Bool.{Bool, true, false}
 use mathlib.Core.List.{List, []}
 use Prim.Native.Nat.{ℕ, ◌+◌, ◌*◌, ◌^◌, ◌≤◌, ◌<◌}
 use native.Mathlib.Numerals.{add-one}
@@ -9,7 +9,7 @@ use lib.ListN.{length, get_or, set, replicate, get_or-replicate, length-set}
 use lib.Pow.{pow_mono}
 use lib.Seq.{get_or-set_same, get_or-set_other}
 use borrow.Author.Tests.{eqb-true, eq-eqb, ne_eqb}
-use Rattle.protocol.specs.Floor.{whole_floor, Place, outside, at, leaving, travelling, local_to}
+use Rattle.protocol.specs.Floor.{whole_floor, Place, local_to}
 use Rattle.protocol.specs.CartSets.{with, set_of}
 use Rattle.protocol.proofs.Tests.{by_eq, by_lt, eqb_self}
 use Rattle.protocol.proofs.SetLaws.{set_of_suc, set_of_lt, set_of_beyond, has_set_of, same_members}
@@ -17,23 +17,9 @@ use Rattle.stations.specs.View.{stations_in}
 use Rattle.carts.specs.View.{carts_in}
 use Rattle.view.specs.View.{lent, local_right}
 use Rattle.view.proofs.Lengths.{place_past}
+use Rattle.ids.specs.declared.Station.{Station}
+use Rattle.std.specs.Prelude.{Some, None}
 use Rattle.form_tables.specs.Parts.{Home}
-
--- A CART'S HOME
-
--- a cart that is outside, or travelling, is local to none
-pub home_outside : (p : Place) → p ≡ outside → Home p 16
-home_outside p e t l = ap (λ (q : Place). local_to q t) e ∙ sym (ne_eqb 16 t (omega arith))
-
-pub home_travelling : (p : Place) (s u : ℕ) → p ≡ travelling s u → Home p 16
-home_travelling p s u e t l = ap (λ (q : Place). local_to q t) e ∙ sym (ne_eqb 16 t (omega arith))
-
--- one at a station, or leaving it, is local to that one
-pub home_at : (p : Place) (s : ℕ) → p ≡ at s → Home p s
-home_at p s e t l = ap (λ (q : Place). local_to q t) e
-
-pub home_leaving : (p : Place) (s u : ℕ) → p ≡ leaving s u → Home p s
-home_leaving p s u e t l = ap (λ (q : Place). local_to q t) e
 
 -- THE MASKS, of the carts below n
 abbrev pub LocalsTo : (ℕ → Place) → List ℕ → ℕ → Type 0
@@ -43,24 +29,30 @@ pub locals_none : (place : ℕ → Place) → LocalsTo place (replicate 16 0) 0
 unfolding set_of
 locals_none place t l = get_or-replicate 16 t 0 0 l
 
-module _ (place : ℕ → Place) (locals : List ℕ) (n s : ℕ) (h : LocalsTo place locals n) (home : Home (place n) s) where
-  same : (t : ℕ) → t < 16 → (s ≡ t → ⊥) → get_or locals t 0 ≡ set_of (n + 1) (λ d. local_to (place d) t)
-  same t l q = h t l ∙ sym (rw add-one (set_of_suc n (λ d. local_to (place d) t) ∙ rw (home t l ∙ ne_eqb s t q)))
+module _ (place : ℕ → Place) (locals : List ℕ) (n : ℕ) (h : LocalsTo place locals n) (few : length locals ≡ 16) where
+  same : (t : ℕ) → t < 16 → local_to (place n) t ≡ false → get_or locals t 0 ≡ set_of (n + 1) (λ d. local_to (place d) t)
+  same t l q = h t l ∙ sym (rw add-one (set_of_suc n (λ d. local_to (place d) t) ∙ rw q))
 
   -- the next cart is local to none of the sixteen
-  pub locals_stay : (after : List ℕ) → after ≡ locals → 16 ≤ s → length locals ≡ 16 → (length after ≡ 16) × LocalsTo place after (n + 1)
-  locals_stay after e g z = (ap length e ∙ z, λ t l. ap (λ (x : List ℕ). get_or x t 0) e ∙ same t l (λ q. absurd (omega arith)))
+  locals_stay : (after : List ℕ) → after ≡ locals → ((t : ℕ) → t < 16 → local_to (place n) t ≡ false) → (length after ≡ 16) × LocalsTo place after (n + 1)
+  locals_stay after e none = (ap length e ∙ few, λ t l. ap (λ (x : List ℕ). get_or x t 0) e ∙ same t l (none t l))
 
-  -- it is local to s
-  pub locals_join : (after : List ℕ) (v : ℕ) → after ≡ set locals s v → s < 16 → length locals ≡ 16 → v ≡ with (get_or locals s 0) n
-      → (length after ≡ 16) × LocalsTo place after (n + 1)
-  locals_join after v e ls z g = (
-    ap length e ∙ length-set locals s v ∙ z,
-    λ t l. ap (λ (x : List ℕ). get_or x t 0) e ∙ by_eq s t
-        (λ q. rw (← q) (get_or-set_same locals s v 0 (omega arith) ∙ g ∙ ap (λ (x : ℕ). with x n) (h s ls)
-        ∙ sym (rw add-one (set_of_suc n (λ d. local_to (place d) s) ∙ rw (home s ls ∙ eqb_self s)))))
-        (λ q. get_or-set_other locals s t v 0 (λ e. q (sym e)) ∙ same t l q),
-  )
+  pub locals_none_more : (after : List ℕ) → after ≡ locals → Home (place n) None → (length after ≡ 16) × LocalsTo place after (n + 1)
+  locals_none_more after e home = locals_stay after e (λ t l. home t)
+
+  module _ (s : Station) (home : Home (place n) (Some s)) where
+    pub locals_beyond : (after : List ℕ) → after ≡ locals → 16 ≤ s.0 → (length after ≡ 16) × LocalsTo place after (n + 1)
+    locals_beyond after e g = locals_stay after e (λ t l. home t ∙ ne_eqb s.0 t (λ q. absurd (omega arith)))
+
+    -- it is local to s
+    pub locals_join : (after : List ℕ) (v : ℕ) → after ≡ set locals s.0 v → s.0 < 16 → v ≡ with (get_or locals s.0 0) n → (length after ≡ 16) × LocalsTo place after (n + 1)
+    locals_join after v e ls g = (
+      ap length e ∙ length-set locals s.0 v ∙ few,
+      λ t l. ap (λ (x : List ℕ). get_or x t 0) e ∙ by_eq s.0 t
+          (λ q. rw (← q) (get_or-set_same locals s.0 v 0 (omega arith) ∙ g ∙ ap (λ (x : ℕ). with x n) (h s.0 ls)
+          ∙ sym (rw add-one (set_of_suc n (λ d. local_to (place d) s.0) ∙ rw (home s.0 ∙ eqb_self s.0)))))
+          (λ q. get_or-set_other locals s.0 t v 0 (λ e. q (sym e)) ∙ same t l (home t ∙ ne_eqb s.0 t q)),
+    )
 
 -- beyond the table there are no carts
 pub locals_all : (C : List ℕ) (k : ℕ) → length C ≡ k * 19 → k ≤ 64 → (t : ℕ)

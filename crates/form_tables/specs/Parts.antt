@@ -1,14 +1,16 @@
 -- WHAT THE PARTS OF THE TEST ANSWER, where that is no clause of the rule.
-use Rattle.std.specs.Prelude.{◌≡◌, cond, not, true, ◌⊎◌, ℕ, ◌≤◌, ◌<◌, eqb, ltb}
+use Rattle.std.specs.Prelude.{◌≡◌, cond, not, true, false, ◌⊎◌, Option, None, Some, ℕ, ◌≤◌, ◌<◌, eqb, ltb}
 use Rattle.protocol.specs.CartSets.{has, union, minus, set_of}
 use Rattle.protocol.specs.Floor.{Floor, Place, local_to, is_held, is_message}
 use Rattle.protocol.specs.Claims.{Claim, is, both, when, all}
+use Rattle.ids.specs.declared.Station.{Station}
 use Rattle.stations.specs.View.{Stations}
 use Rattle.form_tables.specs.Tables.{number_given, delete_right}
 
--- "It is local to a station when at it or leaving it": of the sixteen stations, a cart in that place is local to s and to no other
-abbrev pub Home : Place → ℕ → Type 0
-Home p s = (t : ℕ) → t < 16 → local_to p t ≡ eqb s t
+-- "It is local to a station when at it or leaving it": a cart in that place is local to s and to no other, or to none
+abbrev pub Home : Place → Option Station → Type 0
+Home p None = (t : ℕ) → local_to p t ≡ false
+Home p (Some s) = (t : ℕ) → local_to p t ≡ eqb s.0 t
 
 -- r is n, or 16 where that is less
 pub record Few (n r : ℕ) : Type 0 where

@@ -18,8 +18,15 @@ ghost use Rattle.form_tables.specs.Tables.{tables, Sized, OnTables, counts_rule,
 ghost use Rattle.form_tables.specs.Parts.{Home, most_of, held_before, Entries, missing_at, Few};
 
 use carts::Place;
-use ids::{CartNumber, Station};
+use ids::{CartNumber, MessageNumber, Station};
 use products::Bounds;
+
+// At least one, and no more than there are rows for.
+fn is_few(count: u64, rows: u64) -> bool
+    ensures { result ≡ test (both (lt 0 count) (le count rows)) }
+{
+    0 < count && count <= rows
+}
 
 // "An unstarted floor fails it"; it has no more stations and carts than there are rows for.
 fn counts_ok(stations: &[u64], bounds: Bounds) -> bool
@@ -29,21 +36,8 @@ fn counts_ok(stations: &[u64], bounds: Bounds) -> bool
     if stations::mark_of(stations) != stations::STARTED {
         return false;
     }
-    let n = stations::station_count(stations);
-    if n == 0 {
-        return false;
-    }
-    if bounds.stations < n {
-        return false;
-    }
-    let k = stations::cart_count(stations);
-    if k == 0 {
-        return false;
-    }
-    if bounds.carts < k {
-        return false;
-    }
-    true
+    is_few(stations::station_count(stations), bounds.stations)
+        && is_few(stations::cart_count(stations), bounds.carts)
 }
 
 // "the caller's last number": no station has sent more, and one beyond the floor has sent nothing.
@@ -52,15 +46,7 @@ fn station_ok(stations: &[u64], s: Station, last: u32) -> bool
     ensures { (M : Limits) → M.last ≡ last → result ≡ test (station_rule M (tables stations.now [] []) s.0) }
 {
     let sent = stations::sent_of(stations, s);
-    if last as u64 + 1 < sent {
-        return false;
-    }
-    if 0 < sent {
-        if stations::station_count(stations) <= s.0 {
-            return false;
-        }
-    }
-    true
+    sent <= u64::from(last) + 1 && (sent == 0 || s.0 < stations::station_count(stations))
 }
 
 // The same of each of the n that there are rows for.
@@ -89,18 +75,14 @@ fn places_ok(carts: &[u64], k: u64) -> bool
     true
 }
 
-// "It is local to a station when at it or leaving it": the one of the sixteen stations that the cart is local to, or a
-// number from 16 on where there is none.
-fn home_of(carts: &[u64], number: CartNumber) -> u64
+// "It is local to a station when at it or leaving it": the station that the cart is local to, if there is one.
+fn home_of(carts: &[u64], number: CartNumber) -> Option<Station>
     requires { HasRow carts.now number.0 }
     ensures { Home ((carts_in carts.now).place number.0) result }
 {
-    let place = carts::place_of(carts, number);
-    match place {
-        Place::Outside => 16,
-        Place::At(s) => s.0,
-        Place::Leaving(s, _) => s.0,
-        Place::Travelling(_, _) => 16,
+    match carts::place_of(carts, number) {
+        Place::At(s) | Place::Leaving(s, _) => Some(s),
+        Place::Outside | Place::Travelling(_, _) => None,
     }
 }
 
@@ -111,10 +93,11 @@ fn locals_of(carts: &[u64], k: u64) -> [u64; 16]
 {
     let mut locals = [0u64; 16];
     for number in 0..k {
-        let home = home_of(carts, CartNumber(number));
-        if home < 16 {
-            let s = home as usize;
-            locals[s] = sets::with_member(locals[s], number);
+        if let Some(home) = home_of(carts, CartNumber(number)) {
+            let s = home.0 as usize;
+            if s < 16 {
+                locals[s] = sets::with_member(locals[s], number);
+            }
         }
     }
     locals
@@ -138,13 +121,7 @@ fn locals_ok(stations: &[u64], carts: &[u64], n: usize, k: u64) -> bool
 fn are_below(s: u64, t: u64, n: u64) -> bool
     ensures { result ≡ test (both (lt s n) (lt t n)) }
 {
-    if n <= s {
-        return false;
-    }
-    if n <= t {
-        return false;
-    }
-    true
+    s < n && t < n
 }
 
 // "a place at, or between, stations of the floor", which are n.
@@ -160,15 +137,10 @@ fn place_ok(place: Place, n: u64) -> bool
 }
 
 // The cart has entered: it is at a station, leaving or travelling.
-fn has_entered(place: Place) -> bool
+pub fn has_entered(place: Place) -> bool
     ensures { result ≡ entered (seen place) }
 {
-    match place {
-        Place::Outside => false,
-        Place::At(_) => true,
-        Place::Leaving(_, _) => true,
-        Place::Travelling(_, _) => true,
-    }
+    !matches!(place, Place::Outside)
 }
 
 // Of the initiators from n on, which have no row, the cart's next numbers are 0.
@@ -233,10 +205,7 @@ fn carts_ok(stations: &[u64], carts: &[u64], n: u64, k: u64) -> bool
 fn most_of(n: u64) -> u64
     ensures { result ≡ most_of n }
 {
-    if n < 64 {
-        return sets::all_below(n);
-    }
-    sets::all_below(64)
+    sets::all_below(n.min(64))
 }
 
 // "its sets are of the floor": those of the message in room m.
@@ -245,16 +214,9 @@ fn room_ok(stations: &[u64], messages: &[u64], m: usize) -> bool
     ensures { result ≡ test (room_sets (tables stations.now [] messages.now) m) }
 {
     let most = most_of(stations::cart_count(stations));
-    if most < messages::named_of(messages, m) {
-        return false;
-    }
-    if most < messages::acked_of(messages, m) {
-        return false;
-    }
-    if most_of(stations::station_count(stations)) < messages::waiting_of(messages, m) {
-        return false;
-    }
-    true
+    let greater = messages::named_of(messages, m).max(messages::acked_of(messages, m));
+    greater <= most
+        && messages::waiting_of(messages, m) <= most_of(stations::station_count(stations))
 }
 
 // The same of each of the rooms.
@@ -270,26 +232,28 @@ fn rooms_ok(stations: &[u64], messages: &[u64], held: usize) -> bool
     true
 }
 
-// How many messages station s has sent: none, where there is no such station among n.
-fn sent_by(stations: &[u64], n: u64, s: u64) -> u64
-    requires { length stations.now ≡ 116 + n * 116 }
+// How many messages station s has sent: none, where there is no row for it.
+pub fn sent_by(stations: &[u64], rows: u64, s: u64) -> u64
+    requires { length stations.now ≡ 116 + rows * 116 }
     ensures { result ≡ (stations_in stations.now).sent s }
 {
-    if s < n {
-        return stations::sent_of(stations, Station(s));
+    if s < rows {
+        stations::sent_of(stations, Station(s))
+    } else {
+        0
     }
-    0
 }
 
-// The number that station t expects of initiator s: 0, where there is no such initiator.
-fn expected_by(stations: &[u64], t: Station, s: u64) -> u64
-    requires { HasStation stations.now t.0 }
-    ensures { result ≡ (stations_in stations.now).expected t.0 s }
+// The number that station t expects of initiator s: 0, where there is no row for the station, or no such initiator.
+pub fn expected_by(stations: &[u64], rows: u64, t: u64, s: u64) -> u64
+    requires { length stations.now ≡ 116 + rows * 116 }
+    ensures { result ≡ (stations_in stations.now).expected t s }
 {
-    if s < 16 {
-        return stations::expected_of(stations, t, Station(s));
+    if t < rows && s < 16 {
+        stations::expected_of(stations, Station(t), Station(s))
+    } else {
+        0
     }
-    0
 }
 
 // The cart's next number for initiator s: 0, where there is no such initiator.
@@ -298,9 +262,10 @@ fn next_by(carts: &[u64], number: CartNumber, s: u64) -> u64
     ensures { result ≡ (carts_in carts.now).next number.0 s }
 {
     if s < 16 {
-        return carts::next_of(carts, number, Station(s));
+        carts::next_of(carts, number, Station(s))
+    } else {
+        0
     }
-    0
 }
 
 // "A message is named by its initiator and its number": message n of s is in room m. Most rooms have another number, so that is asked first.
@@ -308,18 +273,9 @@ pub fn is_message(messages: &[u64], m: usize, s: u64, n: u64) -> bool
     requires { HasRoom messages.now m }
     ensures { result ≡ is_message (tables [] [] messages.now) s n m }
 {
-    let number = messages::number_of(messages, m);
-    if number.0 != n {
-        return false;
-    }
-    let initiator = messages::initiator_of(messages, m);
-    if initiator.0 != s {
-        return false;
-    }
-    if messages::waiting_of(messages, m) == 0 {
-        return false;
-    }
-    true
+    messages::number_of(messages, m) == MessageNumber(n)
+        && messages::initiator_of(messages, m) == Station(s)
+        && messages::waiting_of(messages, m) != 0
 }
 
 // "no other held message has its name": no room before m has message n of s. A later room with it finds m.
@@ -340,13 +296,7 @@ fn is_alone(messages: &[u64], m: usize, s: u64, n: u64) -> bool
 fn delete_ok(n: u64, waiting: u64, acked: u64, named: u64) -> bool
     ensures { result ≡ test (all n (λ t. when (is (not (has waiting t))) (eq acked named))) }
 {
-    if acked == named {
-        return true;
-    }
-    if 64 < n {
-        return false;
-    }
-    sets::is_within(sets::all_below(n), waiting)
+    acked == named || (n <= 64 && sets::is_within(sets::all_below(n), waiting))
 }
 
 // "its initiator has given its number; no other held message has its name; where a station has handled its delete, the whole set has
@@ -393,13 +343,10 @@ fn all_next(carts: &[u64], set: u64, s: u64, n: u64) -> bool
     requires { (c : ℕ) → has set c ≡ true → HasRow carts.now c }
     ensures { result ≡ test (all 64 (λ c. when (is (has set c)) (eq ((carts_in carts.now).next c s) n))) }
 {
-    let mut rest = set;
-    while 0 < rest {
-        let number = sets::first(rest);
+    for number in sets::members_of(set) {
         if next_by(carts, CartNumber(number), s) != n {
             return false;
         }
-        rest = sets::without_first(rest);
     }
     true
 }
@@ -452,10 +399,7 @@ fn entries_of(
     ensures { result ≡ test (all rows (entry_rule limits (tables stations.now carts.now messages.now) m)) }
 {
     let met = gather_entries(stations, m, rows);
-    if most < met.sets {
-        return false;
-    }
-    if 0 < met.strays {
+    if most < met.sets || 0 < met.strays {
         return false;
     }
     if met.queued == 0 {
@@ -490,13 +434,7 @@ fn entries_ok(stations: &[u64], carts: &[u64], messages: &[u64], rows: u64, held
 fn none_below(set: u64, k: u64) -> bool
     ensures { result ≡ test (all k (λ c. is (not (has set c)))) }
 {
-    if set == 0 {
-        return true;
-    }
-    if sets::first(set) < k {
-        return false;
-    }
-    true
+    set == 0 || k <= sets::first(set)
 }
 
 // Of the first k, every cart in the set has received message n of s: its next number is above. They are walked from the least on.
@@ -504,16 +442,13 @@ pub fn all_past(carts: &[u64], set: u64, k: u64, s: u64, n: u64) -> bool
     requires { k * 19 ≤ length carts.now }
     ensures { result ≡ test (all k (λ c. when (is (has set c)) (lt n ((carts_in carts.now).next c s)))) }
 {
-    let mut rest = set;
-    while 0 < rest {
-        let number = sets::first(rest);
+    for number in sets::members_of(set) {
         if k <= number {
             return true;
         }
         if next_by(carts, CartNumber(number), s) <= n {
             return false;
         }
-        rest = sets::without_first(rest);
     }
     true
 }
@@ -529,13 +464,13 @@ fn copy_named(stations: &[u64], messages: &[u64], m: usize, t: Station) -> bool
 }
 
 // "where the message has come": the named carts that the copy does not have.
-fn missing_at(stations: &[u64], messages: &[u64], m: usize, t: Station) -> u64
-    requires { HasStation stations.now t.0 × HasRoom messages.now m × (m < rooms) }
+fn missing_at(stations: &[u64], messages: &[u64], rows: u64, m: usize, t: Station) -> u64
+    requires { HasStation stations.now t.0 × HasRoom messages.now m × (m < rooms) × (length stations.now ≡ 116 + rows * 116) }
     ensures { result ≡ missing_at (tables stations.now [] messages.now) m t.0 }
 {
     let s = messages::initiator_of(messages, m);
     let n = messages::number_of(messages, m);
-    if expected_by(stations, t, s.0) <= n.0 {
+    if expected_by(stations, rows, t.0, s.0) <= n.0 {
         return 0;
     }
     sets::minus(
@@ -549,18 +484,14 @@ fn stations_of(stations: &[u64]) -> u64
     requires { HasHead stations.now }
     ensures { Few (head_in stations.now).stations result }
 {
-    let n = stations::station_count(stations);
-    if n < 16 {
-        return n;
-    }
-    16
+    stations::station_count(stations).min(16)
 }
 
 // The copies of the message in room m, if it is held, at the stations of the floor. "it has every named cart that has yet to receive it": so
 // all that are missing somewhere have received it, and each is looked at once, not once for each station. Beyond sixteen stations there is
 // no copy, and nothing has come.
-fn copies_of(stations: &[u64], carts: &[u64], messages: &[u64], m: usize) -> bool
-    requires { OnTables stations.now carts.now × HasRoom messages.now m × (m < rooms) }
+fn copies_of(stations: &[u64], carts: &[u64], messages: &[u64], rows: u64, m: usize) -> bool
+    requires { OnTables stations.now carts.now × HasRoom messages.now m × (m < rooms) × (length stations.now ≡ 116 + rows * 116) }
     ensures { result ≡ test (copies_rule (tables stations.now carts.now messages.now) m) }
 {
     if messages::waiting_of(messages, m) == 0 {
@@ -572,7 +503,7 @@ fn copies_of(stations: &[u64], carts: &[u64], messages: &[u64], m: usize) -> boo
         if !copy_named(stations, messages, m, Station(t)) {
             return false;
         }
-        missing = sets::union(missing, missing_at(stations, messages, m, Station(t)));
+        missing = sets::union(missing, missing_at(stations, messages, rows, m, Station(t)));
     }
     let s = messages::initiator_of(messages, m);
     let n = messages::number_of(messages, m);
@@ -580,12 +511,12 @@ fn copies_of(stations: &[u64], carts: &[u64], messages: &[u64], m: usize) -> boo
 }
 
 // The copies of every held message.
-fn copies_ok(stations: &[u64], carts: &[u64], messages: &[u64], held: usize) -> bool
-    requires { OnTables stations.now carts.now × (length messages.now ≡ held * 7) × (held ≤ 32) }
+fn copies_ok(stations: &[u64], carts: &[u64], messages: &[u64], rows: u64, held: usize) -> bool
+    requires { OnTables stations.now carts.now × (length stations.now ≡ 116 + rows * 116) × (length messages.now ≡ held * 7) × (held ≤ 32) }
     ensures { result ≡ test (all held (copies_rule (tables stations.now carts.now messages.now))) }
 {
     for m in 0..held {
-        if !copies_of(stations, carts, messages, m) {
+        if !copies_of(stations, carts, messages, rows, m) {
             return false;
         }
     }
@@ -598,10 +529,7 @@ fn rooms_end(stations: &[u64], t: Station, held: usize) -> bool
     ensures { result ≡ test (rooms_end held stations.now t.0) }
 {
     for m in held..32 {
-        if stations::copy_of(stations, m, t) != 0 {
-            return false;
-        }
-        if stations::queue_of(stations, m, t) != 0 {
+        if stations::copy_of(stations, m, t) != 0 || stations::queue_of(stations, m, t) != 0 {
             return false;
         }
     }
@@ -630,6 +558,7 @@ pub fn tables_pass(stations: &[u64], carts: &[u64], messages: &[u64], bounds: Bo
     let n = bounds.stations;
     let k = bounds.carts;
     let held = bounds.held;
+    // each returns by itself: in a chain of `&&` the proof would have to name flags that the source does not have
     if !counts_ok(stations, bounds) {
         return false;
     }
@@ -657,7 +586,7 @@ pub fn tables_pass(stations: &[u64], carts: &[u64], messages: &[u64], bounds: Bo
     if !entries_ok(stations, carts, messages, n, held) {
         return false;
     }
-    if !copies_ok(stations, carts, messages, held) {
+    if !copies_ok(stations, carts, messages, n, held) {
         return false;
     }
     ends_ok(stations, n, held)

@@ -1,11 +1,7 @@
--- `form_tables::all_next` meets its contract. The invariant: the carts taken out passed. The rest falls with each.
-use Prim.Native.Nat.{◌<◌}
+-- `form_tables::all_next` meets its contract. The invariant: the carts walked over passed.
 use Rattle.carts.specs.View.{carts_in}
 use Rattle.form_tables.proofs.Walks.{next_is, Walked}
 use Rattle.form_tables.proofs.all_next.Given as goal
 
-abbrev pub invariant-loop-rest : goal.invariant-loop-rest
-invariant-loop-rest l = (l.rest < 18446744073709551616) × Walked 64 l.set (next_is (carts_in l.carts).next l.s l.n) l.rest
-
-abbrev pub decreases-loop-rest : goal.decreases-loop-rest
-decreases-loop-rest l = l.rest
+abbrev pub invariant-loop-number : goal.invariant-loop-number
+invariant-loop-number l = Walked 64 l.set (next_is (carts_in l.carts).next l.s l.n) l.number-iterator.left

@@ -1,20 +1,12 @@
 -- `form_tables::are_below` meets its contract.
 use native.Mathlib.Omega.{arith}
-use Rattle.protocol.specs.Claims.{both, lt}
-use Rattle.protocol.proofs.Answers.{yes, no}
+use borrow.Author.Tests.{le-ltb}
+use Rattle.protocol.specs.Claims.{lt}
+use Rattle.form_tables.proofs.Chains.{lt_is, both_yes, both_no}
 use Rattle.form_tables.proofs.are_below.Goals as goal
 
-pub returns-then-n-s : goal.returns-then-n-s
-returns-then-n-s c =
-    let a = c.args in
-    no (both (lt a.s a.n) (lt a.t a.n)) (λ h. omega (arith, h.0))
+pub returns-then-s-n : goal.returns-then-s-n
+returns-then-s-n c = let a = c.args in both_yes (lt a.s a.n) (lt a.t a.n) _ c.if-s-n.true (lt_is a.t a.n)
 
-pub returns-then-n-t : goal.returns-then-n-t
-returns-then-n-t c =
-    let a = c.args in
-    no (both (lt a.s a.n) (lt a.t a.n)) (λ h. omega (arith, h.1))
-
-pub returns : goal.returns
-returns c =
-    let a = c.args in
-    yes (both (lt a.s a.n) (lt a.t a.n)) (omega arith, omega arith)
+pub returns-else-s-n : goal.returns-else-s-n
+returns-else-s-n c = let a = c.args in both_no (lt a.s a.n) (lt a.t a.n) _ (λ h. omega arith) (le-ltb a.s a.n c.if-s-n.false)

@@ -1,6 +1,6 @@
 -- `form_tables::carts_ok` meets its contract. The invariant: the carts passed keep the rule.
 use mathlib.Core.List.{[]}
-use Prim.Native.Nat.{◌-◌, ◌≤◌}
+use Prim.Native.Nat.{◌≤◌}
 use Rattle.protocol.specs.Floor.{limits}
 use Rattle.protocol.specs.Claims.{True, all}
 use Rattle.protocol.specs.Form.{cart_rule}

@@ -40,7 +40,7 @@ returns-then-not-copy_named c =
     (refused (copy_named F a.m l.t) r.result r.ensures (not-true _ (ap not c.if-not-copy_named.true)))
 
 pub missing_at-requires : goal.missing_at-requires
-missing_at-requires c = let p = c.requires in (omega (arith, p.0.whole, p.0.stations, c.stations_of-end.ensures.floor), p.1, p.2)
+missing_at-requires c = let p = c.requires in (omega (arith, p.0.whole, p.0.stations, c.stations_of-end.ensures.floor), p.1, p.2, p.3)
 
 pub loop-t-preserved : goal.loop-t-preserved
 loop-t-preserved c =

@@ -10,7 +10,7 @@ pub loop-m-init : goal.loop-m-init
 loop-m-init c = (omega arith, λ k l. absurd (omega arith))
 
 pub copies_of-requires : goal.copies_of-requires
-copies_of-requires c = (c.requires.0, omega arith, omega arith)
+copies_of-requires c = (c.requires.0, omega arith, omega arith, c.requires.1)
 
 pub returns-then-not-copies_of : goal.returns-then-not-copies_of
 returns-then-not-copies_of c =

@@ -1,5 +1,5 @@
 -- `form_tables::copies_ok` meets its contract. The invariant: the copies of the rooms passed keep the rule.
-use Prim.Native.Nat.{◌-◌, ◌≤◌}
+use Prim.Native.Nat.{◌≤◌}
 use Rattle.protocol.specs.Claims.{True, all}
 use Rattle.form_tables.specs.Tables.{tables, copies_rule}
 use Rattle.form_tables.proofs.copies_ok.Given as goal

@@ -9,6 +9,7 @@ use Rattle.form_tables.specs.Tables.{tables}
 use mathlib.Core.Bool.{not}
 use mathlib.Core.Path.{ap}
 use Rattle.form_tables.proofs.entries_of.Goals as goal
+use Rattle.form_tables.proofs.entries_of.Goals.{then-most-met-via-then-most-met, then-most-met-via-else-most-met+then-met-gt0}
 
 pub gather_entries-met-requires : goal.gather_entries-met-requires
 gather_entries-met-requires c = let p = c.requires in (p.5, p.1, p.6)
@@ -17,13 +18,12 @@ pub returns-then-most-met : goal.returns-then-most-met
 returns-then-most-met c =
     let a = c.args in
     let g = c.gather_entries-met in
-    entries_large a.stations.now a.carts.now a.messages.now a.rows a.m g.result.sets g.result.queued g.result.strays g.ensures c.requires.2 a.most (omega arith) c.requires.3 c.if-most-met.true
-
-pub returns-then-met-gt0 : goal.returns-then-met-gt0
-returns-then-met-gt0 c =
-    let a = c.args in
-    let g = c.gather_entries-met in
-    entries_stray a.stations.now a.carts.now a.messages.now a.rows a.m g.result.sets g.result.queued g.result.strays g.ensures c.requires.2 (omega arith) c.if-met-gt0.true
+    elim c.then-most-met.branch [
+      | then-most-met-via-then-most-met w ↦
+          entries_large a.stations.now a.carts.now a.messages.now a.rows a.m g.result.sets g.result.queued g.result.strays g.ensures c.requires.2 a.most (omega arith) c.requires.3 w.if-most-met.true
+      | then-most-met-via-else-most-met+then-met-gt0 w ↦
+          entries_stray a.stations.now a.carts.now a.messages.now a.rows a.m g.result.sets g.result.queued g.result.strays g.ensures c.requires.2 (omega arith) w.if-met-gt0.true
+    ]
 
 pub returns-then-met-eq0 : goal.returns-then-met-eq0
 returns-then-met-eq0 c =

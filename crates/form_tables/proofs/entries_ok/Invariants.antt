@@ -1,5 +1,5 @@
 -- `form_tables::entries_ok` meets its contract. The invariant: the rooms passed keep the rule at every station.
-use Prim.Native.Nat.{◌-◌, ◌≤◌}
+use Prim.Native.Nat.{◌≤◌}
 use Rattle.protocol.specs.Floor.{limits}
 use Rattle.protocol.specs.Claims.{True, all}
 use Rattle.protocol.specs.Form.{entry_rule}

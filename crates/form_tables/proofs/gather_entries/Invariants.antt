@@ -1,5 +1,5 @@
 -- `form_tables::gather_entries` meets its contract. The invariant: the entries at the stations passed are collected.
-use Prim.Native.Nat.{◌-◌, ◌≤◌}
+use Prim.Native.Nat.{◌≤◌}
 use Rattle.stations.specs.View.{stations_in}
 use Rattle.form_tables.specs.Parts.{Entries}
 use Rattle.form_tables.proofs.gather_entries.Given as goal

@@ -1,7 +1,7 @@
 -- `form_tables::is_alone` meets its contract. The invariant: the rooms passed have another message, or none.
 use mathlib.Core.Bool.{not}
 use mathlib.Core.List.{[]}
-use Prim.Native.Nat.{◌-◌, ◌≤◌}
+use Prim.Native.Nat.{◌≤◌}
 use Rattle.protocol.specs.Floor.{is_message}
 use Rattle.protocol.specs.Claims.{True, all, is}
 use Rattle.form_tables.specs.Tables.{tables}

@@ -1,6 +1,6 @@
 -- `form_tables::locals_of` meets its contract. The invariant: the masks are those of the carts passed.
 use mathlib.Core.Path.{◌≡◌}
-use Prim.Native.Nat.{◌-◌, ◌≤◌}
+use Prim.Native.Nat.{◌≤◌}
 use lib.ListN.{length}
 use Rattle.carts.specs.View.{carts_in}
 use Rattle.form_tables.proofs.Locals.{LocalsTo}

@@ -1,6 +1,6 @@
 -- `form_tables::locals_ok` meets its contract. The invariant: the masks passed are right.
 use mathlib.Core.List.{[]}
-use Prim.Native.Nat.{◌-◌, ◌≤◌}
+use Prim.Native.Nat.{◌≤◌}
 use Rattle.protocol.specs.Floor.{whole_floor}
 use Rattle.protocol.specs.Claims.{True, all, is}
 use Rattle.view.specs.View.{lent, local_right}

@@ -1,6 +1,6 @@
 -- `form_tables::messages_ok` meets its contract. The invariant: the rooms passed keep the rule, each with the rooms before it.
 use mathlib.Core.List.{[]}
-use Prim.Native.Nat.{◌-◌, ◌≤◌}
+use Prim.Native.Nat.{◌≤◌}
 use Rattle.protocol.specs.Claims.{True, all}
 use Rattle.form_tables.specs.Tables.{tables}
 use Rattle.form_tables.specs.Parts.{held_before}

@@ -1,8 +1,7 @@
 -- `form_tables::next_by` meets its contract.
 use mathlib.Core.Path.{sym}
-use native.Mathlib.Omega.{arith}
 use Rattle.carts.proofs.TableLaws.{next_beyond}
 use Rattle.form_tables.proofs.next_by.Goals as goal
 
-pub returns : goal.returns
-returns c = sym (next_beyond c.args.carts.now c.args.number.0 c.args.s (omega arith))
+pub returns-else-s-lt16 : goal.returns-else-s-lt16
+returns-else-s-lt16 c = sym (next_beyond c.args.carts.now c.args.number.0 c.args.s c.if-s-lt16.false)

@@ -1,5 +1,5 @@
 -- `form_tables::places_ok` meets its contract. The invariant: the places passed stand in their own words.
-use Prim.Native.Nat.{◌-◌, ◌≤◌}
+use Prim.Native.Nat.{◌≤◌}
 use Rattle.protocol.specs.Claims.{True, all, is}
 use Rattle.carts.specs.View.{canonical_in}
 use Rattle.form_tables.proofs.places_ok.Given as goal

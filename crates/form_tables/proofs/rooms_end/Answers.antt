@@ -5,6 +5,7 @@ use Rattle.protocol.specs.Claims.{Claim, when, le, eq, both}
 use Rattle.stations.specs.View.{stations_in}
 use Rattle.protocol.proofs.Answers.{one_more, all_yes, all_no}
 use Rattle.form_tables.proofs.rooms_end.Goals as goal
+use Rattle.form_tables.proofs.rooms_end.Goals.{then-copy_of-ne0-via-then-copy_of-ne0, then-copy_of-ne0-via-else-copy_of-ne0+then-queue_of-ne0}
 
 pub loop-m-init : goal.loop-m-init
 loop-m-init c = (omega arith, omega arith, λ k l h. absurd (omega arith))
@@ -17,17 +18,13 @@ returns-then-copy_of-ne0 c =
     let s = c.args in
     let f : ℕ → Claim = λ k. when (le s.held k) (both (eq ((stations_in s.stations.now).copy k s.t.0) 0) (eq ((stations_in s.stations.now).queue k s.t.0) 0)) in
     let a = c.loop-m in
-    all_no 32 f a.m (omega arith) (λ h. c.if-copy_of-ne0.true (c.copy_of.ensures ∙ (h a.invariant.0).0))
+    all_no 32 f a.m (omega arith) (λ h. elim c.then-copy_of-ne0.branch [
+      | then-copy_of-ne0-via-then-copy_of-ne0 w ↦ w.if-copy_of-ne0.true (c.copy_of.ensures ∙ (h a.invariant.0).0)
+      | then-copy_of-ne0-via-else-copy_of-ne0+then-queue_of-ne0 w ↦ w.if-queue_of-ne0.true (w.queue_of.ensures ∙ (h a.invariant.0).1)
+    ])
 
 pub queue_of-requires : goal.queue_of-requires
 queue_of-requires c = (omega arith, omega arith)
-
-pub returns-then-queue_of-ne0 : goal.returns-then-queue_of-ne0
-returns-then-queue_of-ne0 c =
-    let s = c.args in
-    let f : ℕ → Claim = λ k. when (le s.held k) (both (eq ((stations_in s.stations.now).copy k s.t.0) 0) (eq ((stations_in s.stations.now).queue k s.t.0) 0)) in
-    let a = c.loop-m in
-    all_no 32 f a.m (omega arith) (λ h. c.if-queue_of-ne0.true (c.queue_of.ensures ∙ (h a.invariant.0).1))
 
 pub loop-m-preserved : goal.loop-m-preserved
 loop-m-preserved c =

@@ -1,5 +1,5 @@
 -- `form_tables::rooms_end` meets its contract. The invariant: the rooms passed have no copy and no entry.
-use Prim.Native.Nat.{◌-◌, ◌≤◌}
+use Prim.Native.Nat.{◌≤◌}
 use Rattle.protocol.specs.Claims.{True, all, when, le, eq, both}
 use Rattle.stations.specs.View.{stations_in}
 use Rattle.form_tables.proofs.rooms_end.Given as goal

@@ -1,5 +1,5 @@
 -- `form_tables::row_ends` meets its contract. The invariant: the next numbers passed are 0.
-use Prim.Native.Nat.{◌-◌, ◌≤◌}
+use Prim.Native.Nat.{◌≤◌}
 use Rattle.protocol.specs.Claims.{True, all, when, le, eq}
 use Rattle.carts.specs.View.{carts_in}
 use Rattle.form_tables.proofs.row_ends.Given as goal

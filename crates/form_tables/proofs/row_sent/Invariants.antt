@@ -1,5 +1,5 @@
 -- `form_tables::row_sent` meets its contract. The invariant: the next numbers passed are at most what was sent.
-use Prim.Native.Nat.{◌-◌, ◌≤◌}
+use Prim.Native.Nat.{◌≤◌}
 use Rattle.protocol.specs.Claims.{True, all, le}
 use Rattle.stations.specs.View.{stations_in}
 use Rattle.carts.specs.View.{carts_in}

@@ -1,6 +1,6 @@
 -- `form_tables::stations_ok` meets its contract. The invariant: the stations passed keep the rule.
 use mathlib.Core.List.{[]}
-use Prim.Native.Nat.{◌-◌, ◌≤◌}
+use Prim.Native.Nat.{◌≤◌}
 use mathlib.Core.Path.{◌≡◌}
 use Rattle.protocol.specs.Floor.{Limits}
 use Rattle.protocol.specs.Claims.{True, all}

@@ -188,7 +188,7 @@ copies_ok-requires c =
     let s = c.args in
     let counts = passed (counts_rule s.bounds.stations s.bounds.carts (tables s.stations.now [] [])) c.counts_ok.result c.counts_ok.ensures (not-false _ (ap not c.if-not-counts_ok.false)) in
     let on : OnTables s.stations.now s.carts.now = record { rows = s.bounds.stations; whole = p.stations; few = f.few_stations; stations = counts.1.0.1; carts = (let z = counts.1.1.1 in omega (arith, p.carts, z)) } in
-    (on, p.messages, f.few_held)
+    (on, p.stations, p.messages, f.few_held)
 
 pub returns-then-not-copies_ok : goal.returns-then-not-copies_ok
 returns-then-not-copies_ok c =
