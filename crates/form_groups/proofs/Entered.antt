@@ -1,5 +1,5 @@
 -- WHICH CARTS OF A SET HAVE ENTERED, as the code finds out.
-use mathlib.Core.Path.{◌≡◌, refl, sym, ap, ◌∙◌}
+use mathlib.Core.Path.{◌≡◌, sym, ap, ◌∙◌}
 use mathlib.Core.Bool.{Bool, true, false, not}
 use Prim.Native.Nat.{ℕ, ◌^◌, ◌≤◌, ◌<◌}
 use native.Mathlib.Omega.{arith}
@@ -11,26 +11,8 @@ use Rattle.protocol.specs.Claims.{Claim, test, is}
 use Rattle.protocol.proofs.Tests.{clash}
 use Rattle.protocol.proofs.SetLaws.{member_below, zero_below}
 use Rattle.sets.proofs.MaskLaws.{set_of_all}
-use Rattle.ids.specs.declared.Station.{Station}
-use Rattle.carts.specs.declared.Place.{Place}
-use Rattle.carts.specs.declared.Place.TheVariants.{Outside, At, Leaving, Travelling}
-use Rattle.carts.specs.Records.{seen}
 use Rattle.protocol.proofs.Answers.{same_answer}
 use Rattle.form_tables.proofs.Walks.{over}
-
--- THE PLACE that the code met: outside or not
-module _ (p : Place) (q : floor.Place) (met : seen p ≡ q) where
-  pub met_outside : p ≡ Outside → true ≡ not (entered q)
-  met_outside e = rw (sym met, e) refl
-
-  pub met_at : (s : Station) → p ≡ At s → false ≡ not (entered q)
-  met_at s e = rw (sym met, e) refl
-
-  pub met_leaving : (s t : Station) → p ≡ Leaving s t → false ≡ not (entered q)
-  met_leaving s t e = rw (sym met, e) refl
-
-  pub met_travelling : (s t : Station) → p ≡ Travelling s t → false ≡ not (entered q)
-  met_travelling s t e = rw (sym met, e) refl
 
 -- THE WALK over the set
 

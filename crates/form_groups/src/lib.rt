@@ -14,7 +14,6 @@ ghost use Rattle.carts.specs.View.{carts_in};
 ghost use Rattle.form_tables.specs.Tables.{tables};
 ghost use Rattle.form_tables.specs.Parts.{Collects};
 
-use carts::Place;
 use ids::CartNumber;
 
 // "not now entered": one that never was, or went back to the factory. A cart that is leaving or travelling is entered.
@@ -23,12 +22,7 @@ fn is_outside(carts: &[u64], number: CartNumber) -> bool
     ensures { result ≡ not (entered ((carts_in carts.now).place number.0)) }
 {
     let place = carts::place_of(carts, number);
-    match place {
-        Place::Outside => true,
-        Place::At(_) => false,
-        Place::Leaving(_, _) => false,
-        Place::Travelling(_, _) => false,
-    }
+    !form_tables::has_entered(place)
 }
 
 // Every cart of the set has entered. The carts are walked from the least on, and no other is looked at.
@@ -36,13 +30,10 @@ pub fn all_entered(carts: &[u64], set: u64) -> bool
     requires { (c : ℕ) → has set c ≡ true → HasRow carts.now c }
     ensures { result ≡ test (all 64 (λ c. when (is (has set c)) (is (entered ((carts_in carts.now).place c))))) }
 {
-    let mut rest = set;
-    while 0 < rest {
-        let number = sets::first(rest);
+    for number in sets::members_of(set) {
         if is_outside(carts, CartNumber(number)) {
             return false;
         }
-        rest = sets::without_member(rest, number);
     }
     true
 }
@@ -53,10 +44,8 @@ fn grouped_carts(stations: &[u64]) -> u64
     ensures { Collects (head_in stations.now).groups group_count result }
 {
     let mut grouped: u64 = 0;
-    let mut group: u64 = 0;
-    while group < stations::GROUPS {
+    for group in 0..stations::GROUPS {
         grouped = sets::union(grouped, stations::group_of(stations, group));
-        group += 1;
     }
     grouped
 }
@@ -67,8 +56,5 @@ pub fn groups_pass(stations: &[u64], carts: &[u64]) -> bool
     ensures { result ≡ test (all group_count (group_rule limits (tables stations.now carts.now []))) }
 {
     let grouped = grouped_carts(stations);
-    if sets::all_below(stations::cart_count(stations)) < grouped {
-        return false;
-    }
-    all_entered(carts, grouped)
+    grouped <= sets::all_below(stations::cart_count(stations)) && all_entered(carts, grouped)
 }

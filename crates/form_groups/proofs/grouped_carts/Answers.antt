@@ -13,12 +13,6 @@ loop-group-init c = (omega arith, collect_none (head_in c.args.stations.now).gro
 pub group_of-requires : goal.group_of-requires
 group_of-requires c = omega arith
 
-pub overflow_add-group : goal.overflow_add-group
-overflow_add-group c = omega arith
-
-pub loop-group-smaller : goal.loop-group-smaller
-loop-group-smaller c = omega arith
-
 pub loop-group-preserved : goal.loop-group-preserved
 loop-group-preserved c =
     let a = c.args in

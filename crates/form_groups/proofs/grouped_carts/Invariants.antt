@@ -1,5 +1,5 @@
 -- `form_groups::grouped_carts` meets its contract. The invariant: the members of the groups passed are collected.
-use Prim.Native.Nat.{◌-◌, ◌≤◌}
+use Prim.Native.Nat.{◌≤◌}
 use Rattle.protocol.specs.Groups.{group_count}
 use Rattle.stations.specs.View.{head_in}
 use Rattle.form_tables.specs.Parts.{Collects}
@@ -7,6 +7,3 @@ use Rattle.form_groups.proofs.grouped_carts.Given as goal
 
 abbrev pub invariant-loop-group : goal.invariant-loop-group
 invariant-loop-group l = (l.group ≤ group_count) × Collects (head_in l.stations).groups l.group l.grouped
-
-abbrev pub decreases-loop-group : goal.decreases-loop-group
-decreases-loop-group l = group_count - l.group
