@@ -8,6 +8,9 @@ use native.Mathlib.Omega.{arith}
 use lib.Dec.{eqb, ltb}
 use lib.ListN.{length, length-append}
 use borrow.Author.Tests.{eq-eqb, ne_eqb, eqb-true, eqb-false, lt-ltb, le-ltb}
+use mathlib.Core.Option.{none}
+use Rattle.std.specs.Prelude as code
+use Rattle.std.specs.Prelude.{Some, None}
 use Rattle.protocol.specs.Folds.{update2}
 use Rattle.protocol.specs.CartSets.{has, with, without, minus, set_of}
 use Rattle.protocol.specs.Deregister.{in_order}
@@ -27,7 +30,8 @@ use Rattle.lines.specs.Post.{Pushed}
 use Rattle.view.specs.Records.{words_of}
 use Rattle.queue.specs.Rooms.{tables_floor, room_code, room_count}
 use Rattle.queue.specs.Keys.{InKey, KeyedRooms, first_among}
-use Rattle.queue.proofs.HeadLaws.{first_found, first_in_order}
+use Rattle.queue.proofs.Codes.{is_room, is_none}
+use Rattle.queue.proofs.HeadLaws.{IsFirst, first_is, first_in_order}
 use Rattle.wireless.specs.Handed.{hold_none, sent_from, ListSent}
 use Rattle.handoff.specs.Forwarded.{HeldRooms, goes, ordered_rooms, emptied, PushedEach, ListsGone}
 
@@ -214,12 +218,11 @@ module _ (S S₁ M W W₁ : List ℕ) (t among left w : ℕ) (keyed : KeyedRooms
       let d = so.count in
       omega arith
 
-  module _ (m : ℕ) (some : 0 < left) (found : m ≡ room_code (first_among (tables_floor [] M) (has left) 32)) where
+  module _ (m : ℕ) {h : code.Option ℕ} (is_some : h ≡ Some m) (found : h ≡ room_code (first_among (tables_floor [] M) (has left) 32)) where
     pub next_is_lem : Next M left m
     next_is_lem =
         let F = tables_floor [] M in
-        let one = somebody left (ne_eqb left 0 (omega arith)) in
-        let is = first_in_order F (has left) 32 m (first_found F (has left) 32 m one.0 (left_keyed one.0 one.1).0 one.1 found) in
+        let is = first_in_order F (has left) 32 m (is_room (first_among F (has left) 32) m is_some found) in
         let k = left_keyed m is.1.0 in
         record {
           member = is.1.0;
@@ -281,10 +284,12 @@ module _ (S S₁ M W W₁ : List ℕ) (t among left w : ℕ) (keyed : KeyedRooms
         pushed = rw (sym es, sym en, sym acks) sent.lines
 
 -- none is left: all have gone
-pub sending_all : (S S₁ M W W₁ : List ℕ) (t among left w : ℕ) → left ≡ 0 → Sending S S₁ M W W₁ t among left w → ListsGone S S₁ M W W₁ t (has among) w
-sending_all S S₁ M W W₁ t among left w none so =
+pub sending_all : (S S₁ M W W₁ : List ℕ) (t among left w : ℕ) → KeyedRooms M among → {h : code.Option ℕ} → h ≡ None → h ≡ room_code (first_among (tables_floor [] M) (has left) 32)
+    → Sending S S₁ M W W₁ t among left w → ListsGone S S₁ M W W₁ t (has among) w
+sending_all S S₁ M W W₁ t among left w keyed nobody found so =
     let F = tables_floor [] M in
-    let nothing : (k : ℕ) → has left k ≡ false = λ k. ap (λ (x : ℕ). has x k) none ∙ has_zero k in
+    let first : IsFirst F (has left) 32 none = subst (IsFirst F (has left) 32) (is_none (first_among F (has left) 32) nobody found) (first_is F (has left) 32) in
+    let nothing : (k : ℕ) → has left k ≡ false = λ k. by_test (has left k) (λ e. clash (has left k) e (first k (keyed k (so.inside k e)).0)) (λ e. e) in
     let all : ordered_rooms M (has among) ≡ so.gone = so.order ∙ ap (λ (l : List ℕ). so.gone ++ l) (in_order_none F (has left) 32 (λ k l. nothing k)) ∙ append-nil so.gone in
     record {
       stations = so.stations ∙ ap (emptied (stations_in S) t) (fun_ext (λ k. ap (λ (b : Bool). has among k && not b) (nothing k) ∙ and-true (has among k)));

@@ -6,6 +6,9 @@ use Prim.Native.Nat.{ℕ, ◌<◌, ◌≤◌}
 use native.Mathlib.Omega.{arith}
 use lib.Dec.{ltb, eqb}
 use borrow.Author.Tests.{lt-ltb, le-ltb}
+use Rattle.std.specs.Prelude as code
+use Rattle.std.specs.Prelude.{Some, None}
+use Rattle.ids.specs.declared.Station.{Station}
 use Rattle.protocol.specs.CartSets.{has, without}
 use Rattle.protocol.specs.Folds.{update2}
 use Rattle.protocol.proofs.Tests.{and_left, and_second_false, by_eq, on_cond, on_update2}
@@ -15,7 +18,7 @@ use Rattle.stations.specs.View.{Stations, stations_in, with_copy}
 use Rattle.stations.proofs.TableLaws.{expected_beyond}
 use Rattle.messages.specs.View.{Rooms}
 use Rattle.catchup.specs.Naming.{Covers, named_by}
-use Rattle.catchup.proofs.NamingLaws.{by_none}
+use Rattle.catchup.proofs.NamingLaws.{by_initiator, by_none}
 use Rattle.handoff.specs.Struck.{with_copies, is_below, is_passed, struck_copy, struck_in}
 
 module _ (S : Stations) (R : Rooms) (t m x : ℕ) where
@@ -58,13 +61,15 @@ module _ (S : Stations) (R : Rooms) (t : ℕ) (row : List ℕ) (m : ℕ) where
       rw (and_second_false (has (R.waiting m) t) (ltb (R.number m) (S.expected t (R.initiator m)))
       (le-ltb (R.number m) (S.expected t (R.initiator m)) (let y : S.expected t (R.initiator m) ≡ 0 = rw e at z in omega arith)))
 
--- a message that is about none of sixteen initiators' numbers: nothing is struck from its copy
-pub passed_nowhere : (l : List ℕ) (R : Rooms) (t c m i : ℕ) (row : List ℕ) → i ≡ named_by (stations_in l) R t c m → 16 ≤ i
-    → struck_copy (stations_in l) R t c row m ((stations_in l).copy m t) ≡ (stations_in l).copy m t
-passed_nowhere l R t c m i row e h =
-    by_none (stations_in l) R t c m i e h
-    (λ n. not_named (stations_in l) R t row m c ((stations_in l).copy m t) (has ((stations_in l).copy m t) c) refl refl n)
-    (λ q. from_nobody (stations_in l) R t row m c i q (expected_beyond l t i h))
+-- a message that does not name the cart, or is of none of sixteen initiators: nothing is struck from its copy
+module _ (l : List ℕ) (R : Rooms) (t c m : ℕ) (row : List ℕ) {o : code.Option Station} (e : o ≡ named_by (stations_in l) R t c m) where
+  pub passed_nowhere : o ≡ None → struck_copy (stations_in l) R t c row m ((stations_in l).copy m t) ≡ (stations_in l).copy m t
+  passed_nowhere nobody =
+      not_named (stations_in l) R t row m c ((stations_in l).copy m t) (has ((stations_in l).copy m t) c) refl refl (by_none (stations_in l) R t c m e nobody)
+
+  pub passed_none_of_us : (i : Station) → o ≡ Some i → 16 ≤ i.0 → struck_copy (stations_in l) R t c row m ((stations_in l).copy m t) ≡ (stations_in l).copy m t
+  passed_none_of_us i found h =
+      from_nobody (stations_in l) R t row m c i.0 (by_initiator (stations_in l) R t c m i e found).0 (expected_beyond l t i.0 h)
 
 -- ONE COPY WRITTEN, OR NONE
 pub same_entry : (g : ℕ → ℕ → ℕ) (m t : ℕ) → g ≡ update2 g m t (g m t)

@@ -2,8 +2,7 @@
 use mathlib.Core.Path.{◌≡◌, refl, sym, ap, ◌∙◌, fun_ext, subst}
 use mathlib.Core.Bool.{Bool, true, false, cond, ◌&&◌}
 use mathlib.Core.List.{List}
-use mathlib.Core.Option.{some}
-use Prim.Native.Nat.{ℕ, ◌+◌, ◌<◌}
+use Prim.Native.Nat.{ℕ, ◌+◌, ◌<◌, ◌≤◌}
 use native.Mathlib.Numerals.{add-one}
 use native.Mathlib.Omega.{arith}
 use lib.Dec.{eqb, ltb}
@@ -12,9 +11,8 @@ use borrow.Author.Tests.{lt-ltb, le-ltb, eqb-true}
 use Rattle.protocol.specs.Folds.{update2}
 use Rattle.protocol.specs.CartSets.{has, without}
 use Rattle.protocol.proofs.Tests.{by_test, by_lt, and-false, on_update2, eqb_self}
-use Rattle.protocol.proofs.SetLaws.{without_lt}
-use Rattle.sets.specs.Masks.{least}
-use Rattle.sets.proofs.Walk.{Ahead, nothing_between, ahead_start, ahead_next, ahead_skips, ahead_end}
+use Rattle.protocol.proofs.SetLaws.{has_zero, without_lt}
+use Rattle.sets.proofs.Walk.{nothing_between}
 use Rattle.stations.specs.View.{Stations, with_queue, with_copy}
 use Rattle.messages.specs.View.{Rooms}
 use Rattle.catchup.specs.Naming.{Covers}
@@ -48,23 +46,23 @@ module _ (g : ℕ → ℕ → ℕ) (t : ℕ) (f : ℕ → ℕ → ℕ) where
       is_station u q = eqb-true u t q
 
   -- a walk over a set of rooms, where f changes nothing in a room that is not in it: the rooms up to the next one are as good as changed
-  pub changed_skips : {b : ℕ} (set left k m : ℕ) → Ahead b set left k → 0 < left → least 64 left ≡ some m
+  pub changed_skips : (set k m : ℕ) → k ≤ m → ((r : ℕ) → k ≤ r → r < m → has set r ≡ false)
       → ((r : ℕ) → has set r ≡ false → f r (g r t) ≡ g r t) → changed_to k ≡ changed_to m
-  changed_skips set left k m A pos e same =
-      sym (nothing_between changed_to k m (ahead_next _ set left k m A pos e)
-      (λ r l h. ap changed_to (sym (add-one r)) ∙ sym (kept r (same r (ahead_skips _ set left k m A pos e r l h)))))
+  changed_skips set k m next skips same =
+      sym (nothing_between changed_to k m next
+      (λ r l h. ap changed_to (sym (add-one r)) ∙ sym (kept r (same r (skips r l h)))))
     where
       kept : (r : ℕ) → f r (g r t) ≡ g r t → changed_to r ≡ changed_to (r + 1)
       kept r e = same_entry (changed_to r) r t ∙ changed_one r (changed_to r r t) (not_yet r ∙ sym e ∙ ap (f r) (sym (not_yet r)))
 
   -- all rooms are, when nothing is left
-  pub changed_all : {b : ℕ} (set k : ℕ) → Ahead b set 0 k → ((r : ℕ) → has set r ≡ false → f r (g r t) ≡ g r t)
+  pub changed_all : (set k : ℕ) → ((r : ℕ) → k ≤ r → has set r ≡ false) → ((r : ℕ) → has set r ≡ false → f r (g r t) ≡ g r t)
       → changed_to k ≡ (λ m u. cond (eqb u t) (f m (g m u)) (g m u))
-  changed_all set k A same =
+  changed_all set k none same =
       fun_ext (λ m. fun_ext (λ u. by_test (eqb u t)
       (λ q. rw q (by_lt m k
       (λ l. rw (lt-ltb m k l))
-      (λ l. rw (le-ltb m k l) (subst (λ (v : ℕ). g m v ≡ f m (g m v)) (sym (eqb-true u t q)) (sym (same m (ahead_end _ set k A m l)))))))
+      (λ l. rw (le-ltb m k l) (subst (λ (v : ℕ). g m v ≡ f m (g m v)) (sym (eqb-true u t q)) (sym (same m (none m l)))))))
       (λ q. rw q)))
 
 -- no cart leaves an empty set
@@ -90,12 +88,12 @@ module _ (S : Stations) (t c : ℕ) where
   no_entry m e = rw e (without_none c)
 
   module _ (set : ℕ) (empty : (m : ℕ) → has set m ≡ false → S.queue m t ≡ 0) (k : ℕ) {T : Stations} (e : T ≡ unqueued_to k) where
-    pub unqueue_skips : {b : ℕ} (left m : ℕ) → Ahead b set left k → 0 < left → least 64 left ≡ some m → T ≡ unqueued_to m
-    unqueue_skips left m A pos f =
-        e ∙ ap (with_queues S) (changed_skips S.queue t (λ m x. without x c) set left k m A pos f (λ r z. no_entry r (empty r z)))
+    pub unqueue_skips : (m : ℕ) → k ≤ m → ((r : ℕ) → k ≤ r → r < m → has set r ≡ false) → T ≡ unqueued_to m
+    unqueue_skips m next skips =
+        e ∙ ap (with_queues S) (changed_skips S.queue t (λ m x. without x c) set k m next skips (λ r z. no_entry r (empty r z)))
 
-    pub unqueue_all : {b : ℕ} → Ahead b set 0 k → T ≡ unqueued S t c
-    unqueue_all A = e ∙ ap (with_queues S) (changed_all S.queue t (λ m x. without x c) set k A (λ r z. no_entry r (empty r z)))
+    pub unqueue_all : ((r : ℕ) → k ≤ r → has set r ≡ false) → T ≡ unqueued S t c
+    unqueue_all none = e ∙ ap (with_queues S) (changed_all S.queue t (λ m x. without x c) set k none (λ r z. no_entry r (empty r z)))
 
 -- "the cart is struck"
 module _ (S : Stations) (R : Rooms) (t c : ℕ) (row : List ℕ) where
@@ -129,15 +127,15 @@ module _ (S : Stations) (R : Rooms) (t c : ℕ) (row : List ℕ) where
   absent m e = not_named S R t row m c (S.copy m t) (has (S.copy m t) c) refl refl e
 
   module _ (set : ℕ) (others : (m : ℕ) → has set m ≡ false → has (S.copy m t) c ≡ false) (k : ℕ) {T : Stations} (e : T ≡ struck_to k) where
-    pub strike_skips : {b : ℕ} (left m : ℕ) → Ahead b set left k → 0 < left → least 64 left ≡ some m → T ≡ struck_to m
-    strike_skips left m A pos f =
-        e ∙ ap (with_copies S) (changed_skips S.copy t (struck_copy S R t c row) set left k m A pos f (λ r z. absent r (others r z)))
+    pub strike_skips : (m : ℕ) → k ≤ m → ((r : ℕ) → k ≤ r → r < m → has set r ≡ false) → T ≡ struck_to m
+    strike_skips m next skips =
+        e ∙ ap (with_copies S) (changed_skips S.copy t (struck_copy S R t c row) set k m next skips (λ r z. absent r (others r z)))
 
-    pub strike_all : {b : ℕ} → Ahead b set 0 k → T ≡ struck_from S R t c row
-    strike_all A =
+    pub strike_all : ((r : ℕ) → k ≤ r → has set r ≡ false) → T ≡ struck_from S R t c row
+    strike_all none =
         e ∙ ap (with_copies S)
-        (changed_all S.copy t (struck_copy S R t c row) set k A (λ r z. absent r (others r z)) ∙ fun_ext (λ m. fun_ext (λ u. by_both m u)))
+        (changed_all S.copy t (struck_copy S R t c row) set k none (λ r z. absent r (others r z)) ∙ fun_ext (λ m. fun_ext (λ u. by_both m u)))
 
   -- where no copy names the cart
   pub struck_none : {b : ℕ} → Covers b S t c 0 → S ≡ struck_from S R t c row
-  struck_none C = strike_all 0 C.others 0 strike_none (ahead_start _ 0 (omega arith) C.inside)
+  struck_none C = strike_all 0 C.others 0 strike_none (λ r l. has_zero r)

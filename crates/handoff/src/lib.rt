@@ -64,10 +64,8 @@ fn unqueue(stations: &mut [u64], number: CartNumber, station: Station)
     requires { HasStation stations.old station.0 × (number.0 < 64) }
     ensures { Leaves stations.old stations.new (unqueued (stations_in stations.old) station.0 number.0) }
 {
-    let mut left = stations::entries_of(stations, station);
-    while 0 < left {
-        let m = sets::first(left) as usize;
-        left = sets::without_first(left);
+    for m in sets::members_of(stations::entries_of(stations, station)) {
+        let m = m as usize;
         let carts = sets::without_member(stations::queue_of(stations, m, station), number.0);
         stations::put_queue(stations, m, station, carts);
     }
@@ -112,10 +110,7 @@ fn complete_rooms(stations: &[u64], messages: &[u64], station: Station) -> u64
     ensures { result ≡ set_of 32 (goes (stations_in stations.now) (rooms_in messages.now) station.0) }
 {
     let mut complete: u64 = 0;
-    let mut left = stations::rooms_listing(stations, station);
-    while 0 < left {
-        let m = sets::first(left);
-        left = sets::without_first(left);
+    for m in sets::members_of(stations::rooms_listing(stations, station)) {
         complete = sets::with_if(
             complete,
             m,
@@ -139,8 +134,7 @@ fn send_each(
 {
     let mut sent: u64 = 0;
     let mut left = among;
-    while 0 < left {
-        let m = queue::first_among(messages, left);
+    while let Some(m) = queue::first_among(messages, left) {
         left = sets::without_member(left, m as u64);
         let initiator = messages::initiator_of(messages, m);
         let number = messages::number_of(messages, m);
@@ -258,19 +252,19 @@ fn strike(
     ensures covers_2 { Covers (room_count messages.now) (stations_in stations.new) station.0 cart.0 result }
 {
     let mut ahead = naming;
-    let mut left = naming;
-    while 0 < left {
-        let m = sets::first(left) as usize;
-        left = sets::without_first(left);
-        let initiator = catchup::initiator_for(stations, messages, station, cart, m);
-        let s = initiator as usize;
+    for m in sets::members_of(naming) {
+        let m = m as usize;
+        let Some(initiator) = catchup::initiator_for(stations, messages, station, cart, m) else {
+            continue;
+        };
+        let s = initiator.0 as usize;
         if s < products::INITIATORS {
             ahead = strike_from(
                 stations,
                 messages,
                 station,
                 cart,
-                Station(initiator),
+                initiator,
                 row[s],
                 m,
                 ahead,

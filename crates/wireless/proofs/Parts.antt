@@ -1,5 +1,5 @@
 -- The parts of a radio step, store by store.
-use mathlib.Core.Path.{◌≡◌, refl, sym, ap, ap₂, ◌∙◌}
+use mathlib.Core.Path.{◌≡◌, refl, sym, ap, ap₂, subst, ◌∙◌}
 use mathlib.Core.Bool.{true, false}
 use mathlib.Core.List.{List}
 use mathlib.Core.Option.{Option, none, some}
@@ -7,6 +7,8 @@ use Prim.Native.Nat.{ℕ, ◌+◌, ◌-◌, ◌<◌, ◌≤◌}
 use native.Mathlib.Omega.{arith}
 use lib.Dec.{ltb}
 use borrow.Author.Tests.{ltb-true, ne_eqb}
+use Rattle.std.specs.Prelude as code
+use Rattle.std.specs.Prelude.{Some}
 use Rattle.protocol.specs.CartSets.{has, minus, with, without}
 use Rattle.protocol.specs.Floor.{Floor}
 use Rattle.protocol.proofs.SetLaws.{has_zero, has_set_of}
@@ -14,6 +16,7 @@ use Rattle.protocol.proofs.Tests.{and_right, by_lt, by_test, clash, on_update2}
 use Rattle.stations.specs.View.{Stations, stations_in, naming_in, with_copy, with_acks, with_room, with_queue}
 use Rattle.messages.specs.View.{Rooms}
 use Rattle.queue.specs.Rooms.{room_code, room_in}
+use Rattle.queue.proofs.Codes.{is_room}
 use Rattle.catchup.specs.Nearest.{nearest_among, stop_by}
 use Rattle.catchup.specs.Arrival.{is_found, queued_for, place_found}
 use Rattle.catchup.proofs.ClosedForm.{IsNearest, nearest_is, would}
@@ -58,20 +61,16 @@ pub sent_stations : (X X₁ : Stations) (m t a k d : ℕ) → a ≡ X.acks m t �
 sent_stations X X₁ m t a k d e₁ e₂ e₃ e₄ = e₄ ∙ ap (λ (x : ℕ). with_room X m t x 0) (e₃ ∙ ap₂ minus e₂ e₁)
 
 module _ (F : Floor) (t c s x : ℕ) where
-  -- what was found, from its word
-  pub found_is_lem : (h : ℕ) → h ≡ room_code (nearest_among F t c s x 32) → room_in h ≡ nearest_among F t c s x 32
-  found_is_lem h e = ap room_in e ∙ nearest_decoded F t c s x 32 (omega arith)
+  -- what was found
+  pub found_is_lem : {h : code.Option ℕ} → h ≡ room_code (nearest_among F t c s x 32) → room_in h ≡ nearest_among F t c s x 32
+  found_is_lem e = ap room_in e ∙ nearest_decoded F t c s x 32
 
   -- a room that was found names the cart, so it is below any number that no copy is beyond
-  pub found_below : (n h : ℕ) → ((r : ℕ) → n ≤ r → F.copy r t ≡ 0) → h ≡ room_code (nearest_among F t c s x 32) → h < 32 → h < n
-  found_below n h beyond e l = below (nearest_among F t c s x 32) (nearest_is F t c s x 32) e
-    where
-      below : (o : Option ℕ) → IsNearest F t c s x 32 o → h ≡ room_code o → h < n
-      below none q e = absurd (let z : h ≡ 32 = e in omega arith)
-      below (some k) q e =
-          let z : h ≡ k = e in
-          by_lt k n (λ u. omega arith)
-          (λ u. let y = (would F t c s x k q.1.0).in_copy in clash (has 0 c) (rw (beyond k u) at y) (has_zero c))
+  pub found_below : (n : ℕ) {h : code.Option ℕ} → ((r : ℕ) → n ≤ r → F.copy r t ≡ 0) → h ≡ room_code (nearest_among F t c s x 32) → (k : ℕ) → h ≡ Some k → k < n
+  found_below n beyond e k found =
+      let q : IsNearest F t c s x 32 (some k) = subst (IsNearest F t c s x 32) (is_room (nearest_among F t c s x 32) k found e) (nearest_is F t c s x 32) in
+      by_lt k n (λ u. u)
+      (λ u. let y = (would F t c s x k q.1.0).in_copy in clash (has 0 c) (rw (beyond k u) at y) (has_zero c))
 
   -- so no other was found
   pub not_found : (n m : ℕ) → ((r : ℕ) → n ≤ r → F.copy r t ≡ 0) → n ≤ m → is_found (nearest_among F t c s x 32) m ≡ false

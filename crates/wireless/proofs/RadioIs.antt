@@ -210,7 +210,7 @@ module _ {P : Product} (S₂ S' C₁ C' M W T O : List ℕ) (s t c x p q : ℕ) 
   stop_is : catch_up_stop (limits_of P) G t c s ≡ record { upto = u; found = o }
   stop_is =
       let a = stops_there (limits_of P) G S₂ M (lent_agree L₂') t c beyond s (room_code (nearest_among (tables_floor S₂ M) t c s (G.next c s) 32)) refl in
-      sym a ∙ ap (λ (h : Option ℕ). stop_by (tables_floor S₂ M) t s (G.next c s) h) (nearest_decoded (tables_floor S₂ M) t c s (G.next c s) 32 (omega arith))
+      sym a ∙ ap (λ (h : Option ℕ). stop_by (tables_floor S₂ M) t s (G.next c s) h) (nearest_decoded (tables_floor S₂ M) t c s (G.next c s) 32)
       ∙ ap (λ (y : ℕ). stop_by (tables_floor S₂ M) t s y (nearest_among (tables_floor S₂ M) t c s y 32)) next_is_lem
       ∙ same_stop (stop_by (tables_floor S₂ M) t s x o) u o refl (stop_found (tables_floor S₂ M) t s x o)
 

@@ -99,14 +99,8 @@ fn send_acks_if_all(
     1
 }
 
-// What a catch-up came to: "the numbers passed over", and the place of the entry that the cart was put in, 0 if it was put in none.
-#[derive(Clone, Copy)]
-struct Caught {
-    passed: u64,
-    place: u64,
-}
-
-// "Then catch-up for that initiator", from the cart's next number on.
+// "Then catch-up for that initiator", from the cart's next number on: it counts "the numbers passed over", and the place of the entry that the cart was
+// put in, 0 if it was put in none.
 fn catch_up(
     stations: &mut [u64],
     carts: &mut [u64],
@@ -115,7 +109,7 @@ fn catch_up(
     station: Station,
     number: CartNumber,
     next: u64,
-) -> Caught
+) -> Effect
     requires has_station { HasStation stations.old station.0 × HasRooms messages.now × (station.0 < 16) × (initiator.0 < initiators) × (number.0 < 64) × HasRow carts.old number.0 }
     requires by_index { (r : ℕ) → room_count messages.now ≤ r → (stations_in stations.old).copy r station.0 ≡ 0 }
     ensures { CaughtUp stations.old stations.new carts.old carts.new messages.now initiator.0 station.0 number.0 next result.passed result.place }
@@ -123,19 +117,13 @@ fn catch_up(
     // "while the cart's next number is below the expected number": it is not, so no message is looked at.
     if stations::expected_of(stations, station, initiator) <= next {
         carts::put_next(carts, number, initiator, next);
-        return Caught {
-            passed: 0,
-            place: 0,
-        };
+        return reports::nothing();
     }
     let nearest = catchup::nearest_of(stations, messages, station, number, initiator, next);
     let upto = catchup::stop_of(stations, messages, station, initiator, next, nearest);
     carts::put_next(carts, number, initiator, upto);
     let place = catchup::enqueue(stations, messages, station, number, nearest);
-    Caught {
-        passed: upto - next,
-        place,
-    }
+    reports::queueing(upto - next, place)
 }
 
 // "the head message of the queue is handed to the cart, acknowledged in the same step": the message in room m.

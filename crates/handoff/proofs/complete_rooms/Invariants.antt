@@ -13,8 +13,5 @@ use Rattle.handoff.proofs.ForwardLaws.{found_none, found_skips, found_more, not_
 use Rattle.handoff.proofs.complete_rooms.Given as goal
 
 -- the walk has come to room k, and those of the rooms before it whose lists go are found
-abbrev pub invariant-loop-left : goal.invariant-loop-left
-invariant-loop-left l = (k : ℕ) × Ahead 32 (listing_in (stations_in l.stations) l.station.0) l.left k × (l.complete ≡ set_of k (goes (stations_in l.stations) (rooms_in l.messages) l.station.0))
-
-abbrev pub decreases-loop-left : goal.decreases-loop-left
-decreases-loop-left l = l.left
+abbrev pub invariant-loop-m : goal.invariant-loop-m
+invariant-loop-m l = (k : ℕ) × Ahead 32 (listing_in (stations_in l.stations) l.station.0) l.m-iterator.left k × (l.complete ≡ set_of k (goes (stations_in l.stations) (rooms_in l.messages) l.station.0))

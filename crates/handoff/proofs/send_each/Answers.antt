@@ -11,8 +11,8 @@ loop-left-init c =
     let a = c.args in
     sending_none a.stations.now a.messages.now a.lines.now a.station.0 a.among (omega arith)
 
-pub first_among-m-requires : goal.first_among-m-requires
-first_among-m-requires c =
+pub first_among-requires : goal.first_among-requires
+first_among-requires c =
     let a = c.args in
     let l = c.loop-left in
     left_keyed a.stations.now _ a.messages.now a.lines.now _ a.station.0 a.among l.left l.sent c.requires.has_station.2 l.invariant
@@ -21,34 +21,34 @@ pub without_member-left-requires : goal.without_member-left-requires
 without_member-left-requires c =
     let a = c.args in
     let l = c.loop-left in
-    let f = c.first_among-m in
-    let n = next_is_lem a.stations.now _ a.messages.now a.lines.now _ a.station.0 a.among l.left l.sent c.requires.has_station.2 l.invariant f.result (omega arith) f.ensures in
+    let f = c.first_among in
+    let n = next_is_lem a.stations.now _ a.messages.now a.lines.now _ a.station.0 a.among l.left l.sent c.requires.has_station.2 l.invariant c.in-Some.m c.in-Some.is f.ensures in
     omega (arith, n.inside)
 
 pub initiator_of-initiator-requires : goal.initiator_of-initiator-requires
 initiator_of-initiator-requires c =
     let a = c.args in
     let l = c.loop-left in
-    let f = c.first_among-m in
-    (next_is_lem a.stations.now _ a.messages.now a.lines.now _ a.station.0 a.among l.left l.sent c.requires.has_station.2 l.invariant f.result (omega arith) f.ensures).there
+    let f = c.first_among in
+    (next_is_lem a.stations.now _ a.messages.now a.lines.now _ a.station.0 a.among l.left l.sent c.requires.has_station.2 l.invariant c.in-Some.m c.in-Some.is f.ensures).there
 
 pub number_of-number-requires : goal.number_of-number-requires
 number_of-number-requires c =
     let a = c.args in
     let l = c.loop-left in
-    let f = c.first_among-m in
-    (next_is_lem a.stations.now _ a.messages.now a.lines.now _ a.station.0 a.among l.left l.sent c.requires.has_station.2 l.invariant f.result (omega arith) f.ensures).there
+    let f = c.first_among in
+    (next_is_lem a.stations.now _ a.messages.now a.lines.now _ a.station.0 a.among l.left l.sent c.requires.has_station.2 l.invariant c.in-Some.m c.in-Some.is f.ensures).there
 
 pub send_acks-requires : goal.send_acks-requires
 send_acks-requires c =
     let a = c.args in
     let p = c.requires in
     let l = c.loop-left in
-    let f = c.first_among-m in
+    let f = c.first_among in
     let i = c.initiator_of-initiator.ensures in
     let x = c.number_of-number.ensures in
-    let n = next_is_lem a.stations.now _ a.messages.now a.lines.now _ a.station.0 a.among l.left l.sent p.has_station.2 l.invariant f.result (omega arith) f.ensures in
-    let fits = next_fits a.stations.now _ a.messages.now a.lines.now _ a.station.0 a.among l.left l.sent p.has_station.2 l.invariant f.result (omega arith) f.ensures p.lines_value.0 p.lines_value.1 in
+    let n = next_is_lem a.stations.now _ a.messages.now a.lines.now _ a.station.0 a.among l.left l.sent p.has_station.2 l.invariant c.in-Some.m c.in-Some.is f.ensures in
+    let fits = next_fits a.stations.now _ a.messages.now a.lines.now _ a.station.0 a.among l.left l.sent p.has_station.2 l.invariant c.in-Some.m c.in-Some.is f.ensures p.lines_value.0 p.lines_value.1 in
     record {
       has_station = (omega (arith, p.has_station.0, l.invariant.words), p.has_station.1, n.inside, omega (arith, i, n.key.1), omega (arith, x, n.key.0));
       lines_value = fits;
@@ -61,25 +61,16 @@ overflow_add-sent c =
     let few = few_gone a.stations.now _ a.messages.now a.lines.now _ a.station.0 a.among l.left l.sent c.requires.has_station.2 l.invariant in
     omega (arith, few)
 
-pub loop-left-smaller : goal.loop-left-smaller
-loop-left-smaller c =
-    let a = c.args in
-    let l = c.loop-left in
-    let f = c.first_among-m in
-    let w = c.without_member-left.ensures in
-    let n = next_is_lem a.stations.now _ a.messages.now a.lines.now _ a.station.0 a.among l.left l.sent c.requires.has_station.2 l.invariant f.result (omega arith) f.ensures in
-    omega (arith, w, n.less)
-
 pub loop-left-preserved : goal.loop-left-preserved
 loop-left-preserved c =
     let a = c.args in
     let l = c.loop-left in
-    let f = c.first_among-m in
+    let f = c.first_among in
     let w = c.without_member-left in
     let i = c.initiator_of-initiator in
     let x = c.number_of-number in
     let s = c.send_acks in
-    sending_more a.stations.now _ a.messages.now a.lines.now _ a.station.0 a.among l.left l.sent c.requires.has_station.2 l.invariant f.result (omega arith) f.ensures
+    sending_more a.stations.now _ a.messages.now a.lines.now _ a.station.0 a.among l.left l.sent c.requires.has_station.2 l.invariant c.in-Some.m c.in-Some.is f.ensures
     _ _ i.result.0 x.result.0 w.result w.ensures i.ensures x.ensures s.ensures
 
 pub shape_of-lines : goal.shape_of-lines
@@ -92,5 +83,4 @@ pub returns : goal.returns
 returns c =
     let a = c.args in
     let l = c.loop-left in
-    let none : l.left ≡ 0 = omega arith in
-    sending_all a.stations.now _ a.messages.now a.lines.now _ a.station.0 a.among l.left l.sent none l.invariant
+    sending_all a.stations.now _ a.messages.now a.lines.now _ a.station.0 a.among l.left l.sent c.requires.has_station.2 (search rules) c.first_among.ensures l.invariant

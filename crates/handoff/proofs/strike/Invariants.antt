@@ -15,14 +15,11 @@ use Rattle.handoff.proofs.RoomByRoom.{struck_to, strike_none, strike_by, strike_
 use Rattle.handoff.proofs.strike.Given as goal
 
 -- the walk over the rooms that may name the cart has come to room k, and the cart is struck in the rooms before it; those ahead may name it still
-abbrev pub invariant-loop-left : goal.invariant-loop-left
-invariant-loop-left l =
+abbrev pub invariant-loop-m : goal.invariant-loop-m
+invariant-loop-m l =
     (k : ℕ)
-    × Ahead (room_count l.messages) l.naming l.left k
+    × Ahead (room_count l.messages) l.naming l.m-iterator.left k
     × (length l.stations ≡ length l.initial.stations)
     × (head_in l.stations ≡ head_in l.initial.stations)
     × (stations_in l.stations ≡ struck_to (stations_in l.initial.stations) (rooms_in l.messages) l.station.0 l.cart.0 l.row k)
     × Covers (room_count l.messages) (stations_in l.stations) l.station.0 l.cart.0 l.ahead
-
-abbrev pub decreases-loop-left : goal.decreases-loop-left
-decreases-loop-left l = l.left

@@ -1,5 +1,5 @@
 -- `wireless::catch_up` meets its contract.
-use mathlib.Core.Path.{refl, ap, ◌∙◌}
+use mathlib.Core.Path.{◌≡◌, refl, ap, ◌∙◌}
 use mathlib.Core.Option.{Option}
 use Prim.Native.Nat.{ℕ, ◌-◌, ◌≤◌}
 use native.Mathlib.Omega.{arith}
@@ -7,10 +7,10 @@ use Rattle.stations.specs.View.{stations_in}
 use Rattle.carts.specs.View.{carts_in, with_next}
 use Rattle.messages.specs.View.{rooms_in}
 use Rattle.queue.specs.Rooms.{tables_floor, room_count}
-use Rattle.catchup.specs.Nearest.{stop_by}
+use Rattle.reports.specs.declared.Effect.{Effect}
+use Rattle.catchup.specs.Nearest.{nearest_among, stop_by}
 use Rattle.catchup.specs.Arrival.{is_found, queued_for, place_found}
 use Rattle.wireless.proofs.Parts.{naming_below, found_is_lem, found_below, no_fall, stays, none_queued, none_placed}
-use borrow.Author.Rules.{rules}
 use Rattle.wireless.proofs.catch_up.Goals as goal
 
 -- the next number is not below the expected one
@@ -30,8 +30,8 @@ returns-then-expected_of-next c =
       carts = put.carts_after ∙ ap (with_next (carts_in a.carts.now) a.number.0 a.initiator.0) upto;
       canonical = put.carts_unchanged;
       rows = put.carts_len_unchanged;
-      passed = omega (arith, upto);
-      place = none_placed F a.station.0 a.number.0 a.initiator.0 a.next (stations_in a.stations.now) (rooms_in a.messages.now) (room_count a.messages.now) low;
+      passed = ap (λ (x : Effect). x.passed) c.nothing.ensures ∙ (let z : 0 ≡ (stop_by F a.station.0 a.initiator.0 a.next (nearest_among F a.station.0 a.number.0 a.initiator.0 a.next 32)).upto - a.next = omega (arith, upto) in z);
+      place = ap (λ (x : Effect). x.place) c.nothing.ensures ∙ none_placed F a.station.0 a.number.0 a.initiator.0 a.next (stations_in a.stations.now) (rooms_in a.messages.now) (room_count a.messages.now) low;
     }
 
 pub nearest_of-nearest-requires : goal.nearest_of-nearest-requires
@@ -49,7 +49,7 @@ stop_of-upto-requires c =
     let p = c.requires in
     let n = c.nearest_of-nearest in
     let F = tables_floor a.stations.now a.messages.now in
-    (p.has_station.0, p.has_station.1, p.has_station.3, found_below F a.station.0 a.number.0 a.initiator.0 a.next (room_count a.messages.now) n.result p.by_index n.ensures)
+    (p.has_station.0, p.has_station.1, p.has_station.3, found_below F a.station.0 a.number.0 a.initiator.0 a.next (room_count a.messages.now) p.by_index n.ensures)
 
 pub enqueue-place-requires : goal.enqueue-place-requires
 enqueue-place-requires c =
@@ -57,14 +57,14 @@ enqueue-place-requires c =
     let p = c.requires in
     let n = c.nearest_of-nearest in
     let F = tables_floor a.stations.now a.messages.now in
-    (p.has_station.0, p.has_station.1, p.has_station.4, found_below F a.station.0 a.number.0 a.initiator.0 a.next (room_count a.messages.now) n.result p.by_index n.ensures)
+    (p.has_station.0, p.has_station.1, p.has_station.4, found_below F a.station.0 a.number.0 a.initiator.0 a.next (room_count a.messages.now) p.by_index n.ensures)
 
-pub overflow_sub-result : goal.overflow_sub-result
-overflow_sub-result c =
+pub overflow_sub-upto : goal.overflow_sub-upto
+overflow_sub-upto c =
     let a = c.args in
     let F = tables_floor a.stations.now a.messages.now in
     let n = c.nearest_of-nearest in
-    let found = found_is_lem F a.station.0 a.number.0 a.initiator.0 a.next n.result n.ensures in
+    let found = found_is_lem F a.station.0 a.number.0 a.initiator.0 a.next n.ensures in
     let upto = c.stop_of-upto.ensures ∙ ap (λ (o : Option ℕ). (stop_by F a.station.0 a.initiator.0 a.next o).upto) found in
     omega (arith, upto, no_fall F a.station.0 a.number.0 a.initiator.0 a.next)
 
@@ -73,7 +73,7 @@ returns c =
     let a = c.args in
     let F = tables_floor a.stations.now a.messages.now in
     let n = c.nearest_of-nearest in
-    let found = found_is_lem F a.station.0 a.number.0 a.initiator.0 a.next n.result n.ensures in
+    let found = found_is_lem F a.station.0 a.number.0 a.initiator.0 a.next n.ensures in
     let upto = c.stop_of-upto.ensures ∙ ap (λ (o : Option ℕ). (stop_by F a.station.0 a.initiator.0 a.next o).upto) found in
     let raised = c.put_next-2.ensures in
     let queued = c.enqueue-place.ensures in
@@ -84,6 +84,6 @@ returns c =
       carts = raised.carts_after ∙ ap (with_next (carts_in a.carts.now) a.number.0 a.initiator.0) upto;
       canonical = raised.carts_unchanged;
       rows = raised.carts_len_unchanged;
-      passed = ap (λ (y : ℕ). y - a.next) upto;
-      place = queued.value ∙ ap (λ (o : Option ℕ). place_found (stations_in c.enqueue-place.new.stations) (rooms_in a.messages.now) a.station.0 (room_count a.messages.now) o) found;
+      passed = ap (λ (x : Effect). x.passed) c.queueing.ensures ∙ ap (λ (y : ℕ). y - a.next) upto;
+      place = ap (λ (x : Effect). x.place) c.queueing.ensures ∙ queued.value ∙ ap (λ (o : Option ℕ). place_found (stations_in c.enqueue-place.new.stations) (rooms_in a.messages.now) a.station.0 (room_count a.messages.now) o) found;
     }

@@ -1,7 +1,6 @@
 -- `wireless::hand_over` meets its contract.
 use mathlib.Core.Path.{sym, ap, ◌∙◌}
 use native.Mathlib.Omega.{arith}
-use borrow.Author.Rules.{rules}
 use Rattle.stations.specs.View.{Stations}
 use Rattle.wireless.specs.Handed.{hold_none}
 use Rattle.queue.specs.Rooms.{room_count}

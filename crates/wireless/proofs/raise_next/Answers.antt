@@ -4,7 +4,6 @@ use native.Mathlib.Omega.{arith}
 use Rattle.carts.specs.View.{carts_in, with_next}
 use Rattle.carts.proofs.TableLaws.{next_beyond}
 use Rattle.carts.proofs.StepLaws.{receive_entry}
-use borrow.Author.Rules.{rules}
 use Rattle.wireless.proofs.raise_next.Goals as goal
 
 pub returns : goal.returns

@@ -3,7 +3,6 @@ use mathlib.Core.Path.{ap, sym, ◌∙◌}
 use Rattle.stations.specs.View.{stations_in}
 use Rattle.carts.specs.View.{carts_in, with_next}
 use Rattle.wireless.proofs.Parts.{received_stations}
-use borrow.Author.Rules.{rules}
 use Rattle.wireless.proofs.receive.Goals as goal
 
 pub raise_next-requires : goal.raise_next-requires

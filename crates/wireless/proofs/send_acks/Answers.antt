@@ -6,7 +6,6 @@ use Rattle.lines.specs.declared.Record as word
 use Rattle.lines.specs.Post.{Pushed}
 use Rattle.view.specs.Records.{words_of}
 use Rattle.wireless.proofs.Parts.{sent_stations}
-use borrow.Author.Rules.{rules}
 use Rattle.wireless.proofs.send_acks.Goals as goal
 
 pub returns : goal.returns

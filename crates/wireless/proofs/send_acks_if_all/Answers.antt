@@ -4,7 +4,6 @@ use borrow.Author.Tests.{not-true, not-false}
 use Rattle.protocol.proofs.Tests.{clash}
 use Rattle.stations.specs.View.{stations_in}
 use Rattle.wireless.specs.Handed.{hold_none}
-use borrow.Author.Rules.{rules}
 use mathlib.Core.Bool.{not}
 use mathlib.Core.Path.{ap}
 use Rattle.wireless.proofs.send_acks_if_all.Goals as goal
