@@ -28,7 +28,7 @@ use Rattle.view.specs.View.{Lent, lent, floor_in}
 use Rattle.view.proofs.Standing.{Standing, standing}
 use Rattle.queue.specs.Rooms.{room_count, HasRooms}
 use Rattle.wired_records.specs.Handled.{Buffered, Deleted, Acknowledged}
-use Rattle.wired_records.proofs.Head.{line_head, some_kind}
+use Rattle.wired_records.proofs.Head.{line_head}
 use Rattle.wired_records.proofs.Asks as asks
 use Rattle.wired_records.proofs.MulticastIs.{multicast_is, multicast_report}
 use Rattle.wired_records.proofs.AckListIs.{ack_list_is, ack_list_report}
@@ -83,12 +83,7 @@ module _ (P : Product) (S C M W W₁ T O : List ℕ) (i j : ℕ) (said : word.Re
   meets L' kind x f g same counted floor report =
       meets_counted L L' (wire i j) 3 kind x f g counted (meets_done L (wire i j) L' _ same passes floor (sym report))
 
-  -- A MULTICAST: what is no ack list, no delete and no hand-off record; x is the number that the code read
-  pub is_multicast_lem : kind_of said.0 ≤ 3 → (kind_of said.0 ≡ 2 → ⊥) → (kind_of said.0 ≡ 3 → ⊥) → kind_of said.0 ≡ 1
-  is_multicast_lem few two three =
-      let none = some_kind L X i j off.from off.to said rest off.top in
-      omega arith
-
+  -- A MULTICAST; x is the number that the code read
   pub multicast_asks : kind_of said.0 ≡ 1
       → (HasStation S j × (i < 16) × ((stations_in S).expected j i < 4294967296)) × (((c : ℕ) → has ((stations_in S).local j) c ≡ true → HasRow C c) × HasRoom M m × (m < 32) × (n < 4294967296) × HasRooms M)
   multicast_asks k = asks.multicast_asks S C M W W₁ T O X i j off.from off.to said rest off.top off.popped k

@@ -16,6 +16,7 @@ ghost use Rattle.event_wire.specs.Off.{TakenOff, IsOff};
 use event_answers::{Answer, Outcome};
 use ids::{CartNumber, MessageNumber, Station};
 use lines::Record;
+use view::Kind;
 
 // The refusal of a wire event, 8 or 15, or 0.
 fn wire_refusal(stations: &[u64], lines: &[u64], from: Station, to: Station) -> u64
@@ -52,22 +53,22 @@ fn handle(
     ensures { (P : Product) (W T O : List ℕ) → TakenOff P stations.old carts.old messages.old W lines.old T O from.0 to.0 said → Met (lent P stations.old carts.old messages.old W T O) (lent P stations.new carts.new messages.new lines.new T O) (wire from.0 to.0) (answer_in result []) }
 {
     let kind = view::kind_of(said);
-    if kind <= view::DELETE {
-        let number = MessageNumber(view::number_of(said));
-        if kind == view::ACK_LIST {
-            let n = stations::station_count(stations);
-            let effect = wired_records::on_ack_list(messages, lines, said, to, n);
-            return Answer::Accepted(Outcome::Acknowledged(number), effect);
-        }
-        if kind == view::DELETE {
-            let effect = wired_records::on_delete(messages, said, to);
-            return Answer::Accepted(Outcome::Deleted(number), effect);
-        }
+    let number = MessageNumber(view::number_of(said));
+    if kind == Some(Kind::AckList) {
+        let n = stations::station_count(stations);
+        let effect = wired_records::on_ack_list(messages, lines, said, to, n);
+        return Answer::Accepted(Outcome::Acknowledged(number), effect);
+    }
+    if kind == Some(Kind::Delete) {
+        let effect = wired_records::on_delete(messages, said, to);
+        return Answer::Accepted(Outcome::Deleted(number), effect);
+    }
+    if kind == Some(Kind::Multicast) {
         let effect = wired_records::on_multicast(stations, carts, messages, said, from, to);
         return Answer::Accepted(Outcome::Buffered(number), effect);
     }
     let cart = CartNumber(view::index_of(said));
-    if kind == view::DEREGISTER {
+    if kind == Some(Kind::Deregister) {
         let effect = handoff::on_deregister(stations, carts, messages, lines, cart, to, from);
         return Answer::Accepted(Outcome::Deregistered(cart), effect);
     }

@@ -14,6 +14,11 @@ use Rattle.lines.specs.Words.{head_of, length_of, next_of}
 use Rattle.lines.specs.Lines.{record_of, records_from}
 use Rattle.lines.proofs.Visit.{line_from, from_none, from_some}
 use Rattle.messages.specs.View.{Rooms}
+use Rattle.std.specs.Prelude.{Some, None}
+use Rattle.view.specs.Kinds.{kind_said}
+use Rattle.view.specs.declared.Kind.{Kind}
+use Rattle.view.specs.declared.Kind.TheVariants.{Multicast, AckList, Delete, Deregister, Register}
+use Rattle.view.proofs.KindsSaid.{said_is, said_none}
 use Rattle.view.specs.Records.{kind_of, index_of, number_of, is_in}
 use Rattle.form_lines.specs.declared.Way.{Way}
 use Rattle.form_lines.specs.Said.{Said, a_multicast, an_ack_list, a_delete, a_deregister, a_register, unknown, said, said_on}
@@ -46,32 +51,33 @@ counts_on w a b m n seen e h =
     rw q (ap (λ (x : ℕ). noted_so w.ok x w.gone w.found seen) z)
 
 -- WHICH RECORD
-module _ (r : word.Record) (kind index number : ℕ) (k : kind ≡ kind_of r.0) (x : index ≡ index_of r.0) (n : number ≡ number_of r.0) where
-  pub says_multicast : kind ≡ 1 → said r ≡ a_multicast index number
+module _ (r : word.Record) (kind : Kind) (index number : ℕ) (k : Some kind ≡ kind_said (kind_of r.0)) (x : index ≡ index_of r.0) (n : number ≡ number_of r.0) where
+  pub says_multicast : kind ≡ Multicast → said r ≡ a_multicast index number
   unfolding said
-  says_multicast h = let z : kind_of r.0 ≡ 1 = sym k ∙ h in rw z (ap₂ a_multicast (sym x) (sym n))
+  says_multicast h = let z : kind_of r.0 ≡ 1 = said_is _ Multicast (sym k ∙ ap Some h) in rw z (ap₂ a_multicast (sym x) (sym n))
 
-  pub says_ack_list : kind ≡ 2 → said r ≡ an_ack_list index number r.1
+  pub says_ack_list : kind ≡ AckList → said r ≡ an_ack_list index number r.1
   unfolding said
-  says_ack_list h = let z : kind_of r.0 ≡ 2 = sym k ∙ h in rw z (ap₂ (λ (a b : ℕ). an_ack_list a b r.1) (sym x) (sym n))
+  says_ack_list h = let z : kind_of r.0 ≡ 2 = said_is _ AckList (sym k ∙ ap Some h) in rw z (ap₂ (λ (a b : ℕ). an_ack_list a b r.1) (sym x) (sym n))
 
-  pub says_delete : kind ≡ 3 → said r ≡ a_delete index number
+  pub says_delete : kind ≡ Delete → said r ≡ a_delete index number
   unfolding said
-  says_delete h = let z : kind_of r.0 ≡ 3 = sym k ∙ h in rw z (ap₂ a_delete (sym x) (sym n))
+  says_delete h = let z : kind_of r.0 ≡ 3 = said_is _ Delete (sym k ∙ ap Some h) in rw z (ap₂ a_delete (sym x) (sym n))
 
-  pub says_deregister : kind ≡ 4 → said r ≡ a_deregister index
+  pub says_deregister : kind ≡ Deregister → said r ≡ a_deregister index
   unfolding said
-  says_deregister h = let z : kind_of r.0 ≡ 4 = sym k ∙ h in rw z (ap a_deregister (sym x))
+  says_deregister h = let z : kind_of r.0 ≡ 4 = said_is _ Deregister (sym k ∙ ap Some h) in rw z (ap a_deregister (sym x))
 
-  pub says_register : kind ≡ 5 → said r ≡ a_register index
+  pub says_register : kind ≡ Register → said r ≡ a_register index
   unfolding said
-  says_register h = let z : kind_of r.0 ≡ 5 = sym k ∙ h in rw z (ap a_register (sym x))
+  says_register h = let z : kind_of r.0 ≡ 5 = said_is _ Register (sym k ∙ ap Some h) in rw z (ap a_register (sym x))
 
-  pub says_nothing : (kind ≡ 1 → ⊥) → (kind ≡ 2 → ⊥) → (kind ≡ 3 → ⊥) → (kind ≡ 4 → ⊥) → (kind ≡ 5 → ⊥) → said r ≡ unknown index
-  unfolding said
-  says_nothing a b c d e =
-      let off : (t : ℕ) → (kind ≡ t → ⊥) → eqb (kind_of r.0) t ≡ false = λ t q. ne_eqb (kind_of r.0) t (λ p. q (k ∙ p)) in
-      rw (off 1 a, off 2 b, off 3 c, off 4 d, off 5 e) (ap unknown (sym x))
+pub says_nothing : (r : word.Record) → None ≡ kind_said (kind_of r.0) → said r ≡ unknown (index_of r.0)
+unfolding said
+says_nothing r h =
+    let none = said_none (kind_of r.0) (sym h) in
+    let off : (t : ℕ) → (kind_of r.0 ≡ t → ⊥) → eqb (kind_of r.0) t ≡ false = λ t q. ne_eqb (kind_of r.0) t q in
+    rw (off 1 none.0, off 2 none.1, off 3 none.2, off 4 none.3, off 5 none.4) refl
 
 -- the record that was told
 pub told : (b : Bool) (s t : Noted) (q q' : Said) → q' ≡ q → t ≡ outcome (b && fresh s q) s q → t ≡ outcome (b && fresh s q') s q'

@@ -25,6 +25,7 @@ ghost use Rattle.form_lines.specs.Ways.{met_of, outcome, Inside, WholeRooms, Who
 use carts::Place;
 use ids::{CartNumber, Station};
 use lines::Record;
+use view::Kind;
 
 // Both are yes.
 fn both(a: bool, b: bool) -> bool
@@ -171,16 +172,17 @@ fn is_right(
     requires { WholeRooms messages.now × (k * 19 ≤ length carts.now) × (rows_at ≤ length lines.now) × (k ≤ 64) × (j < 16) }
     ensures { (n : ℕ) → result ≡ right n k (carts_in carts.now) (rooms_in messages.now) (registers_in lines.now) i j (said r) }
 {
-    let kind = view::kind_of(r);
+    let Some(kind) = view::kind_of(r) else {
+        return false;
+    };
     let index = view::index_of(r);
     let number = view::number_of(r);
     match kind {
-        view::MULTICAST => multicast_right(messages, i, j, index, number),
-        view::ACK_LIST => ack_list_right(messages, k, j, index, number, r.1),
-        view::DELETE => delete_right(messages, i, j, index, number),
-        view::DEREGISTER => deregister_right(carts, k, i, j, index),
-        view::REGISTER => register_right(carts, lines, k, i, j, index),
-        _ => false,
+        Kind::Multicast => multicast_right(messages, i, j, index, number),
+        Kind::AckList => ack_list_right(messages, k, j, index, number, r.1),
+        Kind::Delete => delete_right(messages, i, j, index, number),
+        Kind::Deregister => deregister_right(carts, k, i, j, index),
+        Kind::Register => register_right(carts, lines, k, i, j, index),
     }
 }
 
@@ -288,16 +290,17 @@ fn take(masks: &mut [u64], way: Way, right: bool, r: Record) -> Way
     ensures masks_after { met_of result masks.new ≡ outcome (right && fresh (met_of way masks.old) (said r)) (met_of way masks.old) (said r) }
     ensures masks_len_unchanged { length masks.new ≡ length masks.old }
 {
-    let kind = view::kind_of(r);
+    let Some(kind) = view::kind_of(r) else {
+        return failed(way);
+    };
     let index = view::index_of(r);
     let number = view::number_of(r);
     match kind {
-        view::MULTICAST => note_multicast(way, right, index, number),
-        view::ACK_LIST => note_ack_list(masks, way, right, index, r.1),
-        view::DELETE => note_delete(way, right, index, number),
-        view::DEREGISTER => note_handoff(way, right, index),
-        view::REGISTER => note_handoff(way, right, index),
-        _ => failed(way),
+        Kind::Multicast => note_multicast(way, right, index, number),
+        Kind::AckList => note_ack_list(masks, way, right, index, r.1),
+        Kind::Delete => note_delete(way, right, index, number),
+        Kind::Deregister => note_handoff(way, right, index),
+        Kind::Register => note_handoff(way, right, index),
     }
 }
 

@@ -1,3 +1,4 @@
+pub mod KindsSaid
 pub mod LinesView
 pub mod Laid
 pub mod Lengths

@@ -7,7 +7,6 @@ use Rattle.event_answers.proofs.Meets.{meets_no}
 use Rattle.event_answers.proofs.Broken.{broken_wire}
 use Rattle.event_answers.proofs.Readies.{has_head, started_passes, unstarted_breaks}
 use Rattle.event_wire.proofs.HeadTaken.{checks_asks, head_asks, taken_off_lem, is_off}
-use borrow.Author.Rules.{rules}
 use mathlib.Core.Bool.{not}
 use mathlib.Core.Path.{ap}
 use Rattle.event_wire.proofs.wire.Goals as goal

@@ -2,7 +2,6 @@
 use native.Mathlib.Omega.{arith}
 use mathlib.Core.Path.{sym, ◌∙◌}
 use Rattle.event_wire.proofs.WireChecks.{wire_no_from, wire_no_to, wire_empty, wire_passes}
-use borrow.Author.Rules.{rules}
 use Rattle.event_wire.proofs.wire_refusal.Goals as goal
 
 pub returns-then-n-from : goal.returns-then-n-from
