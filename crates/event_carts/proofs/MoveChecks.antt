@@ -1,15 +1,13 @@
 -- THE CHECKS OF A MOVE, down the table, on the tables of the stations (S) and of the carts (C), whatever the other parts (M, W, T, O) are.
-use mathlib.Core.Path.{◌≡◌, refl, sym, ap, ◌∙◌}
+use mathlib.Core.Path.{◌≡◌, refl, sym}
 use mathlib.Core.Bool.{false, not}
 use mathlib.Core.List.{List, [], ◌∷◌}
 use Prim.{tt}
 use Prim.Native.Nat.{ℕ, ◌≤◌, ◌<◌}
-use native.Mathlib.Omega.{arith}
 use borrow.Author.Tests.{le-leb, lt-leb, eq-eqb, ne_eqb}
 use denote.Enum.Declared.{tag_of}
 use types.Run.{OneOf, miss}
-use Rattle.protocol.specs.Floor.{Product, Floor, limits_of, outside, at, leaving, travelling, entered, moving, is_at}
-use Rattle.protocol.specs.Floor as floor
+use Rattle.protocol.specs.Floor.{Product, Floor, limits_of, entered, moving, is_at}
 use Rattle.protocol.specs.Events.{move}
 use Rattle.protocol.specs.Refusals.{check, refusal_if}
 use Rattle.ids.specs.declared.Station.{Station}
@@ -76,13 +74,3 @@ module _ (S C : List ℕ) (c to : ℕ) (P : Product) (M W T O : List ℕ) where
       pub move_passes : (s : Station) → p ≡ At s → (s.0 ≡ to → ⊥) → 0 ≡ refusal_if (limits_of P) F false (move c to)
       unfolding refusal_if
       move_passes s q n = rw (lt-leb (head_in S).stations to lt, lt-leb (head_in S).carts c lc, sym met, q, ne_eqb s.0 to n) refl
-
--- where a cart is that is at a station
-pub at_there : (p : Place) (q : floor.Place) (h : Station) (s : ℕ) → seen p ≡ q → p ≡ At h → q ≡ at s → h.0 ≡ s
-at_there p q h s e k z = let y : at h.0 ≡ at s = sym (ap seen k) ∙ e ∙ z in cc
-
-pub never_at : (p : Place) (q : floor.Place) (s : ℕ) → seen p ≡ q → OneOf (0 ∷ 2 ∷ 3 ∷ []) (tag_of place_type p) → q ≡ at s → 0 ≡ s
-never_at Outside q s e k z = absurd (let y : outside ≡ at s = e ∙ z in let x : ◌≡◌ {A = ℕ} 0 1 = cc in omega arith)
-never_at (At h) q s e k z = absurd (miss (0 ∷ 2 ∷ 3 ∷ []) 1 tt k)
-never_at (Leaving h t) q s e k z = absurd (let y : leaving h.0 t.0 ≡ at s = e ∙ z in let x : ◌≡◌ {A = ℕ} 0 1 = cc in omega arith)
-never_at (Travelling h t) q s e k z = absurd (let y : travelling h.0 t.0 ≡ at s = e ∙ z in let x : ◌≡◌ {A = ℕ} 0 1 = cc in omega arith)

@@ -3,7 +3,6 @@ use mathlib.Core.Path.{◌≡◌, refl, sym, ◌∙◌}
 use mathlib.Core.Bool.{true, false}
 use mathlib.Core.List.{List}
 use Prim.Native.Nat.{ℕ, ◌<◌}
-use native.Mathlib.Omega.{arith}
 use Rattle.protocol.specs.Floor.{Product, limits_of, at}
 use Rattle.protocol.specs.Events.{move}
 use Rattle.protocol.specs.Form.{passes_form}
@@ -18,7 +17,7 @@ use Rattle.lines.specs.Words.{capacity}
 use Rattle.view.specs.View.{Lent, lent, floor_in}
 use Rattle.view.proofs.Standing.{Standing, standing}
 use Rattle.handoff.specs.Moved.{Moved}
-use Rattle.handoff.proofs.MoveIs.{is_somewhere, move_ready, deregister_fits, move_is, move_reports}
+use Rattle.handoff.proofs.MoveIs.{move_ready, deregister_fits, move_is, move_reports}
 use Rattle.reports.specs.declared.Effect.{Effect}
 use Rattle.reports.specs.Effects.{putting}
 use Rattle.event_answers.specs.Answers.{says}
@@ -35,14 +34,8 @@ module _ (P : Product) (S C M W T O : List ℕ) (c to : ℕ) (p : passes_form (l
   may : MayMove (floor_in L) c to
   may = may_move (limits_of P) (floor_in L) false c to (sym free)
 
-  pub has_row : HasRow C c
-  has_row = let a = X.lengths.carts in let b = may.cart in let d = X.sized.counts.carts in omega arith
-
-  -- whatever station the code found the cart at
-  module _ (old : ℕ) (found : (s : ℕ) → (carts_in C).place c ≡ at s → old ≡ s) where
-    here : (carts_in C).place c ≡ at old
-    here = let a = is_somewhere L X c to may in a.1 ∙ rw (found a.0 a.1) refl
-
+  -- the station that the code found the cart at
+  module _ (old : ℕ) (here : (carts_in C).place c ≡ at old) where
     pub move_asks : (HasRow C c × (c < 64) × ((carts_in C).place c ≡ at old)) × ((form W ≡ true) × (used W < capacity W) × (old < 16) × (to < 16))
     move_asks = (move_ready L X c to may old here, deregister_fits L X c to may old here)
 

@@ -1,7 +1,7 @@
 -- THE CHECKS OF A RETIREMENT, down the table, on the tables of the stations (S), of the carts (C) and of the messages (M), whatever the other parts
 -- (W, T, O) are.
 use mathlib.Core.Path.{◌≡◌, refl, sym, ap, ◌∙◌}
-use mathlib.Core.Bool.{Bool, true, false, cond, not}
+use mathlib.Core.Bool.{Bool, true, false, not}
 use mathlib.Core.List.{List, [], ◌∷◌}
 use Prim.{tt}
 use Prim.Native.Nat.{ℕ, ◌≤◌, ◌<◌}
@@ -10,7 +10,7 @@ use borrow.Author.Tests.{eq-eqb, ne_eqb, le-leb, lt-leb, not-true}
 use denote.Enum.Declared.{tag_of}
 use types.Run.{OneOf, miss}
 use Rattle.protocol.specs.CartSets.{has}
-use Rattle.protocol.specs.Floor.{Limits, Product, Floor, limits_of, entered, moving, is_held}
+use Rattle.protocol.specs.Floor.{Limits, Product, Floor, limits_of, entered, moving}
 use Rattle.protocol.specs.Events.{retire}
 use Rattle.protocol.specs.Refusals.{refusal_if}
 use Rattle.protocol.proofs.Tests.{by_test, clash}

@@ -1,11 +1,10 @@
 -- A RETIREMENT MEETS ITS EVENT: what the code asks on the way, and what it leaves.
-use mathlib.Core.Path.{◌≡◌, refl, sym, ap, ◌∙◌}
+use mathlib.Core.Path.{◌≡◌, refl, sym, ◌∙◌}
 use mathlib.Core.Bool.{true, false}
 use mathlib.Core.List.{List}
 use Prim.Native.Nat.{ℕ, ◌*◌, ◌≤◌, ◌<◌}
-use native.Mathlib.Omega.{arith}
 use lib.ListN.{length}
-use Rattle.protocol.specs.Floor.{Product, limits_of, at, station_of}
+use Rattle.protocol.specs.Floor.{Product, limits_of, at}
 use Rattle.protocol.specs.Events.{retire}
 use Rattle.protocol.specs.Form.{passes_form}
 use Rattle.protocol.specs.Refusals.{refusal_if}
@@ -19,7 +18,7 @@ use Rattle.view.specs.View.{Lent, lent, floor_in}
 use Rattle.view.proofs.Standing.{Standing, standing, few_carts}
 use Rattle.handoff.specs.Retired.{Retired}
 use Rattle.handoff.proofs.ArriveIs.{all_rooms}
-use Rattle.handoff.proofs.RetireIs.{is_home, retire_ready, retire_is, retire_reports}
+use Rattle.handoff.proofs.RetireIs.{retire_ready, retire_is, retire_reports}
 use Rattle.reports.specs.declared.Effect.{Effect}
 use Rattle.reports.specs.Effects.{nothing}
 use Rattle.event_answers.specs.Answers.{says}
@@ -44,14 +43,8 @@ module _ (P : Product) (S C M W T O : List ℕ) (p : passes_form (limits_of P) (
     may : MayRetire (limits_of P) (floor_in L) c
     may = may_retire (limits_of P) (floor_in L) false c (sym free)
 
-    pub has_row : HasRow C c
-    has_row = (retire_ready L X c may (station_of ((carts_in C).place c)) (is_home L X c may)).1
-
-    -- whatever station the code found the cart at
-    module _ (t : ℕ) (found : (s : ℕ) → (carts_in C).place c ≡ at s → t ≡ s) where
-      here : (carts_in C).place c ≡ at t
-      here = let home = is_home L X c may in home ∙ ap at (sym (found (station_of ((carts_in C).place c)) home))
-
+    -- the station that the code found the cart at
+    module _ (t : ℕ) (here : (carts_in C).place c ≡ at t) where
       pub retire_asks : HasStation S t × HasRow C c × (c < 64)
       retire_asks = retire_ready L X c may t here
 

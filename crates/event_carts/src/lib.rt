@@ -2,40 +2,46 @@
 // "Checks run down the table", and then is its step of the hand-off module.
 #![tactic(auto)]
 
-ghost use Rattle.std.specs.Prelude.{◌≡◌, Bool, false, List, [], ℕ, ◌*◌, ◌≤◌, length};
+ghost use Rattle.std.specs.Prelude.{◌≡◌, Bool, false, List, [], ℕ, ◌*◌, ◌≤◌, length, IfOk};
 ghost use Rattle.protocol.specs.Floor.{Product, limits_of, at};
 ghost use Rattle.protocol.specs.Events.{enter, move, flag, retire};
 ghost use Rattle.protocol.specs.Refusals.{refusal_if};
 ghost use Rattle.stations.specs.View.{HasHead, head_in};
-ghost use Rattle.carts.specs.Words.{HasRow};
 ghost use Rattle.carts.specs.View.{carts_in};
 ghost use Rattle.messages.specs.View.{HasRoom, rooms_in};
 ghost use Rattle.queue.specs.Rooms.{room_count};
 ghost use Rattle.form_tables.specs.Parts.{Collects};
 ghost use Rattle.view.specs.View.{lent, floor_in};
+ghost use Rattle.refusals.specs.Numbers.{refusal_in};
 ghost use Rattle.event_answers.specs.Answers.{answer_in};
 ghost use Rattle.event_answers.specs.Met.{ReadyBySome, MetByEach};
 ghost use Rattle.event_carts.specs.Named.{named_if_held};
 
 use carts::Place;
-use event_answers::{Answer, Outcome};
+use event_answers::{Accepted, Answer, Outcome};
 use ids::{CartNumber, Station};
+use refusals::Refusal;
 
-// The refusal of an enter, 8 to 10, or 0.
-fn enter_refusal(stations: &[u64], carts: &[u64], station: Station, cart: CartNumber) -> u64
+// The checks of an enter, 8 to 10.
+fn check_enter(
+    stations: &[u64],
+    carts: &[u64],
+    station: Station,
+    cart: CartNumber,
+) -> Result<(), Refusal>
     requires { HasHead stations.now × ((head_in stations.now).carts * 19 ≤ length carts.now) }
-    ensures { (P : Product) (M W T O : List ℕ) → result ≡ refusal_if (limits_of P) (floor_in (lent P stations.now carts.now M W T O)) false (enter station.0 cart.0) }
+    ensures { (P : Product) (M W T O : List ℕ) → refusal_in result ≡ refusal_if (limits_of P) (floor_in (lent P stations.now carts.now M W T O)) false (enter station.0 cart.0) }
 {
     if stations::station_count(stations) <= station.0 {
-        return 8;
+        return Err(Refusal::NoSuchStation);
     }
     if stations::cart_count(stations) <= cart.0 {
-        return 9;
+        return Err(Refusal::NoSuchCart);
     }
     let place = carts::place_of(carts, cart);
     match place {
-        Place::Outside => 0,
-        _ => 10,
+        Place::Outside => Ok(()),
+        _ => Err(Refusal::AlreadyEntered),
     }
 }
 
@@ -54,45 +60,45 @@ pub fn enter(
     ensures { MetByEach (λ P. lent P stations.old carts.old messages.now lines.now texts.now store.now) (λ P. lent P stations.new carts.new messages.now lines.now texts.now store.now) (enter station.0 cart.0) (answer_in result []) }
 {
     if !stations::is_started(stations) {
-        return Answer::Refused(5);
+        return Err(Refusal::NotReady);
     }
-    let refusal = enter_refusal(stations, carts, station, cart);
-    if refusal != 0 {
-        return Answer::Refused(refusal);
-    }
+    check_enter(stations, carts, station, cart)?;
     let effect = handoff::on_enter(stations, carts, messages, station, cart);
-    Answer::Accepted(Outcome::Entered(station, cart), effect)
+    Ok(Accepted {
+        outcome: Outcome::Entered(station, cart),
+        effect,
+    })
 }
 
-// The refusal of a move, 8, 9 and 18 to 20, or 0.
-fn move_refusal(stations: &[u64], carts: &[u64], cart: CartNumber, to: Station) -> u64
+// The checks of a move, 8, 9 and 18 to 20. Answers where the cart is.
+fn check_move(
+    stations: &[u64],
+    carts: &[u64],
+    cart: CartNumber,
+    to: Station,
+) -> Result<Station, Refusal>
     requires { HasHead stations.now × ((head_in stations.now).carts * 19 ≤ length carts.now) }
-    ensures { (P : Product) (M W T O : List ℕ) → result ≡ refusal_if (limits_of P) (floor_in (lent P stations.now carts.now M W T O)) false (move cart.0 to.0) }
+    ensures refusal { (P : Product) (M W T O : List ℕ) → refusal_in result ≡ refusal_if (limits_of P) (floor_in (lent P stations.now carts.now M W T O)) false (move cart.0 to.0) }
+    ensures here { IfOk result (λ here. (carts_in carts.now).place cart.0 ≡ at here.0) }
 {
     if stations::station_count(stations) <= to.0 {
-        return 8;
+        return Err(Refusal::NoSuchStation);
     }
     if stations::cart_count(stations) <= cart.0 {
-        return 9;
+        return Err(Refusal::NoSuchCart);
     }
     let place = carts::place_of(carts, cart);
     match place {
-        Place::Outside => 18,
-        Place::Leaving(_, _) => 19,
-        Place::Travelling(_, _) => 19,
-        Place::At(here) => { if here.0 == to.0 { 20 } else { 0 } }
-    }
-}
-
-// Where a cart is that is at a station.
-fn station_of(carts: &[u64], cart: CartNumber) -> Station
-    requires { HasRow carts.now cart.0 }
-    ensures { (s : ℕ) → (carts_in carts.now).place cart.0 ≡ at s → result.0 ≡ s }
-{
-    let place = carts::place_of(carts, cart);
-    match place {
-        Place::At(here) => here,
-        _ => Station(0),
+        Place::Outside => Err(Refusal::Outside),
+        Place::Leaving(_, _) => Err(Refusal::OnItsWay),
+        Place::Travelling(_, _) => Err(Refusal::OnItsWay),
+        Place::At(here) => {
+            if here == to {
+                Err(Refusal::AlreadyThere)
+            } else {
+                Ok(here)
+            }
+        }
     }
 }
 
@@ -111,29 +117,28 @@ pub fn move_cart(
     ensures { MetByEach (λ P. lent P stations.now carts.old messages.now lines.old texts.now store.now) (λ P. lent P stations.now carts.new messages.now lines.new texts.now store.now) (move cart.0 to.0) (answer_in result []) }
 {
     if !stations::is_started(stations) {
-        return Answer::Refused(5);
+        return Err(Refusal::NotReady);
     }
-    let refusal = move_refusal(stations, carts, cart, to);
-    if refusal != 0 {
-        return Answer::Refused(refusal);
-    }
-    let old = station_of(carts, cart);
+    let old = check_move(stations, carts, cart, to)?;
     let effect = handoff::on_move(carts, lines, cart, old, to);
-    Answer::Accepted(Outcome::Moved(cart, to), effect)
+    Ok(Accepted {
+        outcome: Outcome::Moved(cart, to),
+        effect,
+    })
 }
 
-// The refusal of a flag, 9 or 18, or 0: "for kind 6, 18 .., after 9", where it is "not now entered". A cart on its way is told as any other.
-fn flag_refusal(stations: &[u64], carts: &[u64], cart: CartNumber) -> u64
+// The checks of a flag, 9 and 18: "for kind 6, 18 .., after 9", where it is "not now entered". A cart on its way is told as any other.
+fn check_flag(stations: &[u64], carts: &[u64], cart: CartNumber) -> Result<(), Refusal>
     requires { HasHead stations.now × ((head_in stations.now).carts * 19 ≤ length carts.now) }
-    ensures { (P : Product) (M W T O : List ℕ) (steady : Bool) → result ≡ refusal_if (limits_of P) (floor_in (lent P stations.now carts.now M W T O)) false (flag cart.0 steady) }
+    ensures { (P : Product) (M W T O : List ℕ) (steady : Bool) → refusal_in result ≡ refusal_if (limits_of P) (floor_in (lent P stations.now carts.now M W T O)) false (flag cart.0 steady) }
 {
     if stations::cart_count(stations) <= cart.0 {
-        return 9;
+        return Err(Refusal::NoSuchCart);
     }
     let place = carts::place_of(carts, cart);
     match place {
-        Place::Outside => 18,
-        _ => 0,
+        Place::Outside => Err(Refusal::Outside),
+        _ => Ok(()),
     }
 }
 
@@ -152,14 +157,14 @@ pub fn flag_cart(
     ensures { MetByEach (λ P. lent P stations.now carts.old messages.now lines.now texts.now store.now) (λ P. lent P stations.now carts.new messages.now lines.now texts.now store.now) (flag cart.0 steady) (answer_in result []) }
 {
     if !stations::is_started(stations) {
-        return Answer::Refused(5);
+        return Err(Refusal::NotReady);
     }
-    let refusal = flag_refusal(stations, carts, cart);
-    if refusal != 0 {
-        return Answer::Refused(refusal);
-    }
+    check_flag(stations, carts, cart)?;
     let effect = handoff::on_flag(carts, cart, steady);
-    Answer::Accepted(Outcome::Flagged(cart, steady), effect)
+    Ok(Accepted {
+        outcome: Outcome::Flagged(cart, steady),
+        effect,
+    })
 }
 
 // The carts that the message in room m names, by "the set as sent"; none where the room is free, whatever its words still say.
@@ -179,33 +184,37 @@ fn held_names(messages: &[u64]) -> u64
 {
     let rooms = messages.len() / 7;
     let mut names: u64 = 0;
-    let mut m: usize = 0;
-    while m < rooms {
+    for m in 0..rooms {
         names = sets::union(names, named_if_held(messages, m));
-        m += 1;
     }
     names
 }
 
-// The refusal of a retirement, 9, "18, then 19, then 29 a held message names the cart", or 0.
-fn retire_refusal(stations: &[u64], carts: &[u64], messages: &[u64], cart: CartNumber) -> u64
+// The checks of a retirement, 9, "18, then 19, then 29 a held message names the cart". Answers where the cart is.
+fn check_retire(
+    stations: &[u64],
+    carts: &[u64],
+    messages: &[u64],
+    cart: CartNumber,
+) -> Result<Station, Refusal>
     requires { HasHead stations.now × ((head_in stations.now).carts * 19 ≤ length carts.now) × ((head_in stations.now).carts ≤ 64) }
-    ensures { (P : Product) (W T O : List ℕ) → room_count messages.now ≡ P.held → result ≡ refusal_if (limits_of P) (floor_in (lent P stations.now carts.now messages.now W T O)) false (retire cart.0) }
+    ensures refusal { (P : Product) (W T O : List ℕ) → room_count messages.now ≡ P.held → refusal_in result ≡ refusal_if (limits_of P) (floor_in (lent P stations.now carts.now messages.now W T O)) false (retire cart.0) }
+    ensures here { IfOk result (λ here. (carts_in carts.now).place cart.0 ≡ at here.0) }
 {
     if stations::cart_count(stations) <= cart.0 {
-        return 9;
+        return Err(Refusal::NoSuchCart);
     }
     let place = carts::place_of(carts, cart);
     match place {
-        Place::Outside => 18,
-        Place::At(_) => {
+        Place::Outside => Err(Refusal::Outside),
+        Place::At(here) => {
             if sets::has(held_names(messages), cart.0) {
-                29
+                Err(Refusal::StillNamed)
             } else {
-                0
+                Ok(here)
             }
         }
-        _ => 19,
+        _ => Err(Refusal::OnItsWay),
     }
 }
 
@@ -223,13 +232,12 @@ pub fn retire(
     ensures { MetByEach (λ P. lent P stations.old carts.old messages.now lines.now texts.now store.now) (λ P. lent P stations.new carts.new messages.now lines.now texts.now store.now) (retire cart.0) (answer_in result []) }
 {
     if !stations::is_started(stations) {
-        return Answer::Refused(5);
+        return Err(Refusal::NotReady);
     }
-    let refusal = retire_refusal(stations, carts, messages, cart);
-    if refusal != 0 {
-        return Answer::Refused(refusal);
-    }
-    let here = station_of(carts, cart);
+    let here = check_retire(stations, carts, messages, cart)?;
     let effect = handoff::on_retire(stations, carts, cart, here);
-    Answer::Accepted(Outcome::Retired(cart), effect)
+    Ok(Accepted {
+        outcome: Outcome::Retired(cart),
+        effect,
+    })
 }

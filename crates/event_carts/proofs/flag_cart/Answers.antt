@@ -1,13 +1,13 @@
 -- `event_carts::flag_cart` meets its contract.
-use mathlib.Core.Path.{refl, sym, ◌∙◌}
+use mathlib.Core.Path.{refl}
 use mathlib.Core.Bool.{false}
+use Rattle.std.proofs.lemmas.Result.{err_from_is_err_and}
 use Rattle.protocol.specs.Events.{flag}
 use Rattle.view.specs.View.{lent}
-use Rattle.event_answers.proofs.Meets.{checks_ready, meets_no}
+use Rattle.event_answers.proofs.Meets.{checks_ready, meets_check}
 use Rattle.event_answers.proofs.Broken.{broken_flag}
 use Rattle.event_answers.proofs.Readies.{has_head, started_passes, unstarted_breaks}
 use Rattle.event_carts.proofs.FlagMeets.{has_row, meets_flag}
-use borrow.Author.Rules.{rules}
 use mathlib.Core.Bool.{not}
 use mathlib.Core.Path.{ap}
 use Rattle.event_carts.proofs.flag_cart.Goals as goal
@@ -22,24 +22,25 @@ returns-then-not-is_started c =
     let a = c.args in
     λ P R. broken_flag (lent P a.stations.now a.carts.now a.messages.now a.lines.now a.texts.now a.store.now) false (unstarted_breaks (lent P a.stations.now a.carts.now a.messages.now a.lines.now a.texts.now a.store.now) _ c.is_started.ensures (ap not c.if-not-is_started.true)) refl a.cart.0 a.steady
 
-pub flag_refusal-refusal-requires : goal.flag_refusal-refusal-requires
-flag_refusal-refusal-requires c =
+pub check_flag-requires : goal.check_flag-requires
+check_flag-requires c =
     let a = c.args in
     let P = c.requires.0 in
     checks_ready (lent P a.stations.now a.carts.now a.messages.now a.lines.now a.texts.now a.store.now) (started_passes (lent P a.stations.now a.carts.now a.messages.now a.lines.now a.texts.now a.store.now) _ c.is_started.ensures c.requires.1 (ap not c.if-not-is_started.false))
 
-pub returns-then-refusal-ne0 : goal.returns-then-refusal-ne0
-returns-then-refusal-ne0 c =
+pub returns-in_err-check_flag : goal.returns-in_err-check_flag
+returns-in_err-check_flag c =
     let a = c.args in
-    λ P R. meets_no (lent P a.stations.now a.carts.now a.messages.now a.lines.now a.texts.now a.store.now) (flag a.cart.0 a.steady) _ (started_passes (lent P a.stations.now a.carts.now a.messages.now a.lines.now a.texts.now a.store.now) _ c.is_started.ensures R (ap not c.if-not-is_started.false)) (c.flag_refusal-refusal.ensures P a.messages.now a.lines.now a.texts.now a.store.now a.steady) c.if-refusal-ne0.true
+    let p = err_from_is_err_and c.from_residual.result c.from_residual.ensures.1 in
+    λ P R. rw (p.1, p.2) (meets_check (lent P a.stations.now a.carts.now a.messages.now a.lines.now a.texts.now a.store.now) (flag a.cart.0 a.steady) _ (started_passes (lent P a.stations.now a.carts.now a.messages.now a.lines.now a.texts.now a.store.now) _ c.is_started.ensures R (ap not c.if-not-is_started.false)) (c.in_err-check_flag.ensures P a.messages.now a.lines.now a.texts.now a.store.now a.steady))
 
 pub on_flag-effect-requires : goal.on_flag-effect-requires
 on_flag-effect-requires c =
     let a = c.args in
     let P = c.requires.0 in
-    has_row P a.stations.now a.carts.now a.messages.now a.lines.now a.texts.now a.store.now a.cart.0 a.steady (started_passes (lent P a.stations.now a.carts.now a.messages.now a.lines.now a.texts.now a.store.now) _ c.is_started.ensures c.requires.1 (ap not c.if-not-is_started.false)) (sym c.if-refusal-ne0.false ∙ c.flag_refusal-refusal.ensures P a.messages.now a.lines.now a.texts.now a.store.now a.steady)
+    has_row P a.stations.now a.carts.now a.messages.now a.lines.now a.texts.now a.store.now a.cart.0 a.steady (started_passes (lent P a.stations.now a.carts.now a.messages.now a.lines.now a.texts.now a.store.now) _ c.is_started.ensures c.requires.1 (ap not c.if-not-is_started.false)) (c.in_ok-check_flag.ensures P a.messages.now a.lines.now a.texts.now a.store.now a.steady)
 
 pub returns : goal.returns
 returns c =
     let a = c.args in
-    λ P R. meets_flag P a.stations.now a.carts.now a.messages.now a.lines.now a.texts.now a.store.now a.cart.0 a.steady (started_passes (lent P a.stations.now a.carts.now a.messages.now a.lines.now a.texts.now a.store.now) _ c.is_started.ensures R (ap not c.if-not-is_started.false)) (sym c.if-refusal-ne0.false ∙ c.flag_refusal-refusal.ensures P a.messages.now a.lines.now a.texts.now a.store.now a.steady) _ _ c.on_flag-effect.ensures.flagged c.on_flag-effect.ensures.value
+    λ P R. meets_flag P a.stations.now a.carts.now a.messages.now a.lines.now a.texts.now a.store.now a.cart.0 a.steady (started_passes (lent P a.stations.now a.carts.now a.messages.now a.lines.now a.texts.now a.store.now) _ c.is_started.ensures R (ap not c.if-not-is_started.false)) (c.in_ok-check_flag.ensures P a.messages.now a.lines.now a.texts.now a.store.now a.steady) _ _ c.on_flag-effect.ensures.flagged c.on_flag-effect.ensures.value

@@ -1,7 +1,6 @@
 use mathlib.Core.Path.{◌≡◌, subst}
-use Prim.Native.Nat.{ℕ, ◌-◌, ◌≤◌}
+use Prim.Native.Nat.{ℕ}
 use native.Mathlib.Omega.{arith}
-use borrow.Author.Rules.{rules}
 use Rattle.messages.specs.View.{rooms_in}
 use Rattle.queue.specs.Rooms.{room_count}
 use Rattle.form_tables.specs.Parts.{Collects}
@@ -14,9 +13,6 @@ loop-m-init c = (collect_none (named_if_held (rooms_in c.args.messages.now)), om
 
 pub named_if_held-requires : goal.named_if_held-requires
 named_if_held-requires c = omega arith
-
-pub loop-m-smaller : goal.loop-m-smaller
-loop-m-smaller c = omega arith
 
 pub loop-m-preserved : goal.loop-m-preserved
 loop-m-preserved c =

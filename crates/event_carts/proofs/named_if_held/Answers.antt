@@ -1,7 +1,6 @@
 -- `event_carts::named_if_held` meets its contract.
 use Rattle.messages.specs.View.{rooms_in}
 use Rattle.event_carts.proofs.RetireChecks.{free_names_none, held_names_its}
-use borrow.Author.Rules.{rules}
 use Rattle.event_carts.proofs.named_if_held.Goals as goal
 
 pub returns-then-waiting_of-eq0 : goal.returns-then-waiting_of-eq0

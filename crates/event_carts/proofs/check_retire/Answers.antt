@@ -1,11 +1,10 @@
--- `event_carts::retire_refusal` meets its contract.
+-- `event_carts::check_retire` meets its contract.
 use native.Mathlib.Omega.{arith}
 use Rattle.event_carts.proofs.RetireChecks.{retire_no_cart, retire_outside, retire_away, retire_named, retire_passes}
-use borrow.Author.Rules.{rules}
-use Rattle.event_carts.proofs.retire_refusal.Goals as goal
+use Rattle.event_carts.proofs.check_retire.Goals as goal
 
-pub returns-then-cart_count-cart : goal.returns-then-cart_count-cart
-returns-then-cart_count-cart c =
+pub returns-then-cart_count-cart-clause-refusal : goal.returns-then-cart_count-cart-clause-refusal
+returns-then-cart_count-cart-clause-refusal c =
     let a = c.args in
     λ P W T O all. retire_no_cart a.stations.now a.carts.now a.messages.now a.cart.0 P W T O
     (omega (arith, c.cart_count.ensures, c.if-cart_count-cart.true))
@@ -13,15 +12,15 @@ returns-then-cart_count-cart c =
 pub has-requires : goal.has-requires
 has-requires c = omega (arith, c.requires, c.cart_count.ensures, c.if-cart_count-cart.false)
 
-pub returns-in-Outside : goal.returns-in-Outside
-returns-in-Outside c =
+pub returns-in-Outside-clause-refusal : goal.returns-in-Outside-clause-refusal
+returns-in-Outside-clause-refusal c =
     let a = c.args in
     let met = c.place_of-place in
     λ P W T O all. retire_outside a.stations.now a.carts.now a.messages.now a.cart.0 P W T O
     (omega (arith, c.cart_count.ensures, c.if-cart_count-cart.false)) met.result met.ensures c.in-Outside.in-Outside-own.keys1
 
-pub returns-then-has : goal.returns-then-has
-returns-then-has c =
+pub returns-then-has-clause-refusal : goal.returns-then-has-clause-refusal
+returns-then-has-clause-refusal c =
     let a = c.args in
     let met = c.place_of-place in
     let names = c.held_names in
@@ -30,8 +29,8 @@ returns-then-has c =
     (omega (arith, c.cart_count.ensures, c.if-cart_count-cart.false)) met.result met.ensures c.in-At.in-At-own.keys2
     _ names.result names.ensures all named.result named.ensures c.if-has.true
 
-pub returns-else-has : goal.returns-else-has
-returns-else-has c =
+pub returns-else-has-clause-refusal : goal.returns-else-has-clause-refusal
+returns-else-has-clause-refusal c =
     let a = c.args in
     let met = c.place_of-place in
     let names = c.held_names in
@@ -40,8 +39,8 @@ returns-else-has c =
     (omega (arith, c.cart_count.ensures, c.if-cart_count-cart.false)) met.result met.ensures c.in-At.in-At-own.keys2
     _ names.result names.ensures all named.result named.ensures c.if-has.false
 
-pub returns-in_default : goal.returns-in_default
-returns-in_default c =
+pub returns-in_default-clause-refusal : goal.returns-in_default-clause-refusal
+returns-in_default-clause-refusal c =
     let a = c.args in
     let met = c.place_of-place in
     λ P W T O all. retire_away a.stations.now a.carts.now a.messages.now a.cart.0 P W T O

@@ -1,9 +1,8 @@
--- `event_carts::flag_refusal` meets its contract.
+-- `event_carts::check_flag` meets its contract.
 use borrow.Enum.Refused.{opened}
 use native.Mathlib.Omega.{arith}
 use Rattle.event_carts.proofs.FlagChecks.{flag_no_cart, flag_outside, flag_passes}
-use borrow.Author.Rules.{rules}
-use Rattle.event_carts.proofs.flag_refusal.Goals as goal
+use Rattle.event_carts.proofs.check_flag.Goals as goal
 
 pub returns-then-cart_count-cart : goal.returns-then-cart_count-cart
 returns-then-cart_count-cart c = let a = c.args in λ P M W T O b. flag_no_cart a.stations.now a.carts.now a.cart.0 P M W T O b (omega (arith, c.cart_count.ensures, c.if-cart_count-cart.true))

@@ -1,9 +1,8 @@
--- `event_carts::enter_refusal` meets its contract.
+-- `event_carts::check_enter` meets its contract.
 use borrow.Enum.Refused.{opened}
 use native.Mathlib.Omega.{arith}
 use Rattle.event_carts.proofs.EnterChecks.{enter_no_station, enter_no_cart, enter_passes, enter_entered}
-use borrow.Author.Rules.{rules}
-use Rattle.event_carts.proofs.enter_refusal.Goals as goal
+use Rattle.event_carts.proofs.check_enter.Goals as goal
 
 pub returns-then-station_count-station : goal.returns-then-station_count-station
 returns-then-station_count-station c = let a = c.args in λ P M W T O. enter_no_station a.stations.now a.carts.now a.station.0 a.cart.0 P M W T O (omega (arith, c.station_count.ensures, c.if-station_count-station.true))
