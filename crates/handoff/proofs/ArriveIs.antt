@@ -10,7 +10,7 @@ use lib.ListN.{get_or}
 use borrow.Author.Tests.{ltb-true, lt-ltb, le-ltb, ne_eqb}
 use Rattle.protocol.specs.Folds.{sum, update}
 use Rattle.protocol.specs.CartSets.{has, with, without, set_of}
-use Rattle.protocol.specs.Floor.{Limits, Floor, Carts, Record, at, local_to, limits_of, Product}
+use Rattle.protocol.specs.Floor.{Limits, Floor, Carts, Record, at, local_to, Product}
 use Rattle.protocol.specs.Handoff.{Stop, with_row, struck, buffered_for, catch_up_stop, catch_up_each, arrive, passed_over, place_given, largest_place, deepest}
 use Rattle.protocol.proofs.SetLaws.{has_set_of, has_zero, has_without, without_lt}
 use Rattle.protocol.proofs.Tests.{by_test, by_lt, by_eq, clash, and_right, and_second_false, eqb_self, on_update, list_of_at, list_of_past}
@@ -32,7 +32,7 @@ use Rattle.view.proofs.Laid.{Laid, local_stays, local_joins, laid_carts}
 use Rattle.view.proofs.Standing.{Standing, few_stations, few_carts, numbers_of_32_bits}
 use Rattle.queue.specs.Rooms.{tables_floor, room_count, HasRooms}
 use Rattle.catchup.specs.Arrival.{stop_in, occurs, deepest_to}
-use Rattle.catchup.proofs.NamingLaws.{naming_inside, naming_covers}
+use Rattle.catchup.proofs.NamingLaws.{naming_inside}
 use Rattle.catchup.proofs.Stops.{Agree, NoneBeyond}
 use Rattle.catchup.proofs.AllAtOnce.{all_raised, all_passed, all_queued, found_named, deepest_to_lem}
 use Rattle.handoff.specs.Struck.{is_passed, struck_from}

@@ -2,7 +2,7 @@
 use mathlib.Core.Path.{◌≡◌, refl, sym, ap, ap₂, ◌∙◌, subst}
 use mathlib.Core.Bool.{Bool, true, false, cond, not, ◌&&◌}
 use mathlib.Core.List.{List, [], ◌∷◌}
-use Prim.Native.Nat.{ℕ, suc, ◌+◌, ◌-◌, ◌*◌, ◌<◌, ◌≤◌}
+use Prim.Native.Nat.{ℕ, ◌+◌, ◌-◌, ◌*◌, ◌<◌, ◌≤◌}
 use native.Mathlib.Omega.{arith}
 use lib.Dec.{eqb, ltb}
 use lib.ListN.{length}
@@ -25,7 +25,7 @@ use Rattle.protocol.proofs.HandoffSteps.{deregistering_is}
 use Rattle.protocol.proofs.InOrder as order
 use Rattle.protocol.proofs.DeregisterStep.{completed_distinct}
 use Rattle.protocol.proofs.QueueOrder.{completed_is}
-use Rattle.stations.specs.View.{Stations, HasStation, stations_in, head_in}
+use Rattle.stations.specs.View.{Stations, HasStation, stations_in}
 use Rattle.carts.specs.Words.{HasRow}
 use Rattle.carts.specs.View.{carts_in, canonical_in}
 use Rattle.messages.specs.View.{rooms_in}

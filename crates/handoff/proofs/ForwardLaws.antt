@@ -13,16 +13,14 @@ use Rattle.std.specs.Prelude as code
 use Rattle.std.specs.Prelude.{Some, None}
 use Rattle.protocol.specs.Folds.{update2}
 use Rattle.protocol.specs.CartSets.{has, with, without, minus, set_of}
-use Rattle.protocol.specs.Deregister.{in_order}
 use Rattle.protocol.proofs.Tests.{by_test, by_lt, by_eq, and-false, and-true, and_left, clash, eqb_self, on_update2}
-use Rattle.protocol.proofs.SetLaws.{has_zero, has_without, has_set_of, has_some, set_of_suc, set_of_lt, set_of_beyond, set_of_member, member_below, somebody, without_lt}
+use Rattle.protocol.proofs.SetLaws.{has_zero, has_without, has_set_of, has_some, set_of_suc, set_of_lt, set_of_beyond, set_of_member, member_below, without_lt}
 use Rattle.protocol.proofs.InOrder.{in_order_few, in_order_none, same_picks, without_room}
 use Rattle.sets.proofs.MaskLaws.{without_here, without_other, without_less}
 use Rattle.sets.proofs.Walk.{nothing_between}
 use Rattle.stations.specs.View.{Stations, stations_in, head_in, listing_in}
 use Rattle.stations.proofs.TableLaws.{not_listing}
 use Rattle.messages.specs.View.{Rooms, HasRoom, rooms_in}
-use Rattle.lines.specs.declared.Record as word
 use Rattle.lines.specs.Form.{form}
 use Rattle.lines.specs.Lines.{used}
 use Rattle.lines.specs.Words.{capacity}
@@ -126,13 +124,13 @@ kept b p x y e = rw (e, and-false b)
 
 module _ (X : Stations) (t : ℕ) where
   pub emptied_none : (pick : ℕ → Bool) → ((m : ℕ) → pick m ≡ false) → X ≡ emptied X t pick
-  emptied_none pick none =
+  emptied_none pick nothing =
       λ i. record {
         sent = X.sent;
         expected = X.expected;
         local = X.local;
-        copy = λ m u. sym (kept (eqb u t) (pick m) (minus (X.copy m u) (X.acks m u)) (X.copy m u) (none m)) i;
-        acks = λ m u. sym (kept (eqb u t) (pick m) 0 (X.acks m u) (none m)) i;
+        copy = λ m u. sym (kept (eqb u t) (pick m) (minus (X.copy m u) (X.acks m u)) (X.copy m u) (nothing m)) i;
+        acks = λ m u. sym (kept (eqb u t) (pick m) 0 (X.acks m u) (nothing m)) i;
         queue = X.queue;
       }
 

@@ -260,14 +260,7 @@ fn strike(
         let s = initiator.0 as usize;
         if s < products::INITIATORS {
             ahead = strike_from(
-                stations,
-                messages,
-                station,
-                cart,
-                initiator,
-                row[s],
-                m,
-                ahead,
+                stations, messages, station, cart, initiator, row[s], m, ahead,
             );
         }
     }

@@ -1,8 +1,6 @@
-use mathlib.Core.Path.{◌≡◌, sym, ap, ◌∙◌}
+use mathlib.Core.Path.{sym, ap, ◌∙◌}
 use Prim.Native.Nat.{ℕ, ◌+◌}
 use native.Mathlib.Omega.{arith}
-use borrow.Author.Rules.{rules}
-use Rattle.protocol.specs.CartSets.{set_of}
 use Rattle.queue.proofs.Steps.{walk_start, walk_turn, walk_end}
 use Rattle.stations.specs.View.{stations_in, listing_in}
 use Rattle.stations.proofs.TableLaws.{listing_word, listing_inside}

@@ -1,15 +1,11 @@
 -- `handoff::complete_rooms` meets its contract.
-use mathlib.Core.Path.{◌≡◌, sym, ◌∙◌}
-use Prim.Native.Nat.{ℕ, ◌+◌}
-use native.Mathlib.Omega.{arith}
-use borrow.Author.Rules.{rules}
+use mathlib.Core.Path.{◌≡◌}
+use Prim.Native.Nat.{ℕ}
 use Rattle.protocol.specs.CartSets.{set_of}
-use Rattle.sets.proofs.Walk.{Ahead, ahead_start, ahead_turn, ahead_end}
+use Rattle.sets.proofs.Walk.{Ahead}
 use Rattle.stations.specs.View.{stations_in, listing_in}
-use Rattle.stations.proofs.TableLaws.{listing_word, listing_inside}
 use Rattle.messages.specs.View.{rooms_in}
 use Rattle.handoff.specs.Forwarded.{goes}
-use Rattle.handoff.proofs.ForwardLaws.{found_none, found_skips, found_more, not_listed}
 use Rattle.handoff.proofs.complete_rooms.Given as goal
 
 -- the walk has come to room k, and those of the rooms before it whose lists go are found

@@ -1,13 +1,12 @@
 -- `handoff::dock_unnamed` meets its contract.
 use native.Mathlib.Omega.{arith}
-use borrow.Author.Rules.{rules}
 use Rattle.protocol.proofs.SetLaws.{has_zero}
 use Rattle.stations.specs.View.{stations_in}
 use Rattle.messages.specs.View.{rooms_in}
 use Rattle.queue.specs.Rooms.{tables_floor, room_count}
 use Rattle.catchup.specs.Arrival.{none_near}
 use Rattle.catchup.proofs.RowLaws.{rises_little, rise_is}
-use Rattle.catchup.proofs.OnePass.{Known, known_start, known_skips, known_all}
+use Rattle.catchup.proofs.OnePass.{known_start, known_skips, known_all}
 use Rattle.handoff.proofs.RiseLaws.{joins_none, no_depth}
 use Rattle.handoff.proofs.RoomByRoom.{struck_none}
 use Rattle.handoff.proofs.dock_unnamed.Goals as goal

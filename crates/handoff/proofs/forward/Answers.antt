@@ -1,6 +1,5 @@
 -- `handoff::forward` meets its contract.
 use native.Mathlib.Omega.{arith}
-use borrow.Author.Rules.{rules}
 use Rattle.handoff.proofs.ForwardLaws.{all_keyed, as_many, all_forwarded}
 use Rattle.handoff.proofs.forward.Goals as goal
 

@@ -1,5 +1,4 @@
 -- `handoff::is_passed` meets its contract.
-use borrow.Author.Rules.{rules}
 use borrow.Author.Tests.{not-true, not-false}
 use Rattle.stations.specs.View.{stations_in}
 use Rattle.messages.specs.View.{rooms_in}

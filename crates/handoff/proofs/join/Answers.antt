@@ -1,6 +1,5 @@
 -- `handoff::join` meets its contract.
 use mathlib.Core.Path.{◌∙◌}
-use borrow.Author.Rules.{rules}
 use Rattle.stations.specs.View.{stations_in}
 use Rattle.handoff.proofs.RiseLaws.{joins}
 use Rattle.handoff.proofs.join.Goals as goal

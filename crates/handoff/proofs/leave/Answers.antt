@@ -2,7 +2,6 @@
 use mathlib.Core.Path.{◌∙◌}
 use Rattle.stations.specs.View.{stations_in}
 use Rattle.handoff.proofs.LeaveLaws.{leaves}
-use borrow.Author.Rules.{rules}
 use Rattle.handoff.proofs.leave.Goals as goal
 
 pub returns : goal.returns

@@ -17,7 +17,6 @@ use Rattle.reports.specs.declared.Effect.{Effect}
 use Rattle.reports.specs.Effects.{putting}
 use Rattle.handoff.specs.Forwarded.{goes, ordered_rooms}
 use Rattle.handoff.proofs.ForwardLaws.{gone_counts}
-use borrow.Author.Rules.{rules}
 use Rattle.handoff.proofs.on_deregister.Goals as goal
 
 pub forward-sent-requires : goal.forward-sent-requires

@@ -1,7 +1,6 @@
 -- `handoff::on_enter` meets its contract.
 use native.Mathlib.Omega.{arith}
 use Rattle.protocol.specs.Folds.{list_of}
-use borrow.Author.Rules.{rules}
 use Rattle.handoff.proofs.on_enter.Goals as goal
 
 pub tell-requires : goal.tell-requires

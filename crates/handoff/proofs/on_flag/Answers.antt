@@ -1,5 +1,4 @@
 -- `handoff::on_flag` meets its contract.
-use borrow.Author.Rules.{rules}
 use Rattle.handoff.proofs.on_flag.Goals as goal
 
 pub returns : goal.returns

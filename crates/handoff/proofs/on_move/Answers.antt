@@ -1,6 +1,5 @@
 -- `handoff::on_move` meets its contract.
 use mathlib.Core.Path.{◌∙◌, subst}
-use borrow.Author.Rules.{rules}
 use Rattle.lines.specs.declared.Record as word
 use Rattle.lines.specs.Post.{Pushed}
 use Prim.Native.Nat.{◌+◌, ◌*◌}

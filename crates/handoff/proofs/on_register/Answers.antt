@@ -6,7 +6,6 @@ use Rattle.carts.proofs.TableLaws.{next_beyond}
 use Rattle.carts.proofs.StepLaws.{arrive_step}
 use Rattle.reports.proofs.Effects.{only_queues}
 use Rattle.handoff.specs.Arrived.{Arrived}
-use borrow.Author.Rules.{rules}
 use Rattle.handoff.proofs.on_register.Goals as goal
 
 pub returns : goal.returns

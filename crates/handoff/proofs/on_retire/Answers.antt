@@ -6,7 +6,6 @@ use Rattle.stations.specs.View.{Head, stations_in, with_local, groups_without}
 use Rattle.carts.specs.View.{carts_in}
 use Rattle.carts.proofs.TableLaws.{next_beyond}
 use Rattle.carts.proofs.StepLaws.{retire_step}
-use borrow.Author.Rules.{rules}
 use Rattle.handoff.proofs.on_retire.Goals as goal
 
 pub returns : goal.returns

@@ -1,5 +1,4 @@
 -- `handoff::settle` meets its contract.
-use borrow.Author.Rules.{rules}
 use Rattle.stations.specs.View.{stations_in}
 use Rattle.handoff.proofs.RiseLaws.{settles}
 use Rattle.handoff.proofs.settle.Goals as goal

@@ -1,16 +1,14 @@
-use mathlib.Core.Path.{◌≡◌, refl, ◌∙◌}
-use Prim.Native.Nat.{ℕ, ◌+◌}
+use mathlib.Core.Path.{refl, ◌∙◌}
+use Prim.Native.Nat.{◌+◌}
 use native.Mathlib.Omega.{arith}
-use lib.ListN.{length}
 use borrow.Author.Rules.{rules}
 use Rattle.queue.specs.Rooms.{room_count}
 use Rattle.queue.proofs.Steps.{walk_start, walk_turn, walk_end}
-use Rattle.stations.specs.View.{stations_in, head_in}
+use Rattle.stations.specs.View.{stations_in}
 use Rattle.messages.specs.View.{rooms_in}
-use Rattle.catchup.specs.Naming.{Covers}
 use Rattle.catchup.proofs.NamingLaws.{by_initiator}
 use Rattle.handoff.proofs.PassedLaws.{passed_nowhere, passed_none_of_us}
-use Rattle.handoff.proofs.RoomByRoom.{struck_to, strike_none, strike_by, strike_kept, strike_skips, strike_all}
+use Rattle.handoff.proofs.RoomByRoom.{strike_none, strike_by, strike_kept, strike_skips, strike_all}
 use Rattle.handoff.proofs.strike.Goals as goal
 
 pub loop-m-init : goal.loop-m-init

@@ -1,17 +1,13 @@
 -- `handoff::strike` meets its contract.
-use mathlib.Core.Path.{◌≡◌, refl, ◌∙◌}
-use Prim.Native.Nat.{ℕ, ◌+◌}
-use native.Mathlib.Omega.{arith}
+use mathlib.Core.Path.{◌≡◌}
+use Prim.Native.Nat.{ℕ}
 use lib.ListN.{length}
-use borrow.Author.Rules.{rules}
 use Rattle.queue.specs.Rooms.{room_count}
-use Rattle.sets.proofs.Walk.{Ahead, ahead_start, ahead_turn}
+use Rattle.sets.proofs.Walk.{Ahead}
 use Rattle.stations.specs.View.{stations_in, head_in}
 use Rattle.messages.specs.View.{rooms_in}
 use Rattle.catchup.specs.Naming.{Covers}
-use Rattle.catchup.proofs.NamingLaws.{by_initiator}
-use Rattle.handoff.proofs.PassedLaws.{passed_nowhere}
-use Rattle.handoff.proofs.RoomByRoom.{struck_to, strike_none, strike_by, strike_kept, strike_skips, strike_all}
+use Rattle.handoff.proofs.RoomByRoom.{struck_to}
 use Rattle.handoff.proofs.strike.Given as goal
 
 -- the walk over the rooms that may name the cart has come to room k, and the cart is struck in the rooms before it; those ahead may name it still

@@ -1,7 +1,6 @@
 -- `handoff::strike_from` meets its contract.
 use mathlib.Core.Path.{refl, ap, ◌∙◌}
 use Prim.Native.Nat.{ℕ}
-use borrow.Author.Rules.{rules}
 use borrow.Author.Tests.{not-true, not-false}
 use Rattle.protocol.specs.CartSets.{without}
 use Rattle.stations.specs.View.{stations_in}

@@ -3,7 +3,6 @@ use mathlib.Core.Path.{◌∙◌}
 use Rattle.carts.specs.View.{carts_in}
 use Rattle.carts.proofs.TableLaws.{next_beyond}
 use Rattle.carts.proofs.StepLaws.{told_step}
-use borrow.Author.Rules.{rules}
 use Rattle.handoff.proofs.tell.Goals as goal
 
 pub returns : goal.returns

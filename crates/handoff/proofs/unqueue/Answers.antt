@@ -1,12 +1,10 @@
-use mathlib.Core.Path.{◌≡◌, refl, ap, ◌∙◌}
+use mathlib.Core.Path.{refl, ap, ◌∙◌}
 use Prim.Native.Nat.{ℕ, ◌+◌}
-use native.Mathlib.Omega.{arith}
-use lib.ListN.{length}
 use borrow.Author.Rules.{rules}
 use Rattle.queue.proofs.Steps.{walk_start, walk_turn, walk_end}
-use Rattle.stations.specs.View.{stations_in, head_in, entries_in}
+use Rattle.stations.specs.View.{stations_in, entries_in}
 use Rattle.stations.proofs.TableLaws.{entries_word, entries_inside, not_in_entries}
-use Rattle.handoff.proofs.RoomByRoom.{unqueued_to, unqueue_none, unqueue_one, unqueue_skips, unqueue_all}
+use Rattle.handoff.proofs.RoomByRoom.{unqueue_none, unqueue_one, unqueue_skips, unqueue_all}
 use Rattle.handoff.proofs.unqueue.Goals as goal
 
 pub loop-m-init : goal.loop-m-init
