@@ -16,12 +16,21 @@ use Rattle.event_answers.specs.Met.{Ready}
 use Rattle.frame_lines.specs.Lines.{line_room}
 use Rattle.frame_lines.proofs.Octets.{written_none}
 use Rattle.frame_run.specs.declared.Progress.{Progress}
+use Rattle.frame_run.specs.declared.Stop.{Stop}
+use Rattle.frame_run.specs.declared.Stop.TheVariants.{Full, Waits, Ended}
+use Rattle.frame_run.specs.Stops.{stop_number}
 use Rattle.frame_run.specs.Piece.{run_from}
 use Rattle.frame_run.specs.Went.{InRun, NoneWhole, EndsRun, WentOn, TurnedOn}
 
+-- a run that nothing has stopped
+pub is_full : (s : Stop) → stop_number s ≡ 0 → s ≡ Full
+is_full Full e = refl
+is_full Waits e = absurd (omega arith)
+is_full Ended e = absurd (omega arith)
+
 -- the first progress
 abbrev pub none_yet : Progress
-none_yet = record { read = 0; written = 0; frames = 0; state = 0 }
+none_yet = record { read = 0; written = 0; frames = 0; state = Full }
 
 -- before each frame
 pub record Going (Kept : Lent → Type 0) (input : List ℕ) (index : ℕ) (last : Bool) (L₀ L : Lent) (out₀ out : List ℕ) (p : Progress) : Type 0 where
@@ -31,15 +40,15 @@ pub record Going (Kept : Lent → Type 0) (input : List ℕ) (index : ℕ) (last
   pub inside : p.read ≤ length input
   pub within : p.written ≤ length out
   pub kept : length out ≡ length out₀
-  pub few : p.state ≡ 0 → p.frames ≤ p.read
+  pub few : stop_number p.state ≡ 0 → p.frames ≤ p.read
   pub counted : p.frames ≤ p.read + 1
-  pub why : p.state ≤ 2
-  pub waits : p.state ≡ 1 → NoneWhole last (read_at limits input p.read)
-  pub ends : p.state ≡ 2 → EndsRun last (read_at limits input p.read)
+  pub why : stop_number p.state ≤ 2
+  pub waits : stop_number p.state ≡ 1 → NoneWhole last (read_at limits input p.read)
+  pub ends : stop_number p.state ≡ 2 → EndsRun last (read_at limits input p.read)
 
 -- what falls with each frame: the octets left, and that the run goes on
 abbrev pub left : List ℕ → Progress → ℕ
-left input p = length input - p.read + cond (eqb p.state 0) 1 0
+left input p = length input - p.read + cond (eqb (stop_number p.state) 0) 1 0
 
 module _ (Kept : Lent → Type 0) (input : List ℕ) (index : ℕ) (last : Bool) (L₀ : Lent) (out₀ : List ℕ) where
   pub going_first : Kept L₀ → Going Kept input index last L₀ L₀ out₀ out₀ none_yet
@@ -77,21 +86,22 @@ module _ (Kept : Lent → Type 0) (input : List ℕ) (index : ℕ) (last : Bool)
           ends = t.ends;
         }
 
-    pub going_less : (L' : Lent) (out' : List ℕ) (r : Progress) → p.state ≡ 0 → TurnedOn Kept input (index + p.frames) last L L' out out' p r → left input r < left input p
+    pub going_less : (L' : Lent) (out' : List ℕ) (r : Progress) → p.state ≡ Full → TurnedOn Kept input (index + p.frames) last L L' out out' p r → left input r < left input p
     going_less L' out' r e t =
         let a = g.inside in
         let b = t.inside in
         let c = t.stays in
-        by_eq r.state 0
-        (λ z. let d = t.onward z in rw (eq-eqb r.state 0 z, eq-eqb p.state 0 e) (omega arith))
-        (λ z. rw (ne_eqb r.state 0 z, eq-eqb p.state 0 e) (omega arith))
+        let on : stop_number p.state ≡ 0 = ap stop_number e in
+        by_eq (stop_number r.state) 0
+        (λ z. let d = t.onward z in rw (eq-eqb (stop_number r.state) 0 z, eq-eqb (stop_number p.state) 0 on) (omega arith))
+        (λ z. rw (ne_eqb (stop_number r.state) 0 z, eq-eqb (stop_number p.state) 0 on) (omega arith))
 
     -- the test of the loop
-    module _ (b : Bool) (test : b ≡ (eqb p.state 0 && leb (p.written + line_room) (length out))) where
-      pub goes : b ≡ true → (p.state ≡ 0) × (p.written + line_room ≤ length out)
+    module _ (b : Bool) (test : b ≡ (eqb (stop_number p.state) 0 && leb (p.written + line_room) (length out))) where
+      pub goes : b ≡ true → (p.state ≡ Full) × (p.written + line_room ≤ length out)
       goes t =
-          let both : (eqb p.state 0 && leb (p.written + line_room) (length out)) ≡ true = sym test ∙ t in
-          (eqb-true p.state 0 (and_left (eqb p.state 0) (leb (p.written + line_room) (length out)) both), leb-true (p.written + line_room) (length out) (and_right (eqb p.state 0) (leb (p.written + line_room) (length out)) both))
+          let both : (eqb (stop_number p.state) 0 && leb (p.written + line_room) (length out)) ≡ true = sym test ∙ t in
+          (is_full p.state (eqb-true (stop_number p.state) 0 (and_left (eqb (stop_number p.state) 0) (leb (p.written + line_room) (length out)) both)), leb-true (p.written + line_room) (length out) (and_right (eqb (stop_number p.state) 0) (leb (p.written + line_room) (length out)) both))
 
       pub stops : b ≡ false → WentOn Kept input index last L₀ L out₀ out p
       stops t =
@@ -106,17 +116,17 @@ module _ (Kept : Lent → Type 0) (input : List ℕ) (index : ℕ) (last : Bool)
             why = g.why;
             waits = g.waits;
             ends = g.ends;
-            full = λ z. let none : leb (p.written + line_room) (length out) ≡ false = ap (λ (x : Bool). x && leb (p.written + line_room) (length out)) (sym (eq-eqb p.state 0 z)) ∙ sym test ∙ t in
+            full = λ z. let none : leb (p.written + line_room) (length out) ≡ false = ap (λ (x : Bool). x && leb (p.written + line_room) (length out)) (sym (eq-eqb (stop_number p.state) 0 z)) ∙ sym test ∙ t in
                 let short = leb-false (p.written + line_room) (length out) none in let k = g.kept in omega arith;
           }
 
 -- the test itself
-pub not_going : (p : Progress) (n : ℕ) → (p.state ≡ 0 → ⊥) → false ≡ (eqb p.state 0 && leb (p.written + line_room) n)
-not_going p n h = rw (ne_eqb p.state 0 h) refl
+pub not_going : (p : Progress) (n : ℕ) → (stop_number p.state ≡ 0 → ⊥) → false ≡ (eqb (stop_number p.state) 0 && leb (p.written + line_room) n)
+not_going p n h = rw (ne_eqb (stop_number p.state) 0 h) refl
 
-pub by_room : (p : Progress) (n : ℕ) → p.state ≡ 0 → p.written ≤ n → leb line_room (n - p.written) ≡ (eqb p.state 0 && leb (p.written + line_room) n)
+pub by_room : (p : Progress) (n : ℕ) → stop_number p.state ≡ 0 → p.written ≤ n → leb line_room (n - p.written) ≡ (eqb (stop_number p.state) 0 && leb (p.written + line_room) n)
 by_room p n e h =
-    rw (eq-eqb p.state 0 e)
+    rw (eq-eqb (stop_number p.state) 0 e)
     (by_lt (n - p.written) line_room
     (λ l. lt-leb line_room (n - p.written) l ∙ sym (lt-leb (p.written + line_room) n (omega arith)))
     (λ l. le-leb line_room (n - p.written) l ∙ sym (le-leb (p.written + line_room) n (omega arith))))

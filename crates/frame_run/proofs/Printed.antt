@@ -23,6 +23,7 @@ use Rattle.protocol.proofs.Theorems.{form_unstarted}
 use Rattle.view.specs.View.{Lent, floor_in}
 use Rattle.frame_lines.specs.Lines.{written}
 use Rattle.frame_run.specs.declared.Progress.{Progress}
+use Rattle.frame_run.specs.Stops.{stop_number}
 use Rattle.frame_run.specs.Piece.{Ran, still, run_from}
 use Rattle.frame_run.specs.CanRun.{Unstarted}
 use Rattle.frame_run.specs.Went.{NoneWhole, Went}
@@ -175,14 +176,14 @@ front_of out out' printed n e q = ap₂ take e q ∙ take-append_seam printed (d
 
 -- WHAT `take_frames` PRINTS from an unstarted lent floor with the whole input, where the output has room for it
 pub take_frames_prints : (input : List ℕ) (L L' : Lent) (out out' : List ℕ) (p : Progress) → Unstarted (floor_in L) → Went input 0 true L L' out out' p
-    → (p.state ≡ 0 → ⊥) → take p.written out' ≡ printed_run (limits_of L.product) input
+    → (stop_number p.state ≡ 0 → ⊥) → take p.written out' ≡ printed_run (limits_of L.product) input
 take_frames_prints input L L' out out' p U w room =
     let R = run_from L.product p.frames (floor_in L) 0 input in
     front_of out out' R.printed p.written w.run.wrote w.run.octets
     ∙ sym (printed_whole L.product (floor_in L) U p.frames input (sym w.run.counted)
-    (by_eq p.state 2 (λ two. inl (w.run.ended ∙ eq-eqb p.state 2 two))
+    (by_eq (stop_number p.state) 2 (λ two. inl (w.run.ended ∙ eq-eqb (stop_number p.state) 2 two))
     (λ other.
-    let one : p.state ≡ 1 = let z = w.why in omega arith in
+    let one : stop_number p.state ≡ 1 = let z = w.why in omega arith in
     inr (ap (read_at limits input) (sym w.run.read) ∙ at_end_lem (read_at limits input p.read) (w.waits one)))))
   where
     at_end_lem : (r : Reading) → NoneWhole true r → r ≡ end

@@ -1,38 +1,34 @@
 -- ONE FRAME OF THE RUN: from the state of a run to the state of the run with one frame more.
 use mathlib.Core.Path.{◌≡◌, refl, sym, ap, ap₂, ◌∙◌, subst}
-use mathlib.Core.Bool.{Bool, true, false, not, cond, ◌&&◌, ◌||◌}
-use mathlib.Core.List.{List, [], ◌∷◌, ◌++◌}
+use mathlib.Core.Bool.{Bool, true, false, not, cond, ◌&&◌}
+use mathlib.Core.List.{List, ◌++◌}
 use Prim.{tt}
-use Prim.Native.Nat.{◌<◌, ℕ, ◌*◌, suc, ◌+◌, ◌-◌, ◌≤◌}
+use Prim.Native.Nat.{ℕ, suc, ◌+◌, ◌≤◌}
 use native.Mathlib.Omega.{arith}
 use lib.Dec.{eqb}
 use lib.ListN.{length, drop, length-append}
 use borrow.Author.Tests.{eqb-true, eq-eqb, ne_eqb, not-true, not-false}
-use denote.Enum.Declared.{tag_of}
-use types.Run.{OneOf, miss}
-use Rattle.protocol.proofs.Tests.{and_left, and_right, or_cases, or-false, by_lt, by_eq, clash}
+use Rattle.protocol.proofs.Tests.{and_left, and_right}
 use Rattle.protocol.specs.Floor.{Product, limits, limits_of, Floor}
 use Rattle.protocol.specs.Events.{refused}
 use Rattle.protocol.specs.Events as events
 use Rattle.protocol.specs.Step.{step, answer}
-use Rattle.protocol.specs.Frames.{Fields, Reading, end, refused_frame, taken, fields_of, fields_refusal, read_at}
+use Rattle.protocol.specs.Frames.{Reading, refused_frame, taken, read_at}
 use Rattle.protocol.specs.Printed.{line_of}
-use Rattle.messages.specs.Texts.{HasText}
 use Rattle.view.specs.View.{Lent, floor_in}
-use Rattle.view.proofs.Lengths.{lengths_of}
 use Rattle.frame_lines.specs.Lines.{written, Wrote, longest_line, longest_refusal, line_room}
 use Rattle.frame_lines.proofs.Octets.{written_length, written_then}
 use Rattle.event_answers.specs.Met.{Ready, Met}
 use Rattle.event_answers.proofs.Readies.{stays_ready}
 use Rattle.frames.specs.declared.Event.{Event}
 use Rattle.frames.specs.declared.Event.TheVariants.{Start, Enter, Send, Wire, Radio, Move, Flag, Group, SendGroup, SendLong, Retire}
-use Rattle.frames.specs.declared.Reading as decoder
-use Rattle.frames.specs.declared.Reading.TheVariants.{End, Refused, Taken}
-use Rattle.frames.specs.Decoded.{event_in, size_of, reading_in, refusal_number, refusal_of}
-use Rattle.frames.proofs.Laws.{nothing_left, cut_frame, refused_frame_lem, taken_frame}
-use Rattle.frames.proofs.Values.{same_number}
-use Rattle.frames.specs.contracts.Reading.{the_type as reading_type}
+use Rattle.std.specs.Prelude.{Option, None, Some, Result, Ok, Err}
+use Rattle.refusals.specs.declared.Refusal.{Refusal}
+use Rattle.refusals.specs.Numbers.{number_of}
+use Rattle.frames.specs.Decoded.{event_in, size_of, reading_in}
 use Rattle.frame_run.specs.declared.Progress.{Progress}
+use Rattle.frame_run.specs.declared.Stop.TheVariants.{Waits, Ended}
+use Rattle.frame_run.specs.Stops.{stop_number}
 use Rattle.frame_run.specs.Piece.{Ran, run_from}
 use Rattle.frame_run.specs.Went.{InRun, NoneWhole, EndsRun, Took, TookOn, TurnedOn}
 use Rattle.frame_run.proofs.Pieces.{more, onward, one_more}
@@ -40,7 +36,7 @@ use Rattle.frame_run.proofs.Pieces.{more, onward, one_more}
 -- the event that happened and the line that was printed
 pub took : (index : ℕ) (L L' : Lent) (out out' : List ℕ) (p r : Progress) (e : events.Event) (size : ℕ) (a : events.Answer)
     → Ready L → Met L L' e a → Wrote longest_line (line_of index a) out out' p.written r.written
-    → r.read ≡ p.read + size → r.frames ≡ p.frames + 1 → r.state ≡ 0 → Took index L L' out out' p r e size
+    → r.read ≡ p.read + size → r.frames ≡ p.frames + 1 → stop_number r.state ≡ 0 → Took index L L' out out' p r e size
 took index L L' out out' p r e size a R met line read frames state =
     record {
       product = met.product;
@@ -52,58 +48,9 @@ took index L L' out out' p r e size a R met line read frames state =
       state = state;
     }
 
--- IS NO WHOLE FRAME THERE: what the code asks of a refusal's number, which is 0 where there is none
-abbrev pub none_whole : ℕ → Bool → Bool
-none_whole number last = eqb number 0 || (eqb number 1 && not last)
-
-pub at_end_lem : (number : ℕ) (last : Bool) → number ≡ 0 → true ≡ none_whole number last
-at_end_lem number last e = rw (eq-eqb number 0 e) refl
-
-pub not_cut : (number : ℕ) (last : Bool) → (number ≡ 0 → ⊥) → (number ≡ 1 → ⊥) → false ≡ none_whole number last
-not_cut number last z n = rw (ne_eqb number 0 z, ne_eqb number 1 n) refl
-
-pub cut : (number : ℕ) (last : Bool) → (number ≡ 0 → ⊥) → number ≡ 1 → not last ≡ none_whole number last
-cut number last z e = rw (ne_eqb number 0 z, eq-eqb number 1 e) refl
-
--- a frame's refusal is never 0
-some_number : (l : List ℕ) (at r : ℕ) → read_at limits l at ≡ refused_frame r → r ≡ 0 → ⊥
-some_number l at r q z =
-    by_lt at (length l)
-    (λ h. by_lt (length l - at) 16
-    (λ s. let w : r ≡ 1 = cc (cut_frame l at h s) in omega arith)
-    (λ s. by_eq (fields_refusal limits f (length l - at - 16)) 0
-    (λ e. let w : ◌≡◌ {A = ℕ} 0 1 = cc (taken_frame l at f s refl (sym e)) in omega arith)
-    (λ e. let w : r ≡ fields_refusal limits f (length l - at - 16) = cc (refused_frame_lem l at f s refl _ refl e) in e (sym w ∙ z))))
-    (λ h. let w : ◌≡◌ {A = ℕ} 0 1 = cc (nothing_left l at h) in omega arith)
-  where
-    f : Fields
-    f = fields_of (drop at l)
-
--- what stands there is no event
-abbrev NoEvent : Reading → Type 0
-NoEvent end = Unit {0}
-NoEvent (refused_frame r) = Unit {0}
-NoEvent (taken e size) = ⊥
-
-waits_at : (last : Bool) (r : Reading) (number : ℕ) → NoEvent r → ((n : ℕ) → r ≡ refused_frame n → n ≡ 0 → ⊥) → number ≡ refusal_number r → none_whole number last ≡ true
-    → NoneWhole last r
-waits_at last end number h some e t = tt
-waits_at last (refused_frame n) number h some e t =
-    or_cases (eqb number 0) (eqb number 1 && not last) t
-    (λ z. absurd (some n refl (sym e ∙ eqb-true number 0 z)))
-    (λ z. (sym e ∙ eqb-true number 1 (and_left (eqb number 1) (not last) z), not-true last (and_right (eqb number 1) (not last) z)))
-waits_at last (taken x size) number h some e t = absurd h
-
-refused_at : (last : Bool) (r : Reading) (number : ℕ) → NoEvent r → number ≡ refusal_number r → none_whole number last ≡ false
-    → (r ≡ refused_frame number) × (number ≡ 1 → last ≡ true)
-refused_at last end number h e f = clash (none_whole number last) (sym (at_end_lem number last e)) f
-refused_at last (refused_frame n) number h e f = (
-  ap refused_frame (sym e),
-  λ one.
-      let whole : not last ≡ false = ap (λ (x : Bool). x && not last) (sym (eq-eqb number 1 one)) ∙ (or-false (eqb number 0) (eqb number 1 && not last) f).1 in
-      not-false last whole,
-)
-refused_at last (taken x size) number h e f = absurd h
+-- IS A REFUSED FRAME ONLY NOT WHOLE YET: what the code asks of its refusal
+abbrev pub none_whole : Refusal → Bool → Bool
+none_whole refusal last = eqb (number_of refusal) 1 && not last
 
 -- THE STATE OF A RUN, one line further
 module _ (R : Ran) (L L' : Lent) (out₀ out out' : List ℕ) (p r : Progress) (most : ℕ) (line : List ℕ) (now_in : InRun R L out₀ out p)
@@ -111,7 +58,7 @@ module _ (R : Ran) (L L' : Lent) (out₀ out out' : List ℕ) (p r : Progress) (
   whole : length out ≡ length out₀
   whole = let a = now_in.wrote in let b = now_in.fits in ap length now_in.octets ∙ written_length out₀ 0 R.printed (omega arith)
 
-  further : (X : Floor) (k : ℕ) (b : Bool) → r.frames ≡ p.frames + 1 → floor_in L' ≡ X → r.read ≡ k → b ≡ eqb r.state 2
+  further : (X : Floor) (k : ℕ) (b : Bool) → r.frames ≡ p.frames + 1 → floor_in L' ≡ X → r.read ≡ k → b ≡ eqb (stop_number r.state) 2
       → InRun (record { count = suc R.count; printed = R.printed ++ line; floor = X; octets = k; ended = b }) L' out₀ out' r
   further X k b n f q e =
       let a = now_in.wrote in
@@ -130,7 +77,7 @@ module _ (R : Ran) (L L' : Lent) (out₀ out out' : List ℕ) (p r : Progress) (
         ended = e;
       }
 
-module _ (P : Product) (input : List ℕ) (first index : ℕ) (F : Floor) (L : Lent) (out₀ out : List ℕ) (p : Progress) (going : p.state ≡ 0) (at : index ≡ first + p.frames) where
+module _ (P : Product) (input : List ℕ) (first index : ℕ) (F : Floor) (L : Lent) (out₀ out : List ℕ) (p : Progress) (going : stop_number p.state ≡ 0) (at : index ≡ first + p.frames) where
   abbrev R : Ran
   R = run_from P p.frames F first input
 
@@ -138,7 +85,7 @@ module _ (P : Product) (input : List ℕ) (first index : ℕ) (F : Floor) (L : L
   pub next_frame : (k : ℕ) (reading : Reading) → InRun R L out₀ out p → k ≡ p.frames + 1 → read_at limits input p.read ≡ reading → run_from P k F first input ≡ more P R index reading
   next_frame k reading h e q =
       let one : k ≡ suc p.frames = omega arith in
-      let goes : R.ended ≡ false = h.ended ∙ ne_eqb p.state 2 (λ z. omega arith) in
+      let goes : R.ended ≡ false = h.ended ∙ ne_eqb (stop_number p.state) 2 (λ z. omega arith) in
       ap (λ (n : ℕ). run_from P n F first input) one ∙ one_more P p.frames F first input
       ∙ ap (λ (n : ℕ). onward P R n (read_at limits input R.octets)) (sym at)
       ∙ ap (λ (b : Bool). cond b R (more P R index (read_at limits input R.octets))) goes
@@ -146,19 +93,19 @@ module _ (P : Product) (input : List ℕ) (first index : ℕ) (F : Floor) (L : L
       ∙ ap (λ (x : Reading). more P R index x) q
 
 -- THE THREE WAYS of a frame
-module _ (Kept : Lent → Type 0) (input : List ℕ) (index : ℕ) (last : Bool) (L : Lent) (out : List ℕ) (p : Progress) (ready : Kept L) (going : p.state ≡ 0) (inside : p.read ≤ length input)
+module _ (Kept : Lent → Type 0) (input : List ℕ) (index : ℕ) (last : Bool) (L : Lent) (out : List ℕ) (p : Progress) (ready : Kept L) (going : stop_number p.state ≡ 0) (inside : p.read ≤ length input)
     (room : p.written + line_room ≤ length out) (few : p.frames ≤ p.read) where
   -- none is whole
-  pub turned_waits : (r : Progress) → r ≡ record { read = p.read; written = p.written; frames = p.frames; state = 1 } → NoneWhole last (read_at limits input p.read)
+  pub turned_waits : (r : Progress) → r ≡ record { read = p.read; written = p.written; frames = p.frames; state = Waits } → NoneWhole last (read_at limits input p.read)
       → TurnedOn Kept input index last L L out out p r
   turned_waits r e none = subst (λ (x : Progress). TurnedOn Kept input index last L L out out p x) (sym e) stands
     where
-      stands : TurnedOn Kept input index last L L out out p (record { read = p.read; written = p.written; frames = p.frames; state = 1 })
+      stands : TurnedOn Kept input index last L L out out p (record { read = p.read; written = p.written; frames = p.frames; state = Waits })
       stands =
           record {
             product = refl;
             ready = ready;
-            runs = λ F first out₀ at h. record { floor = h.floor; counted = h.counted; read = h.read; wrote = h.wrote; fits = h.fits; octets = h.octets; ended = h.ended ∙ ne_eqb p.state 2 (λ z. omega arith) };
+            runs = λ F first out₀ at h. record { floor = h.floor; counted = h.counted; read = h.read; wrote = h.wrote; fits = h.fits; octets = h.octets; ended = h.ended ∙ ne_eqb (stop_number p.state) 2 (λ z. omega arith) };
             inside = inside;
             within = omega arith;
             kept = refl;
@@ -173,25 +120,26 @@ module _ (Kept : Lent → Type 0) (input : List ℕ) (index : ℕ) (last : Bool)
 
   -- one is refused, and ends the run
   pub turned_refused : (out' : List ℕ) (r : Progress) (number : ℕ) → read_at limits input p.read ≡ refused_frame number
-      → Wrote longest_refusal (line_of index (refused number)) out out' p.written r.written → (r.read ≡ p.read) × (r.frames ≡ p.frames + 1) × (r.state ≡ 2)
+      → Wrote longest_refusal (line_of index (refused number)) out out' p.written r.written → (r.read ≡ p.read) × (r.frames ≡ p.frames + 1) × (r.state ≡ Ended)
       → (number ≡ 1 → last ≡ true) → TurnedOn Kept input index last L L out out' p r
   turned_refused out' r number q wrote is cut_last =
+      let over : stop_number r.state ≡ 2 = ap stop_number is.2 in
       record {
         product = refl;
         ready = ready;
         runs = λ F first out₀ at h.
             subst (λ (X : Ran). InRun X L out₀ out' r) (sym (next_frame L.product input first index F L out₀ out p going at r.frames (refused_frame number) h is.1 q))
             (further (run_from L.product p.frames F first input) L L out₀ out out' p r longest_refusal _ h wrote (omega arith) (run_from L.product p.frames F first input).floor (run_from L.product p.frames F first input).octets true
-            is.1 h.floor (is.0 ∙ h.read) (sym (eq-eqb r.state 2 is.2)));
+            is.1 h.floor (is.0 ∙ h.read) (sym (eq-eqb (stop_number r.state) 2 over)));
         inside = let a = is.0 in omega arith;
         within = let a = wrote.few in omega arith;
         kept = wrote.kept;
-        few = λ z. absurd (let a = is.2 in omega arith);
+        few = λ z. absurd (let a = over in omega arith);
         counted = let a = is.0 in let b = is.1 in omega arith;
-        onward = λ z. absurd (let a = is.2 in omega arith);
+        onward = λ z. absurd (let a = over in omega arith);
         stays = let a = is.0 in omega arith;
-        why = let a = is.2 in omega arith;
-        waits = λ z. absurd (let a = is.2 in omega arith);
+        why = let a = over in omega arith;
+        waits = λ z. absurd (let a = over in omega arith);
         ends = λ z. subst (λ (x : Reading). EndsRun last x) (sym (ap (read_at limits input) is.0 ∙ q)) cut_last;
       }
 
@@ -208,7 +156,7 @@ module _ (Kept : Lent → Type 0) (input : List ℕ) (index : ℕ) (last : Bool)
             let line = subst (λ (a : events.Answer). Wrote longest_line (line_of index a) out out' p.written r.written) same t.line in
             subst (λ (Y : Ran). InRun Y L' out₀ out' r) (sym (next_frame L.product input first index F L out₀ out p going at r.frames (taken e size) h t.frames q))
             (further X L L' out₀ out out' p r longest_line _ h line (omega arith) (step (limits_of L.product) X.floor e) (X.octets + size) false
-            t.frames (t.floor ∙ ap (λ (G : Floor). step (limits_of L.product) G e) h.floor) (let a = h.read in let b = t.read in omega arith) (sym (ne_eqb r.state 2 (λ z. let a = t.state in omega arith))));
+            t.frames (t.floor ∙ ap (λ (G : Floor). step (limits_of L.product) G e) h.floor) (let a = h.read in let b = t.read in omega arith) (sym (ne_eqb (stop_number r.state) 2 (λ z. let a = t.state in omega arith))));
         inside = let a = t.read in omega arith;
         within = let a = t.line.few in omega arith;
         kept = t.line.kept;
@@ -222,26 +170,27 @@ module _ (Kept : Lent → Type 0) (input : List ℕ) (index : ℕ) (last : Bool)
       }
 
 -- WHAT THE DECODER SAID of the frame there
-module _ (input : List ℕ) (at : ℕ) (last : Bool) (said : decoder.Reading) (read : reading_in (drop at input) said ≡ read_at limits input at) where
-  no_event : OneOf (0 ∷ 1 ∷ []) (tag_of reading_type said) → NoEvent (read_at limits input at)
-  no_event k = subst NoEvent read (by said k)
-    where
-      by : (x : decoder.Reading) → OneOf (0 ∷ 1 ∷ []) (tag_of reading_type x) → NoEvent (reading_in (drop at input) x)
-      by End k = tt
-      by (Refused n) k = tt
-      by (Taken e) k = absurd (miss (0 ∷ 1 ∷ []) 2 tt k)
+module _ (input : List ℕ) (at : ℕ) (last : Bool) (said : Result (Option Event) Refusal) (read : reading_in (drop at input) said ≡ read_at limits input at) where
+  there : (x : Result (Option Event) Refusal) → said ≡ x → reading_in (drop at input) x ≡ read_at limits input at
+  there x q = ap (reading_in (drop at input)) (sym q) ∙ read
 
-  pub waits_there : OneOf (0 ∷ 1 ∷ []) (tag_of reading_type said) → (number : ℕ) (b : Bool) → number ≡ refusal_of said → b ≡ none_whole number last → b ≡ true
-      → NoneWhole last (read_at limits input at)
-  waits_there k number b e q t =
-      waits_at last (read_at limits input at) number (no_event k) (some_number input at) (e ∙ same_number input at said read) (sym q ∙ t)
+  pub end_there : said ≡ Ok None → NoneWhole last (read_at limits input at)
+  end_there q = subst (NoneWhole last) (there (Ok None) q) tt
 
-  pub refused_there : OneOf (0 ∷ 1 ∷ []) (tag_of reading_type said) → (number : ℕ) (b : Bool) → number ≡ refusal_of said → b ≡ none_whole number last → b ≡ false
-      → (read_at limits input at ≡ refused_frame number) × (number ≡ 1 → last ≡ true)
-  refused_there k number b e q f = refused_at last (read_at limits input at) number (no_event k) (e ∙ same_number input at said read) (sym q ∙ f)
+  module _ (refusal : Refusal) (q : said ≡ Err refusal) (b : Bool) (is : b ≡ none_whole refusal last) where
+    pub cut_there : b ≡ true → NoneWhole last (read_at limits input at)
+    cut_there t =
+        let cut : none_whole refusal last ≡ true = sym is ∙ t in
+        subst (NoneWhole last) (there (Err refusal) q) (eqb-true (number_of refusal) 1 (and_left (eqb (number_of refusal) 1) (not last) cut), not-true last (and_right (eqb (number_of refusal) 1) (not last) cut))
 
-  pub taken_there : (e : Event) → said ≡ Taken e → read_at limits input at ≡ taken (event_in (drop at input) e) (size_of e)
-  taken_there e q = sym read ∙ ap (reading_in (drop at input)) q
+    pub refused_there : b ≡ false → (read_at limits input at ≡ refused_frame (number_of refusal)) × (number_of refusal ≡ 1 → last ≡ true)
+    refused_there f = (
+      sym (there (Err refusal) q),
+      λ one. not-false last (ap (λ (x : Bool). x && not last) (sym (eq-eqb (number_of refusal) 1 one)) ∙ sym is ∙ f),
+    )
+
+  pub taken_there : (e : Event) → said ≡ Ok (Some e) → read_at limits input at ≡ taken (event_in (drop at input) e) (size_of e)
+  taken_there e q = sym (there (Ok (Some e)) q)
 
 pub least_size : (e : Event) → 16 ≤ size_of e
 least_size (Start n k) = omega arith

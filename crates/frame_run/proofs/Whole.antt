@@ -4,7 +4,6 @@ use mathlib.Core.Bool.{Bool, true, false}
 use mathlib.Core.List.{List, ◌++◌, append_assoc}
 use Prim.Native.Nat.{ℕ, zero, suc, ◌+◌, ◌-◌, ◌≤◌, ◌<◌}
 use native.Mathlib.Omega.{arith}
-use lib.Dec.{eqb}
 use lib.ListN.{length, drop, length-drop}
 use lib.Seq.{drop-append-le, drop-drop}
 use borrow.Author.Tests.{eqb-true}
@@ -20,6 +19,7 @@ use Rattle.frames.proofs.Stands.{frame_stands}
 use Rattle.frames.proofs.Values.{taken_inside}
 use Rattle.view.specs.View.{Lent, floor_in}
 use Rattle.frame_run.specs.declared.Progress.{Progress}
+use Rattle.frame_run.specs.Stops.{stop_number}
 use Rattle.frame_run.specs.Piece.{Ran, still, run_from}
 use Rattle.frame_run.specs.Went.{NoneWhole, EndsRun, Went}
 use Rattle.frame_run.proofs.Pieces.{prints, behind}
@@ -79,7 +79,7 @@ pub piece_of_whole : (input : List ℕ) (index : ℕ) (L L' : Lent) (out out' : 
 piece_of_whole input index L L' out out' p w later =
     stands L.product p.frames (floor_in L) index input later (sym w.run.counted)
     (λ ended cut.
-    let over = w.ends (eqb-true p.state 2 (sym w.run.ended ∙ ended)) in
+    let over = w.ends (eqb-true (stop_number p.state) 2 (sym w.run.ended ∙ ended)) in
     let there : read_at limits input p.read ≡ refused_frame 1 = ap (read_at limits input) w.run.read ∙ cut in
     let never : ◌≡◌ {A = Bool} false true = subst (λ (x : Reading). EndsRun false x) there over refl in
     clash false never refl)

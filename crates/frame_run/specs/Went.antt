@@ -9,6 +9,7 @@ use Rattle.view.specs.View.{Lent, floor_in}
 use Rattle.event_answers.specs.Met.{Ready}
 use Rattle.frame_lines.specs.Lines.{written, Wrote, longest_line, line_room}
 use Rattle.frame_run.specs.declared.Progress.{Progress}
+use Rattle.frame_run.specs.Stops.{stop_number}
 use Rattle.frame_run.specs.Piece.{Ran, run_from}
 
 -- the state of a run: the floor that L says, and the lines at the front of the output, which was out₀ before
@@ -19,7 +20,7 @@ pub record InRun (R : Ran) (L : Lent) (out₀ out : List ℕ) (p : Progress) : T
   pub wrote : p.written ≡ length R.printed
   pub fits : p.written ≤ length out₀
   pub octets : out ≡ written out₀ 0 R.printed
-  pub ended : R.ended ≡ eqb p.state 2
+  pub ended : R.ended ≡ eqb (stop_number p.state) 2
 
 -- no whole frame is left: no octet is, or "fewer than 16 octets left", or "fewer text octets than the length", and more input may come
 abbrev pub NoneWhole : Bool → Reading → Type 0
@@ -45,10 +46,10 @@ pub record WentOn (Kept : Lent → Type 0) (input : List ℕ) (index : ℕ) (las
   pub few : p.frames ≤ p.read + 1
   pub within : p.written ≤ length out
   pub kept : length out' ≡ length out
-  pub why : p.state ≤ 2
-  pub waits : p.state ≡ 1 → NoneWhole last (read_at limits input p.read)
-  pub ends : p.state ≡ 2 → EndsRun last (read_at limits input p.read)
-  pub full : p.state ≡ 0 → length out < p.written + line_room
+  pub why : stop_number p.state ≤ 2
+  pub waits : stop_number p.state ≡ 1 → NoneWhole last (read_at limits input p.read)
+  pub ends : stop_number p.state ≡ 2 → EndsRun last (read_at limits input p.read)
+  pub full : stop_number p.state ≡ 0 → length out < p.written + line_room
 
 -- the run over a floor that events can go on with
 abbrev pub Went : List ℕ → ℕ → Bool → Lent → Lent → List ℕ → List ℕ → Progress → Type 0
@@ -62,7 +63,7 @@ pub record TookOn (Kept : Lent → Type 0) (index : ℕ) (L L' : Lent) (out out'
   pub line : Wrote longest_line (line_of index (answer (limits_of L.product) (floor_in L) e)) out out' p.written r.written
   pub read : r.read ≡ p.read + size
   pub frames : r.frames ≡ p.frames + 1
-  pub state : r.state ≡ 0
+  pub state : stop_number r.state ≡ 0
 
 abbrev pub Took : ℕ → Lent → Lent → List ℕ → List ℕ → Progress → Progress → Event → ℕ → Type 0
 Took index L L' out out' p r e size = TookOn Ready index L L' out out' p r e size
@@ -76,13 +77,13 @@ pub record TurnedOn (Kept : Lent → Type 0) (input : List ℕ) (index : ℕ) (l
   pub inside : r.read ≤ length input
   pub within : r.written ≤ length out
   pub kept : length out' ≡ length out
-  pub few : r.state ≡ 0 → r.frames ≤ r.read
+  pub few : stop_number r.state ≡ 0 → r.frames ≤ r.read
   pub counted : r.frames ≤ r.read + 1
-  pub onward : r.state ≡ 0 → p.read < r.read
+  pub onward : stop_number r.state ≡ 0 → p.read < r.read
   pub stays : p.read ≤ r.read
-  pub why : r.state ≤ 2
-  pub waits : r.state ≡ 1 → NoneWhole last (read_at limits input r.read)
-  pub ends : r.state ≡ 2 → EndsRun last (read_at limits input r.read)
+  pub why : stop_number r.state ≤ 2
+  pub waits : stop_number r.state ≡ 1 → NoneWhole last (read_at limits input r.read)
+  pub ends : stop_number r.state ≡ 2 → EndsRun last (read_at limits input r.read)
 
 abbrev pub Turned : List ℕ → ℕ → Bool → Lent → Lent → List ℕ → List ℕ → Progress → Progress → Type 0
 Turned input index last L L' out out' p r = TurnedOn Ready input index last L L' out out' p r

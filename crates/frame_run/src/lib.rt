@@ -8,15 +8,19 @@ ghost use Rattle.protocol.specs.Printed.{decimal, rest_of, line_of};
 ghost use Rattle.view.specs.View.{lent};
 ghost use Rattle.event_answers.specs.Answers.{told_of};
 ghost use Rattle.event_answers.specs.Met.{MetWith};
+ghost use Rattle.refusals.specs.Numbers.{number_of};
 ghost use Rattle.frames.specs.Decoded.{event_in, size_of, TextFits};
 ghost use Rattle.frame_lines.specs.Lines.{Tabled, Wrote, Began, longest_number, longest_rest, rest_room, longest_refusal, line_room};
+ghost use Rattle.frame_run.specs.declared.Stop.TheVariants.{Full, Waits, Ended};
+ghost use Rattle.frame_run.specs.Stops.{stop_number};
 ghost use Rattle.frame_run.specs.CanRun.{CanRun, ByEach};
 ghost use Rattle.frame_run.specs.Dispatched.{dispatched_in, Within};
 ghost use Rattle.frame_run.specs.Went.{Took, Turned, Went};
 
 use event_answers::{Answer, Told};
-use frames::{Event, Reading};
+use frames::Event;
 use products::Bounds;
+use refusals::Refusal;
 
 // "Sixteen octets".
 const FRAME: usize = 16;
@@ -193,6 +197,30 @@ fn print<'a>(
     )
 }
 
+// Why a run over a piece stops.
+#[derive(Clone, Copy, Debug, PartialEq, Eq)]
+pub enum Stop {
+    // 0: the output has no room for another line. Until then the run goes on, so it begins with this.
+    Full,
+    // 1: no whole frame is left in the piece.
+    Waits,
+    // 2: "Refusals 1 to 4 end the run."
+    Ended,
+}
+
+impl Stop {
+    // The number by which callers of other languages are told.
+    pub fn number(self) -> u64
+        ensures { result ≡ stop_number self }
+    {
+        match self {
+            Stop::Full => 0,
+            Stop::Waits => 1,
+            Stop::Ended => 2,
+        }
+    }
+}
+
 // How far a piece of input was run: the octets read from its front, the octets written to the front of the output, the frames, and why it
 // stopped.
 #[derive(Clone, Copy)]
@@ -200,44 +228,29 @@ pub struct Progress {
     pub read: usize,
     pub written: usize,
     pub frames: u64,
-    pub state: u64,
+    pub state: Stop,
 }
 
-// The output has no room for another line.
-pub const FULL: u64 = 0;
-
-// No whole frame is left in the piece.
-pub const WAITS: u64 = 1;
-
-// "Refusals 1 to 4 end the run."
-pub const ENDED: u64 = 2;
-
-// The refusal of a frame that is cut short.
-const CUT: u64 = 1;
-
-// The same, and no whole frame is left.
+// The same progress, and no whole frame is left.
 pub fn waiting(p: Progress) -> Progress
-    ensures { result ≡ record { read = p.read; written = p.written; frames = p.frames; state = 1 } }
+    ensures { result ≡ record { read = p.read; written = p.written; frames = p.frames; state = Waits } }
 {
     Progress {
         read: p.read,
         written: p.written,
         frames: p.frames,
-        state: WAITS,
+        state: Stop::Waits,
     }
 }
 
-// Is no whole frame there? No octet is left, which has no refusal; or the frame is cut short at the end of the piece, where more input may come.
-pub fn none_whole(number: u64, last: bool) -> bool
-    ensures { result ≡ (eqb number 0 || (eqb number 1 && not last)) }
+// Is a frame that is refused only not whole yet? It is cut short at the end of the piece, where more input may come.
+pub fn none_whole(refusal: Refusal, last: bool) -> bool
+    ensures { result ≡ (eqb (number_of refusal) 1 && not last) }
 {
-    if number == 0 {
-        return true;
+    match refusal {
+        Refusal::CutShort => !last,
+        _ => false,
     }
-    if number != CUT {
-        return false;
-    }
-    !last
 }
 
 // The event of a frame, and its line.
@@ -270,22 +283,22 @@ fn take_event(
         read: p.read + dispatched.taken,
         written,
         frames: p.frames + 1,
-        state: FULL,
+        state: Stop::Full,
     }
 }
 
 // The line of a frame that is refused, which ends the run.
-pub fn refuse(output: &mut [u8], index: u64, p: Progress, number: u64) -> Progress
+pub fn refuse(output: &mut [u8], index: u64, p: Progress, refusal: Refusal) -> Progress
     requires { (p.written + line_room ≤ length output.old) × (p.frames + 1 < 18446744073709551616) }
-    ensures wrote { Wrote longest_refusal (line_of index (refused number)) output.old output.new p.written result.written }
-    ensures read_value { (result.read ≡ p.read) × (result.frames ≡ p.frames + 1) × (result.state ≡ 2) }
+    ensures wrote { Wrote longest_refusal (line_of index (refused (number_of refusal))) output.old output.new p.written result.written }
+    ensures read_value { (result.read ≡ p.read) × (result.frames ≡ p.frames + 1) × (result.state ≡ Ended) }
 {
-    let written = frame_lines::put_refusal(output, p.written, index, number);
+    let written = frame_lines::put_refusal(output, p.written, index, refusal.number());
     Progress {
         read: p.read,
         written,
         frames: p.frames + 1,
-        state: ENDED,
+        state: Stop::Ended,
     }
 }
 
@@ -307,32 +320,43 @@ fn take_frame(
     last: bool,
 ) -> Progress
     requires can_run { CanRun bounds (λ P. lent P stations.old carts.old messages.old lines.old texts.old store.old) }
-    requires state_value { (p.state ≡ 0) × (p.read ≤ length input.now) × (p.written + line_room ≤ length output.old) }
+    requires state_value { (p.state ≡ Full) × (p.read ≤ length input.now) × (p.written + line_room ≤ length output.old) }
     requires frames_le_read { (p.frames ≤ p.read) × (length input.now + 1 < 18446744073709551616) × Tabled numbers.now }
     ensures { ByEach bounds (λ P. lent P stations.old carts.old messages.old lines.old texts.old store.old) (λ P. lent P stations.new carts.new messages.new lines.new texts.new store.new) (λ L L'. Turned input.now index last L L' output.old output.new p result) }
 {
-    let reading = frames::frame_at(input, p.read);
-    let Reading::Taken(e) = reading else {
-        let number = frames::refusal(reading);
-        if none_whole(number, last) {
-            return waiting(p);
+    match frames::frame_at(input, p.read) {
+        Ok(Some(e)) => take_event(
+            input, output, stations, carts, messages, lines, texts, store, bounds, numbers, index,
+            p, e,
+        ),
+        Ok(None) => waiting(p),
+        Err(refusal) => {
+            if none_whole(refusal, last) {
+                return waiting(p);
+            }
+            refuse(output, index, p, refusal)
         }
-        return refuse(output, index, p, number);
-    };
-    take_event(
-        input, output, stations, carts, messages, lines, texts, store, bounds, numbers, index, p, e,
-    )
+    }
 }
 
 // Nothing stopped the run yet, and the output has room for another line.
 pub fn goes_on(output: &[u8], p: Progress) -> bool
     requires { p.written ≤ length output.now }
-    ensures { result ≡ (eqb p.state 0 && leb (p.written + line_room) (length output.now)) }
+    ensures { result ≡ (eqb (stop_number p.state) 0 && leb (p.written + line_room) (length output.now)) }
 {
-    if p.state != FULL {
-        return false;
+    match p.state {
+        Stop::Full => frame_lines::LINE_ROOM <= output.len() - p.written,
+        Stop::Waits | Stop::Ended => false,
     }
-    frame_lines::LINE_ROOM <= output.len() - p.written
+}
+
+// The table of numbers, by which lines are written.
+pub fn all_numbers() -> [u64; 10000]
+    ensures { Tabled result }
+{
+    let mut numbers = [0u64; 10000];
+    frame_lines::spell_all(&mut numbers);
+    numbers
 }
 
 // THE RUN OVER A PIECE: whole frames are taken from the front of the input while the output has room for their lines, from the frame with this
@@ -360,7 +384,7 @@ pub fn take_frames(
         read: 0,
         written: 0,
         frames: 0,
-        state: FULL,
+        state: Stop::Full,
     };
     while goes_on(output, p) {
         p = take_frame(

@@ -11,7 +11,6 @@ use Rattle.frame_run.proofs.Events.{send_is, send_group_is, send_long_is, short_
 use Rattle.protocol.specs.Printed.{decimal}
 use Rattle.frame_lines.specs.Lines.{Began, longest_number}
 use Rattle.frame_run.specs.declared.Dispatched.{Dispatched}
-use borrow.Author.Rules.{rules}
 use Rattle.frame_run.proofs.dispatch.Goals as goal
 
 pub start-answer-requires : goal.start-answer-requires

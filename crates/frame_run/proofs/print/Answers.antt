@@ -1,7 +1,6 @@
 -- `frame_run::print` meets its contract.
 use native.Mathlib.Omega.{arith}
 use Rattle.frame_run.proofs.Events.{ends_refused, ends_accepted, long_asks, ends_long}
-use borrow.Author.Rules.{rules}
 use Rattle.frame_run.proofs.print.Goals as goal
 
 pub returns-then-told : goal.returns-then-told

@@ -2,11 +2,9 @@
 use mathlib.Core.Path.{refl, ap}
 use Prim.Native.Nat.{ℕ, ◌+◌}
 use native.Mathlib.Omega.{arith}
-use Rattle.protocol.specs.Floor.{Product}
 use Rattle.view.specs.View.{lent}
 use Rattle.frame_lines.proofs.Fields.{line_written}
 use Rattle.frame_run.proofs.Turns.{took}
-use borrow.Author.Rules.{rules}
 use Rattle.frame_run.proofs.take_event.Goals as goal
 
 pub dispatch-dispatched-requires : goal.dispatch-dispatched-requires

@@ -1,9 +1,9 @@
-use mathlib.Core.Path.{refl}
+use mathlib.Core.Path.{refl, ap}
 use native.Mathlib.Omega.{arith}
 use Rattle.view.specs.View.{lent}
 use Rattle.event_answers.specs.Met.{Ready}
-use Rattle.frame_run.specs.CanRun.{ByEach}
-use Rattle.frame_run.proofs.Loop.{Going, left, going_first, going_next, going_less, goes, stops, same_stations, same_carts, same_messages, same_lines, same_texts, same_store}
+use Rattle.frame_run.specs.Stops.{stop_number}
+use Rattle.frame_run.proofs.Loop.{going_first, going_next, going_less, goes, stops, same_stations, same_carts, same_messages, same_lines, same_texts, same_store}
 use Rattle.frame_run.proofs.take_frames.Goals as goal
 
 pub loop-bounds-init : goal.loop-bounds-init
@@ -22,7 +22,7 @@ overflow_add-index c =
     let w = c.requires.can_run.0.1 in
     let g = c.loop-bounds.invariant w.0 w.1 w.2 in
     let t = goes Ready a.input.now a.index a.last (lent w.0 a.stations.now a.carts.now a.messages.now a.lines.now a.texts.now a.store.now) a.output.now _ _ _ g _ c.goes_on.ensures c.loop-bounds-test.true in
-    omega (arith, g.few t.0, g.inside, c.requires.input_bound)
+    omega (arith, g.few (ap stop_number t.0), g.inside, c.requires.input_bound)
 
 pub take_frame-p-requires : goal.take_frame-p-requires
 take_frame-p-requires c =
@@ -33,7 +33,7 @@ take_frame-p-requires c =
     record {
       can_run = (c.requires.can_run.0.0, (w.0, w.1, g.ready));
       state_value = (t.0, g.inside, t.1);
-      frames_le_read = (g.few t.0, omega (arith, c.requires.input_bound), c.requires.can_run.1);
+      frames_le_read = (g.few (ap stop_number t.0), omega (arith, c.requires.input_bound), c.requires.can_run.1);
     }
 
 pub loop-bounds-smaller : goal.loop-bounds-smaller

@@ -1,10 +1,8 @@
 -- `frame_run::take_frames` meets its contract. The invariant: what was run is the written run over those frames. The octets left fall.
-use mathlib.Core.Path.{refl}
-use native.Mathlib.Omega.{arith}
 use Rattle.view.specs.View.{lent}
 use Rattle.event_answers.specs.Met.{Ready}
 use Rattle.frame_run.specs.CanRun.{ByEach}
-use Rattle.frame_run.proofs.Loop.{Going, left, going_first, going_next, going_less, goes, stops, same_stations, same_carts, same_messages, same_lines, same_texts, same_store}
+use Rattle.frame_run.proofs.Loop.{Going, left}
 use Rattle.frame_run.proofs.take_frames.Given as goal
 
 abbrev pub invariant-loop-bounds : goal.invariant-loop-bounds

@@ -1,7 +1,6 @@
 -- `frame_run::without_text` meets its contract.
 use mathlib.Core.Path.{ap}
 use Rattle.event_answers.specs.declared.Told.{Told}
-use borrow.Author.Rules.{rules}
 use Rattle.frame_run.proofs.without_text.Goals as goal
 
 pub returns : goal.returns
