@@ -2,6 +2,7 @@
 #![tactic(auto)]
 
 ghost use Rattle.protocol.specs.Floor.{whole_floor, kit};
+ghost use Rattle.protocol.specs.Floor as floor;
 ghost use Rattle.products.specs.Numbers.{Fits, NumbersOf};
 
 // What rows and words have places for is the same in every product: a row of next numbers, one for each initiator; the rooms for held messages that
@@ -46,5 +47,35 @@ pub fn kit_bounds() -> Bounds
         carts: 8,
         held: 8,
         last: 65534,
+    }
+}
+
+// A PRODUCT, for code that is the same for each: which one it is, and its limits.
+pub trait Product {
+    ghost product: { floor.Product };
+
+    fn bounds() -> Bounds
+        ensures { Fits result × NumbersOf product result };
+}
+
+// The floor.
+pub struct WholeFloor;
+
+impl Product for WholeFloor {
+    ghost product = { whole_floor };
+
+    fn bounds() -> Bounds {
+        floor_bounds()
+    }
+}
+
+// The demonstration kit.
+pub struct Kit;
+
+impl Product for Kit {
+    ghost product = { kit };
+
+    fn bounds() -> Bounds {
+        kit_bounds()
     }
 }
