@@ -4,9 +4,6 @@ use borrow.Author.Rules.{rules}
 use Rattle.sets.proofs.MaskLaws.{shifted_pos, set_of_shifted, set_of_word}
 use Rattle.sets.proofs.all_below.Goals as goal
 
-pub overflow_sub-result : goal.overflow_sub-result
-overflow_sub-result c = shifted_pos c.args.n (search rules)
-
 pub returns-then-n-lt64 : goal.returns-then-n-lt64
 returns-then-n-lt64 c = set_of_shifted c.args.n (search rules)
 

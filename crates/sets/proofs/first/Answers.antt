@@ -5,8 +5,5 @@ use borrow.Author.Rules.{rules}
 use Rattle.sets.proofs.MaskLaws.{trailing_least}
 use Rattle.sets.proofs.first.Goals as goal
 
-pub overflow_cast-result : goal.overflow_cast-result
-overflow_cast-result c = omega (arith, trailing_le 64 c.args.set)
-
 pub returns : goal.returns
 returns c = trailing_least 64 c.args.set (search rules) c.requires
