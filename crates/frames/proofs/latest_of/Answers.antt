@@ -3,9 +3,6 @@ use native.Mathlib.Omega.{arith}
 use Rattle.frames.proofs.Values.{unknown_read}
 use Rattle.frames.proofs.latest_of.Goals as goal
 
-pub returns-then-kind-eq10 : goal.returns-then-kind-eq10
-returns-then-kind-eq10 c = let a = c.args in λ l. c.retire_of.ensures l a.behind
-
 pub returns : goal.returns
 returns c =
     let latest = c.requires in

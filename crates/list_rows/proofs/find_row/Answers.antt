@@ -9,12 +9,6 @@ use Rattle.protocol.proofs.Tests.{first_is, first_nowhere, by_eq}
 use Rattle.list_rows.specs.Rows.{rows_in, waits}
 use Rattle.list_rows.proofs.find_row.Goals as goal
 
-pub loop-row-init : goal.loop-row-init
-loop-row-init c r l = absurd (omega arith)
-
-pub is_waiting-requires : goal.is_waiting-requires
-is_waiting-requires c = (omega arith, omega arith)
-
 pub returns-then-is_waiting : goal.returns-then-is_waiting
 returns-then-is_waiting c octets =
     let a = c.args in

@@ -9,23 +9,10 @@ use Rattle.list_rows.proofs.PutLaws.{text_read, same_row}
 use borrow.Author.Rules.{rules}
 use Rattle.list_rows.proofs.move_row.Goals as goal
 
-pub copy_text-requires : goal.copy_text-requires
-copy_text-requires c = (omega arith, omega (arith, c.requires, c.size_at-size.ensures c.args.octets.now))
-
-pub slice_bounds-text-end : goal.slice_bounds-text-end
-slice_bounds-text-end c = omega (arith, c.requires.3, c.size_at-size.ensures c.args.octets.now, c.copy_text.ensures.buffer_len_unchanged)
-
 pub slice_bounds-put_row-end : goal.slice_bounds-put_row-end
 slice_bounds-put_row-end c =
     let size = c.size_at-size in
     sym (length-take-le size.result c.copy_text.new.buffer (omega (arith, c.requires.3, size.ensures c.args.octets.now, c.copy_text.ensures.buffer_len_unchanged)))
-
-pub put_row-requires : goal.put_row-requires
-put_row-requires c =
-    let size = c.size_at-size in
-    let small : size.result ≤ text_room = omega (arith, c.requires.3, size.ensures c.args.octets.now) in
-    let long = length-take-le size.result c.copy_text.new.buffer (omega (arith, small, c.copy_text.ensures.buffer_len_unchanged)) in
-    (omega arith, omega arith, omega arith)
 
 pub returns : goal.returns
 returns c =

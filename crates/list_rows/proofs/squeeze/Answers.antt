@@ -1,4 +1,4 @@
-use mathlib.Core.Path.{◌≡◌, refl, ap, sym, ◌∙◌}
+use mathlib.Core.Path.{refl, ap, sym, ◌∙◌}
 use Prim.Native.Nat.{◌≤◌}
 use native.Mathlib.Omega.{arith}
 use native.Mathlib.Numerals.{add-one}
@@ -26,12 +26,3 @@ loop-from-preserved c =
     let l = c.loop-from in
     let T = rows_in c.args.sends.now c.args.octets.now in
     (omega arith, search rules, search rules, c.keep_row-kept.ensures.result_after ∙ ap (λ (U : Used). keep_row U l.from) l.invariant.3 ∙ sym (ap (squeezed T) (add-one l.from)))
-
-pub returns : goal.returns
-returns c =
-    let l = c.loop-from in
-    let end : l.from ≡ c.args.used = omega arith in
-    record {
-      result_after = l.invariant.3 ∙ ap (squeezed (rows_in c.args.sends.now c.args.octets.now)) end;
-      sends_len_unchanged = (l.invariant.1, l.invariant.2);
-    }

@@ -1,19 +1,9 @@
-use mathlib.Core.Path.{◌≡◌, ap, refl, sym, ◌∙◌}
+use mathlib.Core.Path.{◌≡◌, ap, sym, ◌∙◌}
 use Prim.Native.Nat.{ℕ, ◌<◌}
-use native.Mathlib.Nat.{mod-lt}
 use native.Mathlib.Omega.{arith}
 use Rattle.totals.specs.Totals.{gcd}
 use Rattle.totals.proofs.Gcd.{gcd_end, gcd_turn}
 use Rattle.totals.proofs.common_divisor.Goals as goal
-
-pub loop-y-init : goal.loop-y-init
-loop-y-init c = refl
-
-pub nonzero_rem-rest : goal.nonzero_rem-rest
-nonzero_rem-rest c = omega arith
-
-pub loop-y-smaller : goal.loop-y-smaller
-loop-y-smaller c = mod-lt c.loop-y.x {m = c.loop-y.y} (omega arith)
 
 pub loop-y-preserved : goal.loop-y-preserved
 loop-y-preserved c =

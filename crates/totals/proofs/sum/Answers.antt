@@ -3,17 +3,11 @@ use mathlib.Core.Path.{◌≡◌, sym}
 use Prim.Native.Nat.{◌+◌}
 use lib.ListN.{length}
 use native.Mathlib.Omega.{arith}
-use Rattle.totals.proofs.Sums.{long_list, room_for_one, walk_goes_on, walk_ends}
+use Rattle.totals.proofs.Sums.{long_list, walk_goes_on, walk_ends}
 use Rattle.totals.proofs.sum.Goals as goal
 
 pub returns-then-results-gt-MOST_RESULTS : goal.returns-then-results-gt-MOST_RESULTS
 returns-then-results-gt-MOST_RESULTS c = sym (long_list c.args.results.now c.if-results-gt-MOST_RESULTS.true)
-
-pub overflow_add-totals-in-loop-res : goal.overflow_add-totals-in-loop-res
-overflow_add-totals-in-loop-res c =
-    let room = room_for_one c.args.results.now c.loop-res.res-index c.loop-res.totals c.loop-res.invariant (omega arith) in
-    let h = c.from-in-loop-res.ensures in
-    omega (arith, room.1)
 
 pub loop-res-preserved : goal.loop-res-preserved
 loop-res-preserved c =
