@@ -19,10 +19,8 @@ pub fn push_to_every(lines: &mut [u64], from: Station, n: u64, said: Record)
     ensures { PushedToEvery lines.old lines.new from.0 n said }
 {
     let mut held = lines::hold(lines);
-    let mut to: u64 = 0;
-    while to < n {
+    for to in 0..n {
         held = lines::push_held(lines, from.0 as usize, to as usize, said, held);
-        to += 1;
     }
     lines::release(lines, held);
 }

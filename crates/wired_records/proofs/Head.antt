@@ -6,7 +6,7 @@ use mathlib.Core.List.{List, ◌∷◌, map}
 use Prim.Native.Nat.{ℕ, ◌+◌, ◌*◌, ◌<◌}
 use native.Mathlib.Omega.{arith}
 use borrow.Author.Tests.{lt-leb}
-use Rattle.protocol.specs.Floor.{Limits, Floor, Record, multicast, ack_list, delete, limits_of}
+use Rattle.protocol.specs.Floor.{Limits, Floor, multicast, ack_list, delete, limits_of}
 use Rattle.protocol.specs.Events.{wire}
 use Rattle.protocol.specs.Handoff.{room_of}
 use Rattle.protocol.specs.Wired.{handle, on_wire}

@@ -1,7 +1,8 @@
 -- A WALK OVER THE CARTS OF A SET, from the least to the next: what is gathered and what is raised when those of `left` are still to come.
 use mathlib.Core.Path.{◌≡◌, refl, sym, ap, ◌∙◌, fun_ext}
 use mathlib.Core.Bool.{Bool, true, false, cond, ◌&&◌, ◌||◌, not, and-true, and-false, or-false}
-use mathlib.Core.Option.{some}
+use Rattle.std.specs.Prelude as code
+use Rattle.std.specs.Prelude.{Some, None}
 use mathlib.Core.List.{List}
 use Prim.Native.Nat.{ℕ, ◌+◌, ◌≤◌, ◌<◌, ◌^◌}
 use native.Mathlib.Omega.{arith}
@@ -15,8 +16,10 @@ use Rattle.protocol.proofs.Tests.{by_eq, and_left, eqb_self}
 use Rattle.protocol.proofs.Counting.{count_le, count_ext, count_off, count_none}
 use Rattle.protocol.proofs.SetLaws.{has_zero, has_minus, has_with, has_without, has_set_of, set_of_lt, with_lt, minus_lt, without_lt, zero_below, same_members}
 use Rattle.carts.specs.View.{carts_in, canonical_in, with_next}
-use Rattle.sets.specs.Masks.{least, size}
-use Rattle.sets.proofs.MaskLaws.{least_lowest, without_less}
+use Rattle.sets.specs.Masks.{size}
+use Rattle.sets.specs.declared.Members.{Members}
+use Rattle.sets.specs.Walks.{GivesLeast}
+use Rattle.sets.proofs.MaskLaws.{least_lowest}
 use Rattle.wired_records.specs.Handled.{raised, Raised}
 
 -- those still to come are of the set
@@ -39,12 +42,24 @@ pub record AtHand (whole left c : ℕ) : Type 0 where
   pub below : c < 64
   pub still : has left c ≡ true
   pub member : has whole c ≡ true
-  pub less : without left c < left
 
-pub at_hand : (whole left c : ℕ) → Left whole left → 0 < left → least 64 left ≡ some c → AtHand whole left c
-at_hand whole left c h pos e =
-    let low = least_lowest 64 left c h.small pos e in
-    record { below = low.inside; still = low.member; member = h.inside c low.member; less = without_less 64 left c h.small low.member }
+-- a step of the walk gives it, and leaves the others; or nothing is left
+module _ (before after : Members) {step : code.Option ℕ} (steps : GivesLeast before step after) where
+  pub at_hand : (whole c : ℕ) → step ≡ Some c → Left whole before.left → AtHand whole before.left c
+  at_hand whole c e h =
+      let s : GivesLeast before (Some c) after = rw e at steps in
+      let low = least_lowest 64 before.left c h.small s.0 s.1 in
+      record { below = low.inside; still = low.member; member = h.inside c low.member }
+
+  pub rest_of : (c : ℕ) → step ≡ Some c → after.left ≡ without before.left c
+  rest_of c e =
+      let s : GivesLeast before (Some c) after = rw e at steps in
+      s.2
+
+  pub none_left : step ≡ None → before.left ≡ 0
+  none_left e =
+      let s : GivesLeast before None after = rw e at steps in
+      s.0
 
 -- a set, and the cart if it joins
 has_joined : (set c : ℕ) (joins : Bool) (d : ℕ) → has (cond joins (with set c) set) d ≡ (has set d || (joins && eqb c d))
@@ -241,3 +256,16 @@ pub record Walked (C₀ C : List ℕ) (local named s n left others past passed :
   pub beyond : Gathered local (λ c. ltb n ((carts_in C₀).next c s)) left past
   pub raises : Raised C₀ C (minus due named) s (n + 1)
   pub counts : passed ≡ size 64 (minus due named)
+
+-- it starts with all of the set
+pub walked_none : (C₀ : List ℕ) (local named s n : ℕ) {walk : Members} → walk ≡ record { left = local } → local < 2 ^ 64 → Walked C₀ C₀ local named s n walk.left 0 0 0
+walked_none C₀ local named s n e small =
+    rw (ap (λ (x : Members). x.left) e) (record {
+      due = 0;
+      rest = left_all local small;
+      met = gather_none local (λ c. eqb ((carts_in C₀).next c s) n);
+      unmet = gather_none local (λ c. not (eqb ((carts_in C₀).next c s) n));
+      beyond = gather_none local (λ c. ltb n ((carts_in C₀).next c s));
+      raises = raise_none C₀ named s n;
+      counts = size_none C₀ named s n;
+    })

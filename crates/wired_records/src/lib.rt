@@ -37,7 +37,7 @@ struct Sorted {
 fn rise_of(named: bool) -> u64
     ensures { result ≡ cond (not named) 1 0 }
 {
-    if named { 0 } else { 1 }
+    u64::from(!named)
 }
 
 // "For each local cart: next number equal ..; greater ..". Nearly all are equal, so that is asked first, and the others are gathered; whether a cart
@@ -52,10 +52,7 @@ fn sort_local(carts: &mut [u64], local: u64, named: u64, initiator: Station, num
     let mut others: u64 = 0;
     let mut past: u64 = 0;
     let mut passed: u64 = 0;
-    let mut left = local;
-    while 0 < left {
-        let cart = sets::first(left);
-        left = sets::without_first(left);
+    for cart in sets::members_of(local) {
         let next = carts::next_of(carts, CartNumber(cart), initiator);
         if next == number {
             let rises = rise_of(sets::has(named, cart));

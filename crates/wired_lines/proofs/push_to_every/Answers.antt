@@ -1,10 +1,7 @@
-use Prim.Native.Nat.{◌≤◌, ◌-◌}
 use native.Mathlib.Omega.{arith}
-use borrow.Author.Rules.{rules}
-use Rattle.lines.specs.Holding.{released, Holds}
+use Rattle.lines.specs.Holding.{released}
 use Rattle.lines.proofs.Formed.{holdable}
 use Rattle.lines.proofs.Holding.{length_released}
-use Rattle.wired_lines.specs.ToEvery.{PushedToEvery}
 use Rattle.wired_lines.proofs.Turns.{to_none, to_one_more, all_turns}
 use Rattle.wired_lines.proofs.push_to_every.Goals as goal
 

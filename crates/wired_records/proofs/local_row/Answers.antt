@@ -3,7 +3,6 @@ use mathlib.Core.Path.{◌∙◌}
 use Rattle.view.specs.View.{lent}
 use Rattle.view.proofs.Standing.{standing}
 use Rattle.wired_records.proofs.MulticastSets.{row_made}
-use borrow.Author.Rules.{rules}
 use Rattle.wired_records.proofs.local_row.Goals as goal
 
 pub returns : goal.returns

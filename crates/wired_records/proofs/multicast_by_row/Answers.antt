@@ -4,7 +4,6 @@ use Rattle.view.specs.Records.{index_of, number_of}
 use Rattle.reports.proofs.Effects.{only_queues}
 use Rattle.wired_records.specs.Handled.{Buffered}
 use Rattle.wired_records.proofs.Stores.{buffers}
-use borrow.Author.Rules.{rules}
 use Rattle.wired_records.proofs.multicast_by_row.Goals as goal
 
 pub returns : goal.returns

@@ -1,6 +1,5 @@
 -- `wired_records::on_ack_list` meets its contract.
 use Prim.Native.Nat.{ℕ}
-use borrow.Author.Rules.{rules}
 use Rattle.view.specs.Records.{index_of, number_of}
 use Rattle.reports.proofs.Effects.{only_puts}
 use Rattle.wired_records.specs.Handled.{Acknowledged}

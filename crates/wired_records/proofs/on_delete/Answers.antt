@@ -1,5 +1,4 @@
 -- `wired_records::on_delete` meets its contract.
-use borrow.Author.Rules.{rules}
 use Rattle.view.specs.Records.{index_of}
 use Rattle.wired_records.proofs.Stores.{deletes}
 use Rattle.wired_records.proofs.on_delete.Goals as goal

@@ -5,7 +5,6 @@ use Rattle.protocol.specs.CartSets.{has}
 use Rattle.stations.specs.View.{Stations}
 use Rattle.view.specs.Records.{index_of, number_of}
 use Rattle.wired_records.specs.Handled.{Buffered}
-use borrow.Author.Rules.{rules}
 use Rattle.wired_records.proofs.on_multicast.Goals as goal
 
 pub multicast_by_row-requires : goal.multicast_by_row-requires

@@ -1,5 +1,4 @@
 -- `wired_records::place_of_new` meets its contract.
-use borrow.Author.Rules.{rules}
 use Rattle.wired_records.proofs.Stores.{none_queued, some_queued}
 use Rattle.wired_records.proofs.place_of_new.Goals as goal
 

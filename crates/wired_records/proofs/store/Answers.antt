@@ -1,5 +1,4 @@
 -- `wired_records::store` meets its contract.
-use borrow.Author.Rules.{rules}
 use Rattle.wired_records.proofs.Stores.{stores}
 use Rattle.wired_records.proofs.store.Goals as goal
 
