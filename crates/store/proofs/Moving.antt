@@ -16,6 +16,7 @@ use Rattle.messages.specs.View.{Rooms, with_offset, with_offsets}
 use Rattle.messages.proofs.TextLaws.{behind}
 use Rattle.store.specs.Texts.{is_stored, text_of}
 use Rattle.store.specs.Layout.{layout_rule, taken_by, used_in, used_before, together}
+use Rattle.std.specs.Prelude.{None}
 use Rattle.store.specs.Moved.{lowest_from}
 use Rattle.store.proofs.Looks.{stored_is_long}
 use Rattle.store.proofs.Octets.{pasted_here, before_pasted}
@@ -190,11 +191,11 @@ module _ (h : ℕ) (R : Rooms) (S : List ℕ) (right : True (layout_rule h R)) (
           }
 
   -- NO TEXT IS LEFT: all are moved together
-  module _ (m : ℕ) (found : m ≡ lowest_from h R' to) (none : h ≤ m) where
+  module _ (none : None ≡ lowest_from h R' to) where
     all_before : (k : ℕ) → k < h → is_stored R k ≡ true → R.offset k < from
     all_before k lk s =
         by_lt (R.offset k) from (λ l. l)
-        (λ g. absurd (let z = offset_kept k g in omega (arith, P.down, lowest_none h R' to m found none k lk (stored_same k ∙ s) (omega (arith, (right k lk s).0.1, stored_is_long R k s)))))
+        (λ g. absurd (let z = offset_kept k g in omega (arith, P.down, lowest_none h R' to none k lk (stored_same k ∙ s) (omega (arith, (right k lk s).0.1, stored_is_long R k s)))))
 
     pub all_used : to ≡ used_in h R
     all_used = P.end ∙ used_all h R from all_before

@@ -1,11 +1,10 @@
 -- OCTETS WRITTEN INTO A STORE: what is read where they were written, and elsewhere.
 use mathlib.Core.Path.{◌≡◌, sym, ap, ap₂, ◌∙◌}
 use mathlib.Core.List.{List, [], ◌++◌, append_assoc, append-nil}
-use Prim.Native.Nat.{ℕ, ◌+◌, ◌-◌, ◌≤◌, ◌<◌}
-use native.Mathlib.Numerals.{add-one}
+use Prim.Native.Nat.{ℕ, ◌+◌, ◌-◌, ◌≤◌}
 use native.Mathlib.Omega.{arith}
-use lib.ListN.{length, take, drop, get_or, set, length-drop, drop_of_length-le}
-use lib.Seq.{paste, paste-suc, drop-paste, length-paste, take_at, drop_at, length-take-le, get_or-drop}
+use lib.ListN.{length, take, drop, drop_of_length-le}
+use lib.Seq.{paste, length-paste, take_at, drop_at, length-take-le}
 use borrow.Rule.Slice.PartMut.{mid_of, put_mid, mid_len, Post-is}
 use Rattle.messages.proofs.TextLaws.{in_front}
 
@@ -32,29 +31,6 @@ module _ (d s : List ℕ) (a n : ℕ) (room : a + n ≤ length d) (enough : n �
       front =
           ap (take a) (append_assoc (take a d) (take n s) (drop (a + n) d))
           ∙ take_at (take a d) (take n s ++ drop (a + n) d) a (length-take-le a d (omega arith))
-
--- A COPY WITHIN THE STORE, from the first octet on: the next octet is still what it was, since what was written ends before it
-pub moved_one : (d : List ℕ) (from to i : ℕ) → to ≤ from → from + i < length d
-    → set (paste d to (drop from d) i) (to + i) (get_or (paste d to (drop from d) i) (from + i) 0) ≡ paste d to (drop from d) (i + 1)
-moved_one d from to i h l =
-    ap (set (paste d to (drop from d) i) (to + i)) same
-    ∙ paste-suc d to (drop from d) i 0 (omega arith) there
-    ∙ ap (paste d to (drop from d)) (sym (add-one i))
-  where
-    there : i < length (drop from d)
-    there = simp length-drop (omega arith)
-
-    place : from + i ≡ (to + i) + (from - to)
-    place = omega arith
-
-    same : get_or (paste d to (drop from d) i) (from + i) 0 ≡ get_or (drop from d) i 0
-    same =
-        ap (λ (k : ℕ). get_or (paste d to (drop from d) i) k 0) place
-        ∙ sym (get_or-drop (to + i) (paste d to (drop from d) i) (from - to) 0)
-        ∙ ap (λ (l : List ℕ). get_or l (from - to) 0) (drop-paste d to (drop from d) i (omega arith) (let z = there in omega arith))
-        ∙ get_or-drop (to + i) d (from - to) 0
-        ∙ ap (λ (k : ℕ). get_or d k 0) (sym place)
-        ∙ sym (get_or-drop from d i 0)
 
 -- A COPY INTO A PART: the part that was lent is as long as the text
 pub copied_is : (l text part : List ℕ) (a e : ℕ) → e ≡ a + length text → e ≤ length l

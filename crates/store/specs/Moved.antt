@@ -1,5 +1,5 @@
 -- WHAT THE FUNCTIONS OF THE STORE ASK AND PROMISE.
-use Rattle.std.specs.Prelude.{◌≡◌, Bool, cond, ◌&&◌, List, ℕ, ◌+◌, ◌*◌, ◌≤◌, ◌<◌, ltb, leb, length, drop}
+use Rattle.std.specs.Prelude.{◌≡◌, Bool, Option, None, Some, cond, ◌&&◌, List, ℕ, ◌+◌, ◌*◌, ◌≤◌, ◌<◌, ltb, leb, length, drop}
 use Rattle.protocol.specs.Folds.{first, every, by_option}
 use Rattle.protocol.specs.Claims.{True}
 use Rattle.messages.specs.View.{Rooms, width, rooms_in}
@@ -27,9 +27,9 @@ begin_from R from m = cond (is_stored R m && leb from (R.offset m)) (R.offset m)
 abbrev pub is_lowest : ℕ → Rooms → ℕ → ℕ → Bool
 is_lowest h R from m = ltb (begin_from R from m) size && every h (λ k. leb (begin_from R from m) (begin_from R from k))
 
--- the room of the first text at or behind `from`: h, where there is none
-abbrev pub lowest_from : ℕ → Rooms → ℕ → ℕ
-lowest_from h R from = by_option (first h (is_lowest h R from)) h (λ m. m)
+-- the room of the first text at or behind `from`, if there is one
+abbrev pub lowest_from : ℕ → Rooms → ℕ → Option ℕ
+lowest_from h R from = by_option (first h (is_lowest h R from)) None (λ m. Some m)
 
 -- the texts of h rooms are moved together: messages and store were M and S, and are M' and S'. That says every octet of S': the texts lie in it one behind
 -- the other, and behind them it is S

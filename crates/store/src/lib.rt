@@ -2,7 +2,7 @@
 // the free octets suffice but lie apart." Which octets are free is not kept: it is read off the rows of the held messages.
 #![tactic(auto)]
 
-ghost use Rattle.std.specs.Prelude.{◌≡◌, ◌++◌, ◌+◌, ◌*◌, ◌≤◌, max, leb, length, take, drop};
+ghost use Rattle.std.specs.Prelude.{◌≡◌, ◌++◌, ◌+◌, ◌*◌, ◌≤◌, leb, length, take, drop};
 ghost use Rattle.std.proofs.Math.Seq.{paste};
 ghost use Rattle.protocol.specs.Claims.{True, test, is, when, all};
 ghost use Rattle.messages.specs.View.{width, HasRoom, rooms_in};
@@ -19,10 +19,7 @@ fn is_stored(messages: &[u64], m: usize) -> bool
 {
     let waiting = messages::waiting_of(messages, m);
     let n = messages::length_of(messages, m) as usize;
-    if waiting == 0 {
-        return false;
-    }
-    products::TEXT < n
+    waiting != 0 && products::TEXT < n
 }
 
 // THE FORM TEST OF THE STORE: "a written yes-or-no test of the floor alone"
@@ -64,12 +61,10 @@ fn is_clear_before(messages: &[u64], m: usize) -> bool
     requires fact_2 { True (all m (λ k. when (is (is_stored (rooms_in messages.now) k)) (within (rooms_in messages.now) k))) }
     ensures { result ≡ test (all m (λ k. when (is (is_stored (rooms_in messages.now) k)) (apart (rooms_in messages.now) k m))) }
 {
-    let mut k: usize = 0;
-    while k < m {
+    for k in 0..m {
         if !is_clear(messages, k, m) {
             return false;
         }
-        k += 1;
     }
     true
 }
@@ -94,12 +89,10 @@ pub fn texts_lie_right(messages: &[u64], held: usize) -> bool
     requires { length messages.now ≡ held * width }
     ensures { result ≡ test (layout_rule held (rooms_in messages.now)) }
 {
-    let mut m: usize = 0;
-    while m < held {
+    for m in 0..held {
         if !lies_right(messages, m) {
             return false;
         }
-        m += 1;
     }
     true
 }
@@ -129,16 +122,6 @@ fn end_of(messages: &[u64], m: usize) -> usize
     messages::offset_of(messages, m) as usize + messages::length_of(messages, m) as usize
 }
 
-// The larger of two.
-fn larger(a: usize, b: usize) -> usize
-    ensures { result ≡ max a b }
-{
-    if a < b {
-        return b;
-    }
-    a
-}
-
 // What the texts take: how many octets together, and where the last one ends.
 #[derive(Clone, Copy)]
 pub struct Filling {
@@ -153,11 +136,9 @@ pub fn filling_of(messages: &[u64], held: usize) -> Filling
 {
     let mut octets: usize = 0;
     let mut end: usize = 0;
-    let mut m: usize = 0;
-    while m < held {
+    for m in 0..held {
         octets += taken_by(messages, m);
-        end = larger(end, end_of(messages, m));
-        m += 1;
+        end = end.max(end_of(messages, m));
     }
     Filling { octets, end }
 }
@@ -188,36 +169,30 @@ fn begin_from(messages: &[u64], from: usize, m: usize) -> usize
     begin
 }
 
-// The room of the first text at or behind `from`; `held` where there is none.
-fn lowest_from(messages: &[u64], held: usize, from: usize) -> usize
+// The room of the first text at or behind `from`, if there is one.
+fn lowest_from(messages: &[u64], held: usize, from: usize) -> Option<usize>
     requires { length messages.now ≡ held * width }
     ensures { result ≡ lowest_from held (rooms_in messages.now) from }
 {
-    let mut room = held;
+    let mut room = None;
     let mut least = products::STORE;
-    let mut m: usize = 0;
-    while m < held {
+    for m in 0..held {
         let begin = begin_from(messages, from, m);
         if begin < least {
             least = begin;
-            room = m;
+            room = Some(m);
         }
-        m += 1;
     }
     room
 }
 
-// n octets from `from` on, moved down to `to`: from the first on, so that none is written over before it has been moved.
+// n octets from `from` on, moved down to `to`; the two parts may overlap.
 fn move_down(store: &mut [u8], from: usize, to: usize, n: usize)
     requires { (to ≤ from) × (from + n ≤ length store.old) }
     ensures store_after { store.new ≡ paste store.old to (drop from store.old) n }
     ensures store_len_unchanged { length store.new ≡ length store.old }
 {
-    let mut i: usize = 0;
-    while i < n {
-        store[to + i] = store[from + i];
-        i += 1;
-    }
+    store.copy_within(from..from + n, to);
 }
 
 // All texts, from the lowest on, each down to the end of those that were moved before it. Where they end then is answered.
@@ -227,14 +202,12 @@ fn move_together(messages: &mut [u64], store: &mut [u8], held: usize) -> usize
     ensures moved { Moved held messages.old store.old messages.new store.new }
 {
     let mut to: usize = 0;
-    let mut m = lowest_from(messages, held, to);
-    while m < held {
+    while let Some(m) = lowest_from(messages, held, to) {
         let from = messages::offset_of(messages, m) as usize;
         let n = messages::length_of(messages, m) as usize;
         move_down(store, from, to, n);
         messages::put_offset(messages, m, to as u64);
         to += n;
-        m = lowest_from(messages, held, to);
     }
     to
 }

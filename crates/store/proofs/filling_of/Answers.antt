@@ -33,22 +33,13 @@ end_of-requires c =
       fact = text_within a.held (rooms_in a.messages.now) p.right c.loop-m.m (omega arith);
     }
 
-pub larger-end-requires : goal.larger-end-requires
-larger-end-requires c = tt
-
-pub overflow_add-m : goal.overflow_add-m
-overflow_add-m c = omega arith
-
-pub loop-m-smaller : goal.loop-m-smaller
-loop-m-smaller c = omega arith
-
 pub loop-m-preserved : goal.loop-m-preserved
 loop-m-preserved c =
     let R = rooms_in c.args.messages.now in
     let l = c.loop-m in (
       omega arith,
       ap₂ (λ (x y : ℕ). x + y) l.invariant.1 c.taken_by-octets.ensures ∙ sym (used_one l.m R),
-      c.larger-end.ensures ∙ ap₂ max l.invariant.2 c.end_of.ensures ∙ sym (end_one l.m R),
+      c.max-end.ensures ∙ ap₂ max l.invariant.2 c.end_of.ensures ∙ sym (end_one l.m R),
     )
 
 pub returns : goal.returns

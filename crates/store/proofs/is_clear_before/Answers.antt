@@ -31,12 +31,6 @@ returns-then-not-is_clear c =
     let t = c.is_clear in
     all_no a.m f k (omega arith) (refused (f k) t.result t.ensures (not-true _ (ap not c.if-not-is_clear.true)))
 
-pub overflow_add-k : goal.overflow_add-k
-overflow_add-k c = omega arith
-
-pub loop-k-smaller : goal.loop-k-smaller
-loop-k-smaller c = omega arith
-
 pub loop-k-preserved : goal.loop-k-preserved
 loop-k-preserved c =
     let a = c.args in

@@ -11,12 +11,6 @@ loop-m-init c = let a = c.args in (omega arith, best_start a.held (rooms_in a.me
 pub begin_from-begin-requires : goal.begin_from-begin-requires
 begin_from-begin-requires c = omega arith
 
-pub overflow_add-m : goal.overflow_add-m
-overflow_add-m c = omega arith
-
-pub loop-m-smaller : goal.loop-m-smaller
-loop-m-smaller c = omega arith
-
 pub loop-m-preserved : goal.loop-m-preserved
 loop-m-preserved c =
     let a = c.args in

@@ -4,7 +4,7 @@ use Rattle.store.proofs.Turns.{Turning}
 use Rattle.store.proofs.move_together.Given as goal
 
 abbrev pub invariant-loop-m : goal.invariant-loop-m
-invariant-loop-m l = Turning l.held l.initial.messages l.initial.store l.messages l.store l.to l.m
+invariant-loop-m l = Turning l.held l.initial.messages l.initial.store l.messages l.store l.to
 
 abbrev pub decreases-loop-m : goal.decreases-loop-m
 decreases-loop-m l = 4096 - l.to

@@ -25,12 +25,6 @@ returns-then-not-lies_right c =
     let t = c.lies_right in
     all_no a.held f m (omega arith) (refused (f m) t.result t.ensures (not-true _ (ap not c.if-not-lies_right.true)))
 
-pub overflow_add-m : goal.overflow_add-m
-overflow_add-m c = omega arith
-
-pub loop-m-smaller : goal.loop-m-smaller
-loop-m-smaller c = omega arith
-
 pub loop-m-preserved : goal.loop-m-preserved
 loop-m-preserved c =
     let a = c.args in

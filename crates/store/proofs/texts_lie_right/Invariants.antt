@@ -1,5 +1,5 @@
 -- `store::texts_lie_right` meets its contract. The invariant: the texts passed lie right.
-use Prim.Native.Nat.{◌-◌, ◌≤◌}
+use Prim.Native.Nat.{◌≤◌}
 use Rattle.protocol.specs.Claims.{True}
 use Rattle.messages.specs.View.{rooms_in}
 use Rattle.store.specs.Layout.{layout_rule}
@@ -7,6 +7,3 @@ use Rattle.store.proofs.texts_lie_right.Given as goal
 
 abbrev pub invariant-loop-m : goal.invariant-loop-m
 invariant-loop-m l = (l.m ≤ l.held) × True (layout_rule l.m (rooms_in l.messages))
-
-abbrev pub decreases-loop-m : goal.decreases-loop-m
-decreases-loop-m l = l.held - l.m
