@@ -118,11 +118,9 @@ fn change_free(pool: &mut [u64], w: usize, x: u64)
     requires { (w < free_words) × (50 ≤ length pool.old) × (summary_ok pool.old ≡ true) }
     ensures { Freed pool.old pool.new w x }
 {
-    if 0 < pool[w] {
-        if 0 < x {
-            pool[w] = x;
-            return;
-        }
+    if 0 < pool[w] && 0 < x {
+        pool[w] = x;
+        return;
     }
     put_free(pool, w, x);
 }
@@ -153,11 +151,7 @@ fn full_word(rows: usize, w: usize) -> u64
     requires { (rows ≤ most_rows) × (w < free_words) }
     ensures { Full rows w result }
 {
-    let first = w * 64;
-    if rows <= first {
-        return 0;
-    }
-    let n = if rows - first < 64 { rows - first } else { 64 };
+    let n = rows.saturating_sub(w * 64).min(64);
     sets::all_below(n as u64)
 }
 
@@ -312,10 +306,8 @@ pub fn register_of(pool: &[u64], cart: usize) -> [u64; 16]
 {
     let at = REGISTERS + cart * REGISTER_WORDS;
     let mut row = [0u64; 16];
-    let mut s: usize = 0;
-    while s < REGISTER_WORDS {
+    for s in 0..REGISTER_WORDS {
         row[s] = pool[at + s];
-        s += 1;
     }
     row
 }
@@ -326,10 +318,8 @@ pub fn put_register(pool: &mut [u64], cart: usize, row: [u64; 16])
     ensures { Carried pool.old pool.new cart row }
 {
     let at = REGISTERS + cart * REGISTER_WORDS;
-    let mut s: usize = 0;
-    while s < REGISTER_WORDS {
+    for s in 0..REGISTER_WORDS {
         pool[at + s] = row[s];
-        s += 1;
     }
 }
 
@@ -341,10 +331,8 @@ fn free_all(pool: &mut [u64])
 {
     let rows = row_count(pool);
     pool[SUMMARY] = 0;
-    let mut w: usize = 0;
-    while w < SUMMARY {
+    for w in 0..SUMMARY {
         put_free(pool, w, full_word(rows, w));
-        w += 1;
     }
 }
 
@@ -352,10 +340,8 @@ fn empty_lines(pool: &mut [u64])
     requires { rows_at ≤ length pool.old }
     ensures { Emptied pool.old pool.new }
 {
-    let mut k: usize = 0;
-    while k < LINE_COUNT {
+    for k in 0..LINE_COUNT {
         pool[LINES + k * LINE_WORDS + 2] = 0;
-        k += 1;
     }
 }
 
@@ -390,10 +376,7 @@ pub fn mark(seen: &mut [u64], row: usize)
 fn word_ok(seen: u64, free: u64, whole: u64) -> bool
     ensures { result ≡ every 64 (λ c. eqb (digit seen c + digit free c) (digit whole c)) }
 {
-    if sets::union(seen, free) != whole {
-        return false;
-    }
-    sets::is_disjoint(seen, free)
+    sets::union(seen, free) == whole && sets::is_disjoint(seen, free)
 }
 
 fn rows_ok(pool: &[u64], seen: &[u64]) -> bool
@@ -401,12 +384,10 @@ fn rows_ok(pool: &[u64], seen: &[u64]) -> bool
     ensures { result ≡ rows_ok (bit_at seen.now) pool.now }
 {
     let rows = row_count(pool);
-    let mut w: usize = 0;
-    while w < SUMMARY {
+    for w in 0..SUMMARY {
         if !word_ok(seen[w], pool[w], full_word(rows, w)) {
             return false;
         }
-        w += 1;
     }
     true
 }
@@ -416,12 +397,10 @@ fn summary_ok(pool: &[u64]) -> bool
     ensures { result ≡ summary_ok pool.now }
 {
     let s = pool[SUMMARY];
-    let mut w: usize = 0;
-    while w < SUMMARY {
+    for w in 0..SUMMARY {
         if sets::has(s, w as u64) != (0 < pool[w]) {
             return false;
         }
-        w += 1;
     }
     s < PAST_SUMMARY
 }
@@ -431,8 +410,5 @@ pub fn rest_ok(pool: &[u64], seen: &[u64]) -> bool
     requires { (sized pool.now ≡ true) × (length seen.now ≡ free_words) × Surveyed pool.now seen.now true }
     ensures { result ≡ form pool.now }
 {
-    if !rows_ok(pool, seen) {
-        return false;
-    }
-    summary_ok(pool)
+    rows_ok(pool, seen) && summary_ok(pool)
 }

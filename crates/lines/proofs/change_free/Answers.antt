@@ -1,7 +1,6 @@
 -- `lines::change_free` meets its contract. The summary is stored only where it changes.
 use native.Mathlib.Omega.{arith}
 use Rattle.lines.proofs.Bitmap.{summary_of_lem, freed_still}
-use borrow.Author.Rules.{rules}
 use Rattle.lines.proofs.change_free.Goals as goal
 
 pub returns-then-x-gt0 : goal.returns-then-x-gt0

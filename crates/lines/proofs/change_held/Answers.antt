@@ -1,7 +1,6 @@
 -- `lines::change_held` meets its contract. The word stays held, or it is used up and stored, and the next one is held.
 use native.Mathlib.Omega.{arith}
 use Rattle.lines.proofs.Holding.{change_part, change_last, changed_summary}
-use borrow.Author.Rules.{rules}
 use Rattle.lines.proofs.change_held.Goals as goal
 
 pub returns-then-x-gt0 : goal.returns-then-x-gt0

@@ -3,7 +3,6 @@ use native.Mathlib.Omega.{arith}
 use mathlib.Core.Path.{◌∙◌}
 use Rattle.lines.proofs.Formed.{sized_of}
 use Rattle.lines.proofs.Start.{clear_is}
-use borrow.Author.Rules.{rules}
 use Rattle.lines.proofs.clear.Goals as goal
 
 pub empty_lines-requires : goal.empty_lines-requires

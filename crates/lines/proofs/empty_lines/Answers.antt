@@ -1,9 +1,7 @@
 use native.Mathlib.Omega.{arith}
-use mathlib.Core.Path.{◌≡◌, refl}
-use Prim.Native.Nat.{ℕ, ◌-◌, ◌≤◌, ◌<◌}
+use mathlib.Core.Path.{refl}
 use native.Mathlib.Nat.{not-suc-le-zero}
-use lib.ListN.{length, get_or, length-set}
-use Rattle.lines.specs.Words.{length_of}
+use lib.ListN.{length-set}
 use Rattle.lines.proofs.Start.{emptied_more, emptied_rest}
 use Rattle.lines.proofs.empty_lines.Goals as goal
 
@@ -24,12 +22,6 @@ offset_bounds-pool-k c = omega arith
 
 pub bounds-pool-k : goal.bounds-pool-k
 bounds-pool-k c = omega arith
-
-pub overflow_add-k : goal.overflow_add-k
-overflow_add-k c = omega arith
-
-pub loop-k-smaller : goal.loop-k-smaller
-loop-k-smaller c = omega arith
 
 pub loop-k-preserved : goal.loop-k-preserved
 loop-k-preserved c =

@@ -1,11 +1,9 @@
 use native.Mathlib.Omega.{arith}
-use mathlib.Core.Path.{◌≡◌, refl, ◌∙◌}
-use Prim.Native.Nat.{ℕ, ◌-◌, ◌^◌, ◌≤◌, ◌<◌}
+use mathlib.Core.Path.{refl, ◌∙◌}
 use native.Mathlib.Nat.{not-suc-le-zero}
-use lib.ListN.{length, length-set}
-use Rattle.lines.specs.Words.{summary_of}
+use lib.ListN.{length-set}
 use Rattle.lines.proofs.Formed.{sized_of}
-use Rattle.lines.proofs.Start.{FreeAt, free_start, free_more, free_end}
+use Rattle.lines.proofs.Start.{free_start, free_more, free_end}
 use Rattle.lines.proofs.free_all.Goals as goal
 
 pub row_count-rows-requires : goal.row_count-rows-requires
@@ -26,12 +24,6 @@ pub put_free-requires : goal.put_free-requires
 put_free-requires c =
     let a = c.loop-w in
     (omega arith, omega (arith, (sized_of c.args.pool.now c.requires).0, simp length-set at a.invariant.1))
-
-pub overflow_add-w : goal.overflow_add-w
-overflow_add-w c = omega arith
-
-pub loop-w-smaller : goal.loop-w-smaller
-loop-w-smaller c = omega arith
 
 pub loop-w-preserved : goal.loop-w-preserved
 loop-w-preserved c =

@@ -3,7 +3,6 @@ use native.Mathlib.Omega.{arith}
 use Prim.Native.Nat.{◌+◌, ◌*◌}
 use Rattle.lines.proofs.Formed.{own_line, own_head}
 use Rattle.lines.proofs.Pop.{front_is}
-use borrow.Author.Rules.{rules}
 use Rattle.lines.proofs.front.Goals as goal
 
 pub head_of-requires : goal.head_of-requires

@@ -2,10 +2,6 @@
 use native.Mathlib.Omega.{arith}
 use Rattle.lines.proofs.Bitmap.{full_some}
 use Rattle.lines.proofs.full_word.Goals as goal
-use Rattle.lines.proofs.full_word.Goals.{then-rows-first-lt64, else-rows-first-lt64}
 
 pub returns : goal.returns
-returns c =
-    let n = c.if-rows-first-lt64 in
-    full_some c.args.rows c.args.w n.n c.all_below.result
-    (elim n.branch [ then-rows-first-lt64 w ↦ omega arith | else-rows-first-lt64 w ↦ omega arith ]) c.all_below.ensures
+returns c = full_some c.args.rows c.args.w c.min-n.result c.all_below.result (omega (arith, c.saturating_sub.ensures, c.min-n.ensures)) c.all_below.ensures

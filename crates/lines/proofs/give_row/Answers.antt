@@ -1,6 +1,5 @@
 -- `lines::give_row` meets its contract. One bit of the free rows is set.
 use Rattle.lines.proofs.Bitmap.{give_is}
-use borrow.Author.Rules.{rules}
 use Rattle.lines.proofs.give_row.Goals as goal
 
 pub returns : goal.returns

@@ -2,7 +2,6 @@
 use native.Mathlib.Omega.{arith}
 use Rattle.lines.proofs.Bitmap.{first_word}
 use Rattle.lines.proofs.Holding.{hold_is}
-use borrow.Author.Rules.{rules}
 use Rattle.lines.proofs.hold.Goals as goal
 
 pub returns-then-s-eq0 : goal.returns-then-s-eq0

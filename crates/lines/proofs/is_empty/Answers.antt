@@ -4,7 +4,6 @@ use Prim.Native.Nat.{ℕ, ◌+◌, ◌*◌}
 use mathlib.Core.Path.{ap, sym, ◌∙◌}
 use lib.Dec.{eqb}
 use Rattle.lines.proofs.Formed.{own_line, length_line}
-use borrow.Author.Rules.{rules}
 use Rattle.lines.proofs.is_empty.Goals as goal
 
 pub length_of-requires : goal.length_of-requires

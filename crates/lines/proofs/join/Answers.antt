@@ -3,7 +3,6 @@ use native.Mathlib.Omega.{arith}
 use lib.ListN.{length-set}
 use mathlib.Core.Path.{refl}
 use Rattle.lines.specs.Parts.{joined}
-use borrow.Author.Rules.{rules}
 use Rattle.lines.proofs.join.Goals as goal
 
 pub bounds-pool-row-2 : goal.bounds-pool-row-2

@@ -3,7 +3,6 @@ use native.Mathlib.Omega.{arith}
 use lib.ListN.{length-set}
 use mathlib.Core.Path.{refl}
 use Rattle.lines.specs.Parts.{left}
-use borrow.Author.Rules.{rules}
 use Rattle.lines.proofs.leave.Goals as goal
 
 pub bounds-pool-k-2 : goal.bounds-pool-k-2

@@ -1,6 +1,5 @@
 -- `lines::mark` meets its contract. One bit of a row of words is set.
 use Rattle.lines.proofs.Bitmap.{mark_is}
-use borrow.Author.Rules.{rules}
 use Rattle.lines.proofs.mark.Goals as goal
 
 pub returns : goal.returns

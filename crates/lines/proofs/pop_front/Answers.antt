@@ -3,7 +3,6 @@ use native.Mathlib.Omega.{arith}
 use Prim.Native.Nat.{◌+◌, ◌*◌}
 use Rattle.lines.proofs.Formed.{own_line, own_head, some_long}
 use Rattle.lines.proofs.Pop.{givable, pop_is}
-use borrow.Author.Rules.{rules}
 use Rattle.lines.proofs.pop_front.Goals as goal
 
 pub head_of-row-requires : goal.head_of-row-requires

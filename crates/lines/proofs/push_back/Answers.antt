@@ -3,7 +3,6 @@ use native.Mathlib.Omega.{arith}
 use Prim.Native.Nat.{◌+◌, ◌*◌}
 use Rattle.lines.proofs.Formed.{own_line, linkable, takable}
 use Rattle.lines.proofs.Push.{join_fits, push_is}
-use borrow.Author.Rules.{rules}
 use Rattle.lines.proofs.push_back.Goals as goal
 
 pub link_at-at-requires : goal.link_at-at-requires

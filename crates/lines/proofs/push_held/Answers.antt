@@ -4,7 +4,6 @@ use Prim.Native.Nat.{◌+◌, ◌*◌}
 use Rattle.sets.proofs.MaskLaws.{least_member}
 use Rattle.lines.specs.Holding.{released}
 use Rattle.lines.proofs.Holding.{held_taken, held_linkable, held_takable, held_fits, held_push}
-use borrow.Author.Rules.{rules}
 use Rattle.lines.proofs.push_held.Goals as goal
 
 pub link_at-at-requires : goal.link_at-at-requires

@@ -1,7 +1,6 @@
 -- `lines::put_free` meets its contract. The word and its bit of the summary.
 use native.Mathlib.Omega.{arith}
 use Rattle.lines.proofs.Bitmap.{freed_is}
-use borrow.Author.Rules.{rules}
 use Rattle.lines.proofs.put_free.Goals as goal
 
 pub returns : goal.returns

@@ -1,11 +1,10 @@
 use mathlib.Core.Path.{◌≡◌, refl, subst}
-use Prim.Native.Nat.{◌+◌, ◌-◌, ◌≤◌, ◌<◌}
+use Prim.Native.Nat.{◌+◌, ◌<◌}
 use native.Mathlib.Omega.{arith}
 use lib.ListN.{length, length-set}
 use Rattle.lines.specs.Words.{register_at}
 use Rattle.lines.proofs.Formed.{form_formed}
 use Rattle.lines.proofs.Registers.{WrittenTo, write_none, write_one, carry_is}
-use borrow.Author.Rules.{rules}
 use Rattle.lines.proofs.put_register.Goals as goal
 
 pub loop-s-init : goal.loop-s-init

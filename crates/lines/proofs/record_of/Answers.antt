@@ -1,7 +1,6 @@
 -- `lines::record_of` meets its contract. The row's two words.
 use mathlib.Core.Path.{refl}
 use Rattle.lines.specs.Lines.{record_of}
-use borrow.Author.Rules.{rules}
 use Rattle.lines.proofs.record_of.Goals as goal
 
 pub returns : goal.returns

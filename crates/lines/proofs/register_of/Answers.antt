@@ -1,12 +1,11 @@
-use mathlib.Core.Path.{◌≡◌, refl}
-use Prim.Native.Nat.{◌+◌, ◌-◌, ◌≤◌}
+use mathlib.Core.Path.{refl}
+use Prim.Native.Nat.{◌+◌}
 use native.Mathlib.Omega.{arith}
-use lib.ListN.{length, get_or, length-set}
-use Rattle.rows.proofs.WordByWord.{ReadTo, read_one, read_all}
+use lib.ListN.{get_or, length-set}
+use Rattle.rows.proofs.WordByWord.{read_one, read_all}
 use Rattle.lines.specs.Words.{register_at}
 use Rattle.lines.specs.Lines.{registers_in}
 use Rattle.lines.proofs.Registers.{register_read}
-use borrow.Author.Rules.{rules}
 use Rattle.lines.proofs.register_of.Goals as goal
 
 pub loop-s-init : goal.loop-s-init

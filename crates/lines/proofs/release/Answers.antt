@@ -1,7 +1,6 @@
 -- `lines::release` meets its contract. One store.
 use mathlib.Core.Path.{refl}
 use Rattle.lines.specs.Holding.{released}
-use borrow.Author.Rules.{rules}
 use Rattle.lines.proofs.release.Goals as goal
 
 pub returns : goal.returns

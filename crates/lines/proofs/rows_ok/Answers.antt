@@ -1,12 +1,6 @@
 use native.Mathlib.Omega.{arith}
-use mathlib.Core.Path.{◌≡◌}
-use Prim.Native.Nat.{ℕ, ◌+◌, ◌-◌, ◌*◌, ◌≤◌, ◌<◌}
 use native.Mathlib.Nat.{not-suc-le-zero}
 use borrow.Author.Tests.{not-true, not-false}
-use lib.Dec.{ltb}
-use Rattle.protocol.specs.Form.{bit}
-use Rattle.lines.specs.Bits.{bit_at}
-use Rattle.lines.specs.Words.{capacity}
 use Rattle.lines.proofs.Formed.{sized_of}
 use Rattle.lines.proofs.Test.{word_fails, word_more, rows_end}
 use mathlib.Core.Bool.{not}
@@ -46,12 +40,6 @@ returns-then-not-word_ok c =
     let x = c.full_word in
     let t = c.word_ok in
     word_fails c.args.pool.now c.args.seen.now a.w rows.result x.result t.result rows.ensures x.ensures t.ensures (omega arith) (not-true _ (ap not c.if-not-word_ok.true))
-
-pub overflow_add-w : goal.overflow_add-w
-overflow_add-w c = omega arith
-
-pub loop-w-smaller : goal.loop-w-smaller
-loop-w-smaller c = omega arith
 
 pub loop-w-preserved : goal.loop-w-preserved
 loop-w-preserved c =

@@ -1,8 +1,4 @@
 use native.Mathlib.Omega.{arith}
-use mathlib.Core.Path.{◌≡◌}
-use mathlib.Core.Bool.{true}
-use Prim.Native.Nat.{◌-◌, ◌≤◌}
-use Rattle.protocol.specs.Folds.{every}
 use Rattle.lines.proofs.Sums.{every_none}
 use Rattle.lines.proofs.Test.{summary_test, summary_fails, summary_more, summary_end}
 use Rattle.lines.proofs.summary_ok.Goals as goal
@@ -27,12 +23,6 @@ returns-then-has-pool c =
     let a = c.loop-w in
     let d = c.has in
     summary_fails c.args.pool.now a.w d.result d.ensures (omega arith) c.if-has-pool.true
-
-pub overflow_add-w : goal.overflow_add-w
-overflow_add-w c = omega arith
-
-pub loop-w-smaller : goal.loop-w-smaller
-loop-w-smaller c = omega arith
 
 pub loop-w-preserved : goal.loop-w-preserved
 loop-w-preserved c =

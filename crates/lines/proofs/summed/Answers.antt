@@ -1,7 +1,6 @@
 -- `lines::summed` meets its contract. The bit is set or cleared.
 use native.Mathlib.Omega.{arith}
 use Rattle.lines.proofs.Bitmap.{summed_with, summed_without}
-use borrow.Author.Rules.{rules}
 use Rattle.lines.proofs.summed.Goals as goal
 
 pub returns-then-x-gt0 : goal.returns-then-x-gt0

@@ -2,7 +2,6 @@
 use native.Mathlib.Omega.{arith}
 use Rattle.sets.proofs.MaskLaws.{least_member}
 use Rattle.lines.proofs.Bitmap.{first_word, take_is}
-use borrow.Author.Rules.{rules}
 use Rattle.lines.proofs.take_row.Goals as goal
 
 pub offset_bounds-pool-w : goal.offset_bounds-pool-w
