@@ -1,7 +1,7 @@
 -- A SEND MEETS ITS EVENT, of whatever kind: what the code asks on the way, and what it leaves.
 use mathlib.Core.Path.{◌≡◌, refl, sym, ap, ◌∙◌, subst}
 use mathlib.Core.Bool.{true, false}
-use mathlib.Core.Option.{none, some}
+use mathlib.Core.Option.{some}
 use mathlib.Core.List.{List}
 use Prim.Native.Nat.{ℕ, ◌+◌, ◌*◌, ◌≤◌, ◌<◌}
 use native.Mathlib.Omega.{arith}
@@ -16,7 +16,7 @@ use Rattle.protocol.specs.Wired.{free_room, on_send}
 use Rattle.protocol.specs.Form.{passes_form}
 use Rattle.protocol.specs.Refusals.{no_station, no_group, undefined, refusal_if}
 use Rattle.protocol.specs.Step.{accept}
-use Rattle.protocol.proofs.Tests.{by_lt, or-false}
+use Rattle.protocol.proofs.Tests.{or-false}
 use Rattle.protocol.proofs.Accepted.{MaySend, may_send, may_send_group, may_send_long, passed_check}
 use Rattle.stations.specs.View.{HasHead, HasStation, head_in, stations_in}
 use Rattle.messages.specs.View.{HasRoom, rooms_in}
@@ -32,7 +32,9 @@ use Rattle.view.specs.View.{Lent, lent, floor_in}
 use Rattle.view.proofs.Standing.{Standing, standing, few_carts, numbers_of_32_bits}
 use Rattle.wired_send.specs.Rooms.{first_free}
 use Rattle.wired_send.specs.Sent.{CanStore, Kept, KeptLong, Announced}
-use Rattle.wired_send.proofs.RoomLaws.{room_found, none_found}
+use Rattle.wired_send.proofs.RoomLaws.{room_found}
+use Rattle.std.specs.Prelude.{Some}
+use Rattle.std.specs.Prelude as code
 use Rattle.wired_send.proofs.SendRoom.{send_numbers, send_room}
 use Rattle.wired_send.proofs.Placed.{Placed, short_placed, long_placed}
 use Rattle.wired_send.proofs.SendIs.{send_done}
@@ -46,7 +48,7 @@ use Rattle.event_send.specs.Posted.{CanPost, CanPostLong, WasPosted}
 use Rattle.event_send.proofs.SendChecks.{octets_are}
 
 -- the search goes over as many rooms as the product has
-pub searched : (P : Product) (b : Bounds) → NumbersOf P b → (M : List ℕ) (m : ℕ) → m ≡ first_free b.held M → m ≡ first_free P.held M
+pub searched : (P : Product) (b : Bounds) → NumbersOf P b → (M : List ℕ) (found : code.Option ℕ) → found ≡ first_free b.held M → found ≡ first_free P.held M
 searched P b numbers M m found = found ∙ ap (λ (h : ℕ). first_free h M) (sym numbers.held_is)
 
 -- THE STEP BEHIND THE CHECKS: what the code found as how many stations there are, and as the message's number
@@ -112,13 +114,11 @@ module _ (P : Product) (b : Bounds) (numbers : NumbersOf P b) (S C M W T O : Lis
   store_whole = X.lengths.store
 
   -- the search found room m, no check applied, and so some room is free and the event may send
-  module _ (s set m : ℕ) (text : List ℕ) (found : m ≡ first_free P.held M)
+  module _ (s set m : ℕ) (text : List ℕ) (found : Some m ≡ first_free P.held M)
       (may_some : (k : ℕ) × (free_room (limits_of P) (floor_in L) ≡ some k) × MaySend (limits_of P) (floor_in L) s set text k) where
     -- so m is that room
     room : free_room (limits_of P) (floor_in L) ≡ some m
-    room =
-        by_lt m 32 (λ l. room_found L m found l)
-        (λ g. absurd (let y : none ≡ some may_some.0 = sym (none_found L m found g) ∙ may_some.1 in let x : ◌≡◌ {A = ℕ} 0 1 = cc in omega arith))
+    room = room_found L (Some m) found m refl
 
     same_room : may_some.0 ≡ m
     same_room = let y : some may_some.0 ≡ some m = sym may_some.1 ∙ room in cc
@@ -150,7 +150,7 @@ module _ (P : Product) (b : Bounds) (numbers : NumbersOf P b) (S C M W T O : Lis
     -- 27 was passed: the free octets suffice
     can_store : 32 < length text → length text ≤ 512 → CanStore b.held M O text
     can_store above below =
-        let counted = octets_are P b numbers S C M W T O laid_asked store_whole s text in
+        let counted = octets_are P b numbers T O M laid_asked store_whole in
         record { laid = laid_asked; whole = store_whole; above = above; below = below; free = omega (arith, may.stored (lt-ltb 32 (length text) above), counted) }
 
     pub can_post_long : 32 < length text → length text ≤ 512 → CanPostLong b S M W O m s text
@@ -171,7 +171,7 @@ module _ (P : Product) (b : Bounds) (numbers : NumbersOf P b) (S C M W T O : Lis
         (long_placed b.held M M' m s (head_in S).stations ((stations_in S).sent s) set text may.names.station T O O' (can_store above below) kept)
 
     -- POSTED, the event is met: any that is not refused, and whose step is that of a send of this kind
-    pub meets_posted : (e : Event) (kind : ℕ) → refusal_if (limits_of P) (floor_in L) false e ≡ 0
+    pub meets_posted : (e : Event) (kind : ℕ) → 0 ≡ refusal_if (limits_of P) (floor_in L) false e
         → accept (limits_of P) (floor_in L) e ≡ on_send (limits_of P) (floor_in L) kind s set text
         → (S' M' W' T' O' : List ℕ) (r : Posted) → Placed P.held M M' T T' O O' m s (head_in S).stations ((stations_in S).sent s) set text → WasPosted S S' W W' m s r
         → Met L (lent P S' C M' W' T' O') e (says kind s r.number.0 r.effect)
@@ -179,28 +179,28 @@ module _ (P : Product) (b : Bounds) (numbers : NumbersOf P b) (S C M W T O : Lis
         let L' = lent P S' C M' W' T' O' in
         let whole = send_done S S' C M M' W W' T T' O O' m s set text X may placed posted.announced room kind ∙ sym posts in
         meets_counted L L' e kind s r.number.0 r.effect (putting (head_in S).stations) posted.counted
-        (rw posted.number (meets_done L e L' _ refl (refusal_standing L e p ∙ free)
+        (rw posted.number (meets_done L e L' _ refl (refusal_standing L e p ∙ sym free)
         (ap (λ (D : Done). D.floor) whole) (ap (λ (D : Done). D.report) whole)))
 
   -- A SEND TO A SET that is not refused
-  pub send_may : (s set : ℕ) (text : List ℕ) (r : ℕ) → r ≡ refusal_if (limits_of P) (floor_in L) false (send s set text) → r ≡ 0
+  pub send_may : (s set : ℕ) (text : List ℕ) → 0 ≡ refusal_if (limits_of P) (floor_in L) false (send s set text)
       → (k : ℕ) × (free_room (limits_of P) (floor_in L) ≡ some k) × MaySend (limits_of P) (floor_in L) s set text k
-  send_may s set text r told none_applied = may_send (limits_of P) (floor_in L) false s set text (sym told ∙ none_applied)
+  send_may s set text told = may_send (limits_of P) (floor_in L) false s set text (sym told)
 
   pub send_posts : (s set : ℕ) (text : List ℕ) → accept (limits_of P) (floor_in L) (send s set text) ≡ on_send (limits_of P) (floor_in L) 2 s set text
   unfolding accept
   send_posts s set text = refl
 
   -- A SEND TO A GROUP that is not refused
-  pub group_may : (s g : ℕ) (text : List ℕ) (r : ℕ) → r ≡ refusal_if (limits_of P) (floor_in L) false (send_group s g text) → r ≡ 0
+  pub group_may : (s g : ℕ) (text : List ℕ) → 0 ≡ refusal_if (limits_of P) (floor_in L) false (send_group s g text)
       → (k : ℕ) × (free_room (limits_of P) (floor_in L) ≡ some k) × MaySend (limits_of P) (floor_in L) s ((head_in S).groups g) text k
-  group_may s g text r told none_applied = may_send_group (limits_of P) (floor_in L) s g text (rw p (sym told ∙ none_applied))
+  group_may s g text told = may_send_group (limits_of P) (floor_in L) s g text (rw p (sym told))
 
   -- so the code may read its members
-  pub group_there : (s g : ℕ) (text : List ℕ) (r : ℕ) → r ≡ refusal_if (limits_of P) (floor_in L) false (send_group s g text) → r ≡ 0 → g < group_count
+  pub group_there : (s g : ℕ) (text : List ℕ) → 0 ≡ refusal_if (limits_of P) (floor_in L) false (send_group s g text) → g < group_count
   unfolding refusal_if
-  group_there s g text r told none_applied =
-      let a4 = passed_check 4 (ltb 32 (length text)) _ (omega arith) (sym told ∙ none_applied) in
+  group_there s g text told =
+      let a4 = passed_check 4 (ltb 32 (length text)) _ (omega arith) (sym told) in
       let a5 = passed_check 5 false _ (omega arith) a4.1 in
       let a8 = passed_check 8 (no_station (floor_in L) s) _ (omega arith) a5.1 in
       let a26 = passed_check 26 (undefined (floor_in L) g) _ (omega arith) a8.1 in
@@ -211,9 +211,9 @@ module _ (P : Product) (b : Bounds) (numbers : NumbersOf P b) (S C M W T O : Lis
   group_posts s g text = refl
 
   -- A LONG SEND that is not refused
-  pub long_may : (s set : ℕ) (text : List ℕ) (r : ℕ) → r ≡ refusal_if (limits_of P) (floor_in L) false (send_long s set text) → r ≡ 0
+  pub long_may : (s set : ℕ) (text : List ℕ) → 0 ≡ refusal_if (limits_of P) (floor_in L) false (send_long s set text)
       → (k : ℕ) × (free_room (limits_of P) (floor_in L) ≡ some k) × MaySend (limits_of P) (floor_in L) s set text k
-  long_may s set text r told none_applied = may_send_long (limits_of P) (floor_in L) false s set text (sym told ∙ none_applied)
+  long_may s set text told = may_send_long (limits_of P) (floor_in L) false s set text (sym told)
 
   pub long_posts : (s set : ℕ) (text : List ℕ) → accept (limits_of P) (floor_in L) (send_long s set text) ≡ on_send (limits_of P) (floor_in L) 9 s set text
   unfolding accept

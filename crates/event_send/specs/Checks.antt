@@ -2,7 +2,7 @@
 use Rattle.std.specs.Prelude.{List, ℕ, ◌+◌, eqb, ltb, length}
 use Rattle.protocol.specs.Folds.{is_empty}
 use Rattle.protocol.specs.Floor.{Limits, Floor}
-use Rattle.protocol.specs.Refusals.{check, strangers, not_entered, number_and_room, store_full}
+use Rattle.protocol.specs.Refusals.{check, strangers, not_entered, number_and_room}
 use Rattle.messages.specs.View.{rooms_in}
 use Rattle.store.specs.Layout.{size, used_in}
 
@@ -25,7 +25,3 @@ room_checks N F s = number_and_room N F s 0
 -- that of a long text: "27 free octets in the store, counted together, fewer than the length", of the messages' table (M) with h rooms
 abbrev pub store_checks : ℕ → List ℕ → List ℕ → ℕ
 store_checks h M text = check 27 (ltb size (used_in h (rooms_in M) + length text)) 0
-
--- the last of a long send: 13, 14, and "27 .., after 14"
-abbrev pub last_of_long : Limits → Floor → ℕ → List ℕ → ℕ
-last_of_long N F s text = number_and_room N F s (check 27 (store_full N F text) 0)

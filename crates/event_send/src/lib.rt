@@ -2,156 +2,123 @@
 // down the table", and then is one and the same step of the wired module.
 #![tactic(auto)]
 
-ghost use Rattle.std.specs.Prelude.{◌≡◌, false, not, List, [], ℕ, ◌+◌, ◌*◌, ◌≤◌, ◌<◌, length};
+ghost use Rattle.std.specs.Prelude.{◌≡◌, false, not, List, [], ℕ, ◌+◌, ◌*◌, ◌≤◌, ◌<◌, length, IfOk, Some};
 ghost use Rattle.protocol.specs.Floor.{Product, limits_of};
 ghost use Rattle.protocol.specs.Events.{send, send_group, send_long};
-ghost use Rattle.protocol.specs.Refusals.{last_of_send, undefined, refusal_if};
+ghost use Rattle.protocol.specs.Refusals.{undefined, refusal_if};
 ghost use Rattle.products.specs.Numbers.{NumbersOf};
 ghost use Rattle.stations.specs.View.{HasHead, HasStation, head_in, stations_in};
 ghost use Rattle.store.specs.Layout.{size};
 ghost use Rattle.store.specs.Moved.{Laid};
 ghost use Rattle.view.specs.View.{lent, floor_in};
+ghost use Rattle.refusals.specs.Numbers.{refusal_in};
 ghost use Rattle.wired_send.specs.Rooms.{first_free};
 ghost use Rattle.wired_send.specs.Sent.{Kept, KeptLong};
 ghost use Rattle.event_answers.specs.Answers.{answer_in};
 ghost use Rattle.event_answers.specs.Met.{ReadyWith, MetWith};
-ghost use Rattle.event_send.specs.Checks.{named_checks, set_checks, text_checks, room_checks, store_checks, last_of_long};
+ghost use Rattle.event_send.specs.Checks.{named_checks, set_checks, text_checks, room_checks, store_checks};
 ghost use Rattle.event_send.specs.Posted.{CanPost, CanPostLong, WasPosted};
 
-use event_answers::{Answer, Outcome};
+use event_answers::{Accepted, Answer, Outcome};
 use ids::{MessageNumber, Station};
 use products::Bounds;
+use refusals::Refusal;
 use reports::Effect;
 use wired_send::NewMessage;
 
-// "a cart in the set, not on the floor", 9, a named cart "not now entered", 12, or 0. A set has only carts of the floor when it is no greater than the
-// set of all of them.
-pub fn named_refusal(stations: &[u64], carts: &[u64], set: u64) -> u64
+// "a cart in the set, not on the floor", 9, and a named cart "not now entered", 12. A set has only carts of the floor when it is no greater than the set
+// of all of them.
+pub fn check_named(stations: &[u64], carts: &[u64], set: u64) -> Result<(), Refusal>
     requires { HasHead stations.now × ((head_in stations.now).carts * 19 ≤ length carts.now) × ((head_in stations.now).carts ≤ 64) }
-    ensures { (P : Product) (M W T O : List ℕ) → result ≡ named_checks (floor_in (lent P stations.now carts.now M W T O)) set }
+    ensures { (P : Product) (M W T O : List ℕ) → refusal_in result ≡ named_checks (floor_in (lent P stations.now carts.now M W T O)) set }
 {
     if sets::all_below(stations::cart_count(stations)) < set {
-        return 9;
+        return Err(Refusal::NoSuchCart);
     }
-    if form_groups::all_entered(carts, set) {
-        0
-    } else {
-        12
+    if !form_groups::all_entered(carts, set) {
+        return Err(Refusal::NamedOutside);
     }
+    Ok(())
 }
 
 // The same of a send's set, with "empty set", 11, between the two: an empty set meets neither of them.
-fn set_refusal(stations: &[u64], carts: &[u64], set: u64) -> u64
+fn check_set(stations: &[u64], carts: &[u64], set: u64) -> Result<(), Refusal>
     requires { HasHead stations.now × ((head_in stations.now).carts * 19 ≤ length carts.now) × ((head_in stations.now).carts ≤ 64) }
-    ensures { (P : Product) (M W T O : List ℕ) → result ≡ set_checks (floor_in (lent P stations.now carts.now M W T O)) set }
+    ensures { (P : Product) (M W T O : List ℕ) → refusal_in result ≡ set_checks (floor_in (lent P stations.now carts.now M W T O)) set }
 {
     if set == 0 {
-        return 11;
+        return Err(Refusal::EmptySet);
     }
-    named_refusal(stations, carts, set)
+    check_named(stations, carts, set)
 }
 
-// "empty text", 24, or 0.
-fn text_refusal(text: &[u8]) -> u64
-    ensures { result ≡ text_checks text.now }
+// "empty text", 24.
+fn check_text(text: &[u8]) -> Result<(), Refusal>
+    ensures { refusal_in result ≡ text_checks text.now }
 {
-    if text.len() == 0 { 24 } else { 0 }
+    if text.len() == 0 {
+        return Err(Refusal::EmptyText);
+    }
+    Ok(())
 }
 
-// "13 now speaks of the caller's last number": the station has used it; or 14, as many messages held as may be; or 0. m is the first free room. The
+// "13 now speaks of the caller's last number": the station has used it; or 14, as many messages held as may be. Answers the first free room. The
 // numbers are compared as the 32 bits that they have: of 64 bits the floor's last one would be no immediate of an instruction.
-fn room_refusal(stations: &[u64], station: Station, m: usize, last: u32) -> u64
-    requires { HasStation stations.now station.0 × ((stations_in stations.now).sent station.0 < 4294967296) }
-    ensures { (P : Product) (C M W T O : List ℕ) → P.last ≡ last → m ≡ first_free P.held M → result ≡ room_checks (limits_of P) (floor_in (lent P stations.now C M W T O)) station.0 }
+fn check_room(
+    stations: &[u64],
+    messages: &[u64],
+    station: Station,
+    bounds: Bounds,
+) -> Result<usize, Refusal>
+    requires { HasStation stations.now station.0 × ((stations_in stations.now).sent station.0 < 4294967296) × (bounds.held * 7 ≤ length messages.now) × (bounds.held ≤ 32) }
+    ensures refusal { (P : Product) (C W T O : List ℕ) → NumbersOf P bounds → refusal_in result ≡ room_checks (limits_of P) (floor_in (lent P stations.now C messages.now W T O)) station.0 }
+    ensures room { IfOk result (λ m. Some m ≡ first_free bounds.held messages.now) }
 {
     let sent = stations::sent_of(stations, station) as u32;
-    if last < sent {
-        return 13;
+    if bounds.last < sent {
+        return Err(Refusal::NumbersUsed);
     }
-    if m == queue::NONE { 14 } else { 0 }
+    wired_send::free_room(messages, bounds.held).ok_or(Refusal::RoomsTaken)
 }
 
-// The last checks of a send that is not long, "24, 13, 14", or 0; m is the first free room.
-fn last_refusal(stations: &[u64], station: Station, text: &[u8], m: usize, last: u32) -> u64
-    requires { HasStation stations.now station.0 × ((stations_in stations.now).sent station.0 < 4294967296) }
-    ensures { (P : Product) (C M W T O : List ℕ) → P.last ≡ last → m ≡ first_free P.held M → result ≡ last_of_send (limits_of P) (floor_in (lent P stations.now C M W T O)) station.0 text.now }
-{
-    let of_text = text_refusal(text);
-    let of_room = room_refusal(stations, station, m, last);
-    event_answers::first_of(of_text, of_room)
-}
-
-// The refusal of a send to a set, 8, 9, 11, 12, "24 empty text, after 12 and before 13", 13 and 14, or 0; m is the first free room.
-fn send_refusal(
-    stations: &[u64],
-    carts: &[u64],
-    station: Station,
-    set: u64,
-    text: &[u8],
-    m: usize,
-    last: u32,
-) -> u64
-    requires { HasHead stations.now × ((head_in stations.now).carts * 19 ≤ length carts.now) × ((head_in stations.now).carts ≤ 64) × (116 + (head_in stations.now).stations * 116 ≤ length stations.now) × (length text.now ≤ 32) × ((stations_in stations.now).sent station.0 < 4294967296) }
-    ensures { (P : Product) (M W T O : List ℕ) → P.last ≡ last → m ≡ first_free P.held M → result ≡ refusal_if (limits_of P) (floor_in (lent P stations.now carts.now M W T O)) false (send station.0 set text.now) }
-{
-    if stations::station_count(stations) <= station.0 {
-        return 8;
-    }
-    let of_set = set_refusal(stations, carts, set);
-    let of_rest = last_refusal(stations, station, text, m, last);
-    event_answers::first_of(of_set, of_rest)
-}
-
-// "27 free octets in the store, counted together, fewer than the length", or 0.
-fn store_refusal(messages: &[u64], held: usize, text: &[u8]) -> u64
+// "27 free octets in the store, counted together, fewer than the length".
+fn check_store(messages: &[u64], held: usize, text: &[u8]) -> Result<(), Refusal>
     requires { Laid held messages.now × (length text.now ≤ 512) }
-    ensures { result ≡ store_checks held messages.now text.now }
+    ensures { refusal_in result ≡ store_checks held messages.now text.now }
 {
-    if store::has_room(messages, held, text.len()) {
-        0
-    } else {
-        27
+    if !store::has_room(messages, held, text.len()) {
+        return Err(Refusal::StoreFull);
     }
+    Ok(())
 }
 
-// The last checks of a long send, 13, 14, and "27 .., after 14", or 0; m is the first free room.
-fn last_of_long(
-    stations: &[u64],
-    messages: &[u64],
-    station: Station,
-    text: &[u8],
-    m: usize,
-    bounds: Bounds,
-) -> u64
-    requires { HasStation stations.now station.0 × Laid bounds.held messages.now × (length text.now ≤ 512) × ((stations_in stations.now).sent station.0 < 4294967296) }
-    ensures { (P : Product) (C W T O : List ℕ) → NumbersOf P bounds → m ≡ first_free P.held messages.now → length O ≡ size → result ≡ last_of_long (limits_of P) (floor_in (lent P stations.now C messages.now W T O)) station.0 text.now }
-{
-    let of_room = room_refusal(stations, station, m, bounds.last);
-    let of_store = store_refusal(messages, bounds.held, text);
-    event_answers::first_of(of_room, of_store)
-}
-
-// The refusal of a long send, 8, 9, 11, 12, 13, 14 and 27, or 0; m is the first free room.
-fn send_long_refusal(
+// The checks of a send to a set, 8, 9, 11, 12, "24 empty text, after 12 and before 13", 13 and 14, and of a long one "27 .., after 14". Answers the room
+// that the message gets.
+fn check_send(
     stations: &[u64],
     carts: &[u64],
     messages: &[u64],
     station: Station,
     set: u64,
     text: &[u8],
-    m: usize,
     bounds: Bounds,
-) -> u64
+) -> Result<usize, Refusal>
     requires has_head { HasHead stations.now × ((head_in stations.now).carts * 19 ≤ length carts.now) × ((head_in stations.now).carts ≤ 64) × (116 + (head_in stations.now).stations * 116 ≤ length stations.now) × ((stations_in stations.now).sent station.0 < 4294967296) }
-    requires laid { Laid bounds.held messages.now × (32 < length text.now) × (length text.now ≤ 512) }
-    ensures { (P : Product) (W T O : List ℕ) → NumbersOf P bounds → m ≡ first_free P.held messages.now → length O ≡ size → result ≡ refusal_if (limits_of P) (floor_in (lent P stations.now carts.now messages.now W T O)) false (send_long station.0 set text.now) }
+    requires laid { Laid bounds.held messages.now × (bounds.held * 7 ≤ length messages.now) × (bounds.held ≤ 32) × (length text.now ≤ 512) }
+    ensures short { (P : Product) (W T O : List ℕ) → NumbersOf P bounds → length text.now ≤ 32 → refusal_in result ≡ refusal_if (limits_of P) (floor_in (lent P stations.now carts.now messages.now W T O)) false (send station.0 set text.now) }
+    ensures long { (P : Product) (W T O : List ℕ) → NumbersOf P bounds → length O ≡ size → 32 < length text.now → refusal_in result ≡ refusal_if (limits_of P) (floor_in (lent P stations.now carts.now messages.now W T O)) false (send_long station.0 set text.now) }
+    ensures room { IfOk result (λ m. Some m ≡ first_free bounds.held messages.now) }
 {
     if stations::station_count(stations) <= station.0 {
-        return 8;
+        return Err(Refusal::NoSuchStation);
     }
-    let of_set = set_refusal(stations, carts, set);
-    let of_last = last_of_long(stations, messages, station, text, m, bounds);
-    event_answers::first_of(of_set, of_last)
+    check_set(stations, carts, set)?;
+    check_text(text)?;
+    let room = check_room(stations, messages, station, bounds)?;
+    if products::TEXT < text.len() {
+        check_store(messages, bounds.held, text)?;
+    }
+    Ok(room)
 }
 
 // Is the group defined? "an empty set undefines the group", and there is none above 15.
@@ -165,26 +132,28 @@ fn is_defined(stations: &[u64], group: u64) -> bool
     stations::group_of(stations, group) != 0
 }
 
-// The refusal of a send to a group, "26 group not defined or above 15, after 8, then 24, 13, 14", or 0; m is the first free room. Its members are
-// carts of the floor that have entered: the form rule says so, and none of them is looked at.
-fn send_group_refusal(
+// The checks of a send to a group, "26 group not defined or above 15, after 8, then 24, 13, 14". Answers the room that the message gets. Its members
+// are carts of the floor that have entered: the form rule says so, and none of them is looked at.
+fn check_send_group(
     stations: &[u64],
+    messages: &[u64],
     station: Station,
     group: u64,
     text: &[u8],
-    m: usize,
-    last: u32,
-) -> u64
-    requires { HasHead stations.now × (116 + (head_in stations.now).stations * 116 ≤ length stations.now) × (length text.now ≤ 32) × ((stations_in stations.now).sent station.0 < 4294967296) }
-    ensures { (P : Product) (C M W T O : List ℕ) → P.last ≡ last → m ≡ first_free P.held M → result ≡ refusal_if (limits_of P) (floor_in (lent P stations.now C M W T O)) false (send_group station.0 group text.now) }
+    bounds: Bounds,
+) -> Result<usize, Refusal>
+    requires { HasHead stations.now × (116 + (head_in stations.now).stations * 116 ≤ length stations.now) × (length text.now ≤ 32) × ((stations_in stations.now).sent station.0 < 4294967296) × (bounds.held * 7 ≤ length messages.now) × (bounds.held ≤ 32) }
+    ensures refusal { (P : Product) (C W T O : List ℕ) → NumbersOf P bounds → refusal_in result ≡ refusal_if (limits_of P) (floor_in (lent P stations.now C messages.now W T O)) false (send_group station.0 group text.now) }
+    ensures room { IfOk result (λ m. Some m ≡ first_free bounds.held messages.now) }
 {
     if stations::station_count(stations) <= station.0 {
-        return 8;
+        return Err(Refusal::NoSuchStation);
     }
     if !is_defined(stations, group) {
-        return 26;
+        return Err(Refusal::NoSuchGroup);
     }
-    last_refusal(stations, station, text, m, last)
+    check_text(text)?;
+    check_room(stations, messages, station, bounds)
 }
 
 // A message that went out: its number, and what the step counted.
@@ -271,27 +240,24 @@ pub fn send(
     ensures { MetWith bounds (λ P. lent P stations.old carts.now messages.old lines.old texts.old store.now) (λ P. lent P stations.new carts.now messages.new lines.new texts.new store.now) (send station.0 set text.now) (answer_in result []) }
 {
     if !stations::is_started(stations) {
-        return Answer::Refused(5);
+        return Err(Refusal::NotReady);
     }
-    let m = wired_send::free_room(messages, bounds.held);
-    let refusal = send_refusal(stations, carts, station, set, text, m, bounds.last);
-    if refusal != 0 {
-        return Answer::Refused(refusal);
-    }
+    let room = check_send(stations, carts, messages, station, set, text, bounds)?;
     let posted = post(
         stations,
         messages,
         lines,
         texts,
         bounds.stations,
-        m,
+        room,
         station,
         set,
         text,
     );
-    let number = posted.number;
-    let effect = posted.effect;
-    Answer::Accepted(Outcome::Sent(station, number), effect)
+    Ok(Accepted {
+        outcome: Outcome::Sent(station, posted.number),
+        effect: posted.effect,
+    })
 }
 
 // "Kind 8 .. sends to the members as they are at that send". A text longer than 32 octets is the caller's to refuse, as for a send.
@@ -312,13 +278,9 @@ pub fn send_group(
     ensures { MetWith bounds (λ P. lent P stations.old carts.now messages.old lines.old texts.old store.now) (λ P. lent P stations.new carts.now messages.new lines.new texts.new store.now) (send_group station.0 group text.now) (answer_in result []) }
 {
     if !stations::is_started(stations) {
-        return Answer::Refused(5);
+        return Err(Refusal::NotReady);
     }
-    let m = wired_send::free_room(messages, bounds.held);
-    let refusal = send_group_refusal(stations, station, group, text, m, bounds.last);
-    if refusal != 0 {
-        return Answer::Refused(refusal);
-    }
+    let room = check_send_group(stations, messages, station, group, text, bounds)?;
     let members = stations::group_of(stations, group);
     let posted = post(
         stations,
@@ -326,14 +288,15 @@ pub fn send_group(
         lines,
         texts,
         bounds.stations,
-        m,
+        room,
         station,
         members,
         text,
     );
-    let number = posted.number;
-    let effect = posted.effect;
-    Answer::Accepted(Outcome::SentToGroup(station, number), effect)
+    Ok(Accepted {
+        outcome: Outcome::SentToGroup(station, posted.number),
+        effect: posted.effect,
+    })
 }
 
 // "Kind 9 is a send whose text has 33 to 512 octets". A text of another length, 4, is the caller's to refuse, as for a send.
@@ -354,17 +317,14 @@ pub fn send_long(
     ensures { MetWith bounds (λ P. lent P stations.old carts.now messages.old lines.old texts.now store.old) (λ P. lent P stations.new carts.now messages.new lines.new texts.now store.new) (send_long station.0 set text.now) (answer_in result []) }
 {
     if !stations::is_started(stations) {
-        return Answer::Refused(5);
+        return Err(Refusal::NotReady);
     }
-    let m = wired_send::free_room(messages, bounds.held);
-    let refusal = send_long_refusal(stations, carts, messages, station, set, text, m, bounds);
-    if refusal != 0 {
-        return Answer::Refused(refusal);
-    }
+    let room = check_send(stations, carts, messages, station, set, text, bounds)?;
     let posted = post_long(
-        stations, messages, lines, store, bounds, m, station, set, text,
+        stations, messages, lines, store, bounds, room, station, set, text,
     );
-    let number = posted.number;
-    let effect = posted.effect;
-    Answer::Accepted(Outcome::SentLong(station, number), effect)
+    Ok(Accepted {
+        outcome: Outcome::SentLong(station, posted.number),
+        effect: posted.effect,
+    })
 }

@@ -1,6 +1,5 @@
 -- `event_send::is_defined` meets its contract.
 use native.Mathlib.Omega.{arith}
-use borrow.Author.Rules.{rules}
 use Rattle.view.specs.View.{lent, floor_in}
 use Rattle.event_send.proofs.SendChecks.{is_no_group, is_a_group}
 use Rattle.event_send.proofs.is_defined.Goals as goal

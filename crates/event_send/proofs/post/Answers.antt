@@ -1,6 +1,5 @@
 -- `event_send::post` meets its contract.
 use mathlib.Core.Path.{refl}
-use borrow.Author.Rules.{rules}
 use Rattle.event_send.proofs.SendMeets.{on_send_asked, was_kept, was_posted}
 use Rattle.event_send.proofs.post.Goals as goal
 

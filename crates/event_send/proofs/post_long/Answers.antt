@@ -1,6 +1,5 @@
 -- `event_send::post_long` meets its contract.
 use mathlib.Core.Path.{refl}
-use borrow.Author.Rules.{rules}
 use Rattle.event_send.proofs.SendMeets.{on_send_long_asked, was_kept_long, was_posted}
 use Rattle.event_send.proofs.post_long.Goals as goal
 

@@ -1,16 +1,14 @@
 -- `event_send::send` meets its contract.
-use mathlib.Core.Path.{refl, sym, ◌∙◌}
-use mathlib.Core.Bool.{false}
+use mathlib.Core.Bool.{false, not}
+use mathlib.Core.Path.{refl, ap}
 use native.Mathlib.Omega.{arith}
-use borrow.Author.Rules.{rules}
+use Rattle.std.proofs.lemmas.Result.{err_from_is_err_and}
 use Rattle.protocol.specs.Events.{send}
 use Rattle.view.specs.View.{lent}
-use Rattle.event_answers.proofs.Meets.{meets_no}
+use Rattle.event_answers.proofs.Meets.{meets_check}
 use Rattle.event_answers.proofs.Broken.{broken_send}
 use Rattle.event_answers.proofs.Readies.{has_head, started_passes, unstarted_breaks}
-use Rattle.event_send.proofs.SendMeets.{searched, rooms_asked, checks_asked, send_may, send_posts, can_post, placed_short, meets_posted}
-use mathlib.Core.Bool.{not}
-use mathlib.Core.Path.{ap}
+use Rattle.event_send.proofs.SendMeets.{searched, rooms_asked, checks_asked, laid_asked, send_may, send_posts, can_post, placed_short, meets_posted}
 use Rattle.event_send.proofs.send.Goals as goal
 
 pub is_started-requires : goal.is_started-requires
@@ -24,29 +22,30 @@ returns-then-not-is_started c =
     let a = c.args in
     λ P numbers R. broken_send (lent P a.stations.now a.carts.now a.messages.now a.lines.now a.texts.now a.store.now) false (unstarted_breaks (lent P a.stations.now a.carts.now a.messages.now a.lines.now a.texts.now a.store.now) _ c.is_started.ensures (ap not c.if-not-is_started.true)) refl a.station.0 a.set a.text.now c.requires.text_len_bound
 
-pub free_room-m-requires : goal.free_room-m-requires
-free_room-m-requires c =
+pub check_send-requires-clause-has_head : goal.check_send-requires-clause-has_head
+check_send-requires-clause-has_head c =
     let a = c.args in
     let P = c.requires.ready_with.0 in
     let numbers = c.requires.ready_with.1 in
     let passes = started_passes (lent P a.stations.now a.carts.now a.messages.now a.lines.now a.texts.now a.store.now) _ c.is_started.ensures c.requires.ready_with.2 (ap not c.if-not-is_started.false) in
-    rooms_asked P a.bounds numbers a.stations.now a.carts.now a.messages.now a.lines.now a.texts.now a.store.now passes
+    checks_asked P a.bounds numbers a.stations.now a.carts.now a.messages.now a.lines.now a.texts.now a.store.now passes a.station.0
 
-pub send_refusal-refusal-requires : goal.send_refusal-refusal-requires
-send_refusal-refusal-requires c =
+pub check_send-requires-clause-laid : goal.check_send-requires-clause-laid
+check_send-requires-clause-laid c =
     let a = c.args in
     let P = c.requires.ready_with.0 in
     let numbers = c.requires.ready_with.1 in
     let passes = started_passes (lent P a.stations.now a.carts.now a.messages.now a.lines.now a.texts.now a.store.now) _ c.is_started.ensures c.requires.ready_with.2 (ap not c.if-not-is_started.false) in
-    let asked = checks_asked P a.bounds numbers a.stations.now a.carts.now a.messages.now a.lines.now a.texts.now a.store.now passes a.station.0 in
-    (asked.0, asked.1, asked.2, asked.3, c.requires.text_len_bound, asked.4)
+    let rooms = rooms_asked P a.bounds numbers a.stations.now a.carts.now a.messages.now a.lines.now a.texts.now a.store.now passes in
+    (laid_asked P a.bounds numbers a.stations.now a.carts.now a.messages.now a.lines.now a.texts.now a.store.now passes, rooms.0, rooms.1, let short = c.requires.text_len_bound in omega arith)
 
-pub returns-then-refusal-ne0 : goal.returns-then-refusal-ne0
-returns-then-refusal-ne0 c =
+pub returns-in_err-room : goal.returns-in_err-room
+returns-in_err-room c =
     let a = c.args in
+    let p = err_from_is_err_and c.from_residual.result c.from_residual.ensures.1 in
     λ P numbers R.
-    let room = searched P a.bounds numbers a.messages.now _ c.free_room-m.ensures in
-    meets_no (lent P a.stations.now a.carts.now a.messages.now a.lines.now a.texts.now a.store.now) (send a.station.0 a.set a.text.now) _ (started_passes (lent P a.stations.now a.carts.now a.messages.now a.lines.now a.texts.now a.store.now) _ c.is_started.ensures R (ap not c.if-not-is_started.false)) (c.send_refusal-refusal.ensures P a.messages.now a.lines.now a.texts.now a.store.now numbers.last_is room) c.if-refusal-ne0.true
+    let passes = started_passes (lent P a.stations.now a.carts.now a.messages.now a.lines.now a.texts.now a.store.now) _ c.is_started.ensures R (ap not c.if-not-is_started.false) in
+    rw (p.1, p.2) (meets_check (lent P a.stations.now a.carts.now a.messages.now a.lines.now a.texts.now a.store.now) (send a.station.0 a.set a.text.now) _ passes (c.in_err-room.ensures.short P a.lines.now a.texts.now a.store.now numbers c.requires.text_len_bound))
 
 pub post-posted-requires : goal.post-posted-requires
 post-posted-requires c =
@@ -54,19 +53,19 @@ post-posted-requires c =
     let P = c.requires.ready_with.0 in
     let numbers = c.requires.ready_with.1 in
     let passes = started_passes (lent P a.stations.now a.carts.now a.messages.now a.lines.now a.texts.now a.store.now) _ c.is_started.ensures c.requires.ready_with.2 (ap not c.if-not-is_started.false) in
-    let room = searched P a.bounds numbers a.messages.now _ c.free_room-m.ensures in
-    let may = send_may P a.bounds numbers a.stations.now a.carts.now a.messages.now a.lines.now a.texts.now a.store.now passes a.station.0 a.set a.text.now _ (c.send_refusal-refusal.ensures P a.messages.now a.lines.now a.texts.now a.store.now numbers.last_is room) c.if-refusal-ne0.false in
-    can_post P a.bounds numbers a.stations.now a.carts.now a.messages.now a.lines.now a.texts.now a.store.now passes a.station.0 a.set _ a.text.now room may c.requires.text_len_bound
+    let found = searched P a.bounds numbers a.messages.now _ c.in_ok-room.ensures.room in
+    let may = send_may P a.bounds numbers a.stations.now a.carts.now a.messages.now a.lines.now a.texts.now a.store.now passes a.station.0 a.set a.text.now (c.in_ok-room.ensures.short P a.lines.now a.texts.now a.store.now numbers c.requires.text_len_bound) in
+    can_post P a.bounds numbers a.stations.now a.carts.now a.messages.now a.lines.now a.texts.now a.store.now passes a.station.0 a.set c.in_ok-room.room a.text.now found may c.requires.text_len_bound
 
 pub returns : goal.returns
 returns c =
     let a = c.args in
     λ P numbers R.
     let passes = started_passes (lent P a.stations.now a.carts.now a.messages.now a.lines.now a.texts.now a.store.now) _ c.is_started.ensures R (ap not c.if-not-is_started.false) in
-    let room = searched P a.bounds numbers a.messages.now _ c.free_room-m.ensures in
-    let told = c.send_refusal-refusal.ensures P a.messages.now a.lines.now a.texts.now a.store.now numbers.last_is room in
-    let may = send_may P a.bounds numbers a.stations.now a.carts.now a.messages.now a.lines.now a.texts.now a.store.now passes a.station.0 a.set a.text.now _ told c.if-refusal-ne0.false in
+    let found = searched P a.bounds numbers a.messages.now _ c.in_ok-room.ensures.room in
+    let free = (c.in_ok-room.ensures.short P a.lines.now a.texts.now a.store.now numbers c.requires.text_len_bound) in
+    let may = send_may P a.bounds numbers a.stations.now a.carts.now a.messages.now a.lines.now a.texts.now a.store.now passes a.station.0 a.set a.text.now free in
     let posted = c.post-posted.ensures in
-    meets_posted P a.bounds numbers a.stations.now a.carts.now a.messages.now a.lines.now a.texts.now a.store.now passes a.station.0 a.set _ a.text.now room may (send a.station.0 a.set a.text.now) 2 (sym told ∙ c.if-refusal-ne0.false)
+    meets_posted P a.bounds numbers a.stations.now a.carts.now a.messages.now a.lines.now a.texts.now a.store.now passes a.station.0 a.set c.in_ok-room.room a.text.now found may (send a.station.0 a.set a.text.now) 2 free
     (send_posts P a.bounds numbers a.stations.now a.carts.now a.messages.now a.lines.now a.texts.now a.store.now passes a.station.0 a.set a.text.now) _ _ _ _ _ _
-    (placed_short P a.bounds numbers a.stations.now a.carts.now a.messages.now a.lines.now a.texts.now a.store.now passes a.station.0 a.set _ a.text.now room may c.requires.text_len_bound posted.kept) posted.was_posted
+    (placed_short P a.bounds numbers a.stations.now a.carts.now a.messages.now a.lines.now a.texts.now a.store.now passes a.station.0 a.set c.in_ok-room.room a.text.now found may c.requires.text_len_bound posted.kept) posted.was_posted
