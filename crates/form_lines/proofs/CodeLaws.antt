@@ -1,5 +1,5 @@
 -- What the functions need: tests answered one after the other.
-use mathlib.Core.Path.{refl, sym, ap, ap₂, ◌∙◌, ◌≡◌}
+use mathlib.Core.Path.{refl, sym, ap, ◌∙◌, ◌≡◌}
 use mathlib.Core.Bool.{Bool, true, false, ◌&&◌, not}
 use mathlib.Core.List.{List}
 use Prim.Native.Nat.{ℕ, ◌+◌, ◌-◌, ◌*◌, ◌^◌, ◌≤◌, ◌<◌}
@@ -7,7 +7,7 @@ use native.Mathlib.Omega.{arith}
 use lib.Dec.{eqb, leb, ltb}
 use lib.ListN.{length}
 use lib.Pow.{pow_pos}
-use borrow.Author.Tests.{eq-eqb, ltb-true, lt-ltb, le-ltb, leb-true, le-leb, not-true, not-false}
+use borrow.Author.Tests.{eq-eqb, ltb-true, lt-ltb, le-ltb, leb-true, le-leb, not-true}
 use Rattle.protocol.specs.CartSets.{set_of}
 use Rattle.protocol.proofs.Tests.{and_left, and_right, and-false, by_lt, clash, same_test}
 use Rattle.sets.proofs.MaskLaws.{set_of_all}
@@ -21,9 +21,6 @@ use Rattle.form_lines.specs.Ways.{WholeRooms}
 module _ (R : Rooms) (s x m : ℕ) where
   pub high_room : 32 ≤ m → false ≡ (ltb m 32 && is_in R s x m)
   high_room h = rw (le-ltb m 32 h) refl
-
-  pub low_room : (w i n : ℕ) (a b : Bool) → m < 32 → w ≡ R.waiting m → i ≡ R.initiator m → n ≡ R.number m → a ≡ (eqb i s && eqb n x) → b ≡ (not (eqb w 0) && a) → b ≡ (ltb m 32 && is_in R s x m)
-  low_room w i n a b l p q r e f = rw (lt-ltb m 32 l) (f ∙ ap₂ (λ (y : ℕ) (z : Bool). not (eqb y 0) && z) p (e ∙ ap₂ (λ (y z : ℕ). eqb y s && eqb z x) q r))
 
 -- A TABLE OF WHOLE ROWS
 module _ (M : List ℕ) (W : WholeRooms M) (m : ℕ) where
@@ -43,18 +40,15 @@ module _ (M : List ℕ) (W : WholeRooms M) (m : ℕ) where
     pub no_room : length M < m * 7 + 7 → false ≡ (ltb m 32 && is_in (rooms_in M) s x m)
     no_room l = sym (ap (λ (w : ℕ). ltb m 32 && (not (eqb w 0) && (eqb ((rooms_in M).initiator m) s && eqb ((rooms_in M).number m) x))) (sym (none_waiting l)) ∙ and-false (ltb m 32))
 
-    pub slot_room : (b : Bool) → b ≡ (ltb m 32 && is_in (rooms_in M) s x m) → not b ≡ false → HasRoom M m
+    pub slot_room : (b : Bool) → b ≡ (ltb m 32 && is_in (rooms_in M) s x m) → b ≡ true → HasRoom M m
     slot_room b e h =
-        let q = and_right (ltb m 32) (is_in (rooms_in M) s x m) (sym e ∙ not-false b h) in
+        let q = and_right (ltb m 32) (is_in (rooms_in M) s x m) (sym e ∙ h) in
         let t = and_left (not (eqb ((rooms_in M).waiting m) 0)) (eqb ((rooms_in M).initiator m) s && eqb ((rooms_in M).number m) x) q in
         room_there (λ z. clash (eqb ((rooms_in M).waiting m) 0) (eq-eqb ((rooms_in M).waiting m) 0 z) (not-true (eqb ((rooms_in M).waiting m) 0) t))
 
--- AND
-pub first_fails : (a b r : Bool) → r ≡ a → not r ≡ true → false ≡ (a && b)
-first_fails a b r e h = rw (sym e ∙ not-true r h) refl
-
-pub first_holds : (a b r t : Bool) → r ≡ a → not r ≡ false → t ≡ b → t ≡ (a && b)
-first_holds a b r t e h q = rw (sym e ∙ not-false r h) q
+-- AND: it rests on the last, where the others hold
+pub last_of : (a b c r : Bool) → a ≡ true → b ≡ true → r ≡ c → r ≡ (a && (b && c))
+last_of a b c r p q e = rw (p, q) e
 
 -- A SET OF THE FIRST CARTS
 pub set_below : (k y a : ℕ) → a ≡ set_of k (λ c. true) → leb y a ≡ ltb y (2 ^ k)

@@ -1,14 +1,14 @@
 -- One record, and one line, as the functions go: each test in its turn.
 use mathlib.Core.Path.{refl, sym, ap, ap₂, ◌∙◌, ◌≡◌}
-use mathlib.Core.Bool.{Bool, true, false, ◌&&◌, not}
+use mathlib.Core.Bool.{Bool, true, false, ◌&&◌}
 use mathlib.Core.List.{List, map}
 use Prim.Native.Nat.{ℕ, suc, ◌+◌, ◌-◌, ◌*◌, ◌^◌, ◌≤◌, ◌<◌}
 use native.Mathlib.Omega.{arith}
 use lib.Dec.{eqb, ltb}
-use borrow.Author.Tests.{eqb-true, ne_eqb, ltb-true, not-true, not-false}
+use borrow.Author.Tests.{eq-eqb, ne_eqb, ltb-true}
 use Rattle.protocol.specs.CartSets.{has}
 use Rattle.protocol.specs.Floor.{Carts}
-use Rattle.protocol.proofs.Tests.{and-false, and_left, and_right}
+use Rattle.protocol.proofs.Tests.{and-false, and_left}
 use Rattle.lines.specs.declared.Record as word
 use Rattle.lines.specs.Words.{head_of, length_of, next_of}
 use Rattle.lines.specs.Lines.{record_of, records_from}
@@ -26,29 +26,25 @@ use Rattle.form_lines.specs.Pass.{Noted, noted_so, fresh, note, provided, is_lea
 use Rattle.form_lines.specs.Ways.{met_of, outcome, Inside}
 
 -- ONE TEST AFTER THE OTHER
-pub off_first : (a f : Bool) (s : Noted) (r : Said) (t : Noted) → not a ≡ true → t ≡ provided false s → t ≡ outcome (a && f) s r
-off_first a f s r t h e = rw (not-true a h) e
+pub off_first : (a f : Bool) (s : Noted) (r : Said) (t : Noted) → a ≡ false → t ≡ provided false s → t ≡ outcome (a && f) s r
+off_first a f s r t h e = rw h e
 
 pub off_second : (a f : Bool) (s : Noted) (r : Said) (t : Noted) → f ≡ false → t ≡ provided false s → t ≡ outcome (a && f) s r
 off_second a f s r t h e = rw (h, and-false a) e
 
-pub on_both : (a f : Bool) (s : Noted) (r : Said) (t : Noted) → not a ≡ false → f ≡ true → t ≡ note s r → t ≡ outcome (a && f) s r
-on_both a f s r t h g e = rw (not-false a h, g) e
-
-pub off_both : (b c : Bool) (s : Noted) (r : Said) (t : Noted) → b ≡ c → not b ≡ true → t ≡ provided false s → t ≡ outcome c s r
-off_both b c s r t h g e = rw (sym h ∙ not-true b g) e
+pub on_both : (a f : Bool) (s : Noted) (r : Said) (t : Noted) → a ≡ true → f ≡ true → t ≡ note s r → t ≡ outcome (a && f) s r
+on_both a f s r t h g e = rw (h, g) e
 
 pub fails : (w : Way) (seen : List ℕ) → noted_so false w.next w.gone w.found seen ≡ provided false (met_of w seen)
 fails w seen = ap (λ (b : Bool). noted_so b w.next w.gone w.found seen) (sym (and-false w.ok))
 
 -- a multicast with the right number
-pub counts_on : (w : Way) (a b : Bool) (m n : ℕ) (seen : List ℕ) → b ≡ (a && eqb n w.next) → not b ≡ false
+pub counts_on : (w : Way) (a : Bool) (m n : ℕ) (seen : List ℕ) → a ≡ true → n ≡ w.next
     → noted_so w.ok (n + 1) w.gone w.found seen ≡ outcome (a && fresh (met_of w seen) (a_multicast m n)) (met_of w seen) (a_multicast m n)
 unfolding fresh note
-counts_on w a b m n seen e h =
-    let q = sym e ∙ not-false b h in
-    let z : n + 1 ≡ suc w.next = (let y = eqb-true n w.next (and_right a (eqb n w.next) q) in omega arith) in
-    rw q (ap (λ (x : ℕ). noted_so w.ok x w.gone w.found seen) z)
+counts_on w a m n seen h e =
+    let z : n + 1 ≡ suc w.next = omega arith in
+    rw (h, eq-eqb n w.next e) (ap (λ (x : ℕ). noted_so w.ok x w.gone w.found seen) z)
 
 -- WHICH RECORD
 module _ (r : word.Record) (kind : Kind) (index number : ℕ) (k : Some kind ≡ kind_said (kind_of r.0)) (x : index ≡ index_of r.0) (n : number ≡ number_of r.0) where

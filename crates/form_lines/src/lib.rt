@@ -1,9 +1,9 @@
 // THE FORM TEST OF THE LINES, over the lent parts: one pass over the records, with masks of what was met.
 #![tactic(auto)]
 
-ghost use Rattle.std.specs.Prelude.{◌≡◌, ◌&&◌, ◌||◌, cond, not, true, false, List, ℕ, ◌+◌, ◌*◌, ◌<◌, ◌≤◌, ◌^◌, eqb, ltb, length};
+ghost use Rattle.std.specs.Prelude.{◌≡◌, ◌&&◌, ◌||◌, not, true, false, List, ℕ, ◌+◌, ◌*◌, ◌<◌, ◌≤◌, ◌^◌, eqb, leb, ltb, length};
 ghost use Rattle.protocol.specs.Folds.{every, list_of};
-ghost use Rattle.protocol.specs.CartSets.{has, with};
+ghost use Rattle.protocol.specs.CartSets.{has};
 ghost use Rattle.protocol.specs.Floor.{moving};
 ghost use Rattle.sets.specs.Masks.{within};
 ghost use Rattle.stations.specs.View.{rooms, stations_in, head_in};
@@ -27,38 +27,25 @@ use ids::{CartNumber, Station};
 use lines::Record;
 use view::Kind;
 
-// Both are yes.
-fn both(a: bool, b: bool) -> bool
-    ensures { result ≡ (a && b) }
-{
-    if a { b } else { false }
-}
-
-// One of them is yes.
-fn either(a: bool, b: bool) -> bool
-    ensures { result ≡ (a || b) }
-{
-    if a { true } else { b }
-}
-
 // ---- A record against the tables.
+
+// The messages' table has room m.
+fn has_room(messages: &[u64], m: usize) -> bool
+    requires { m < rooms }
+    ensures { result ≡ leb (m * 7 + 7) (length messages.now) }
+{
+    m * 7 + 7 <= messages.len()
+}
 
 // The initiator's message of that number is in room m, which is one of the rooms.
 fn in_room(messages: &[u64], s: u64, number: u64, m: u64) -> bool
     requires { WholeRooms messages.now }
     ensures { result ≡ (ltb m 32 && is_in (rooms_in messages.now) s number m) }
 {
-    if 32 <= m {
+    if 32 <= m || !has_room(messages, m as usize) {
         return false;
     }
-    let at = m as usize;
-    if messages.len() < at * 7 + 7 {
-        return false;
-    }
-    let waiting = messages::waiting_of(messages, at);
-    let initiator = messages::initiator_of(messages, at);
-    let own = messages::number_of(messages, at);
-    both(waiting != 0, both(initiator.0 == s, own.0 == number))
+    form_tables::is_message(messages, m as usize, s, number)
 }
 
 // A multicast from i to j is of a held message of i, and j has yet to handle its delete.
@@ -66,10 +53,7 @@ fn multicast_right(messages: &[u64], i: u64, j: u64, m: u64, number: u64) -> boo
     requires { WholeRooms messages.now × (j < 16) }
     ensures { result ≡ ((ltb m 32 && is_in (rooms_in messages.now) i number m) && has ((rooms_in messages.now).waiting m) j) }
 {
-    if !in_room(messages, i, number, m) {
-        return false;
-    }
-    sets::has(messages::waiting_of(messages, m as usize), j)
+    in_room(messages, i, number, m) && sets::has(messages::waiting_of(messages, m as usize), j)
 }
 
 // An ack list to j is of a held message of j, and of some carts of the floor, which has k.
@@ -78,8 +62,7 @@ fn ack_list_right(messages: &[u64], k: u64, j: u64, m: u64, number: u64, carts: 
     ensures { result ≡ ((ltb m 32 && is_in (rooms_in messages.now) j number m) && (ltb 0 carts && ltb carts (2 ^ k))) }
 {
     let all = sets::all_below(k);
-    let held = in_room(messages, j, number, m);
-    both(held, both(0 < carts, carts <= all))
+    in_room(messages, j, number, m) && (0 < carts && carts <= all)
 }
 
 // A delete from i to j is of a held message of i that the whole set has acknowledged, and j has yet to handle it.
@@ -87,34 +70,24 @@ fn delete_right(messages: &[u64], i: u64, j: u64, m: u64, number: u64) -> bool
     requires { WholeRooms messages.now × (j < 16) }
     ensures { result ≡ ((ltb m 32 && is_in (rooms_in messages.now) i number m) && (has ((rooms_in messages.now).waiting m) j && eqb ((rooms_in messages.now).acked m) ((rooms_in messages.now).named m))) }
 {
-    if !in_room(messages, i, number, m) {
-        return false;
-    }
     let at = m as usize;
-    let waits = sets::has(messages::waiting_of(messages, at), j);
-    let acked = messages::acked_of(messages, at);
-    let named = messages::named_of(messages, at);
-    both(waits, acked == named)
+    in_room(messages, i, number, m)
+        && (sets::has(messages::waiting_of(messages, at), j)
+            && messages::acked_of(messages, at) == messages::named_of(messages, at))
 }
 
 // Leaving s for u?
 fn is_leaving(place: Place, s: u64, u: u64) -> bool
     ensures { result ≡ is_leaving (seen place) s u }
 {
-    match place {
-        Place::Leaving(from, to) => both(from.0 == s, to.0 == u),
-        _ => false,
-    }
+    matches!(place, Place::Leaving(from, to) if from.0 == s && to.0 == u)
 }
 
 // Travelling from s to u?
 fn is_travelling(place: Place, s: u64, u: u64) -> bool
     ensures { result ≡ is_travelling (seen place) s u }
 {
-    match place {
-        Place::Travelling(from, to) => both(from.0 == s, to.0 == u),
-        _ => false,
-    }
+    matches!(place, Place::Travelling(from, to) if from.0 == s && to.0 == u)
 }
 
 // A deregister from i to j is of one of the k carts, which is leaving j for i.
@@ -122,10 +95,7 @@ fn deregister_right(carts: &[u64], k: u64, i: u64, j: u64, cart: u64) -> bool
     requires { (k * 19 ≤ length carts.now) × (k ≤ 64) }
     ensures { result ≡ (ltb cart k && is_leaving ((carts_in carts.now).place cart) j i) }
 {
-    if k <= cart {
-        return false;
-    }
-    is_leaving(carts::place_of(carts, CartNumber(cart)), j, i)
+    cart < k && is_leaving(carts::place_of(carts, CartNumber(cart)), j, i)
 }
 
 // Does the cart's register carry "the cart's whole row of next numbers"?
@@ -135,11 +105,9 @@ fn carries_row(carts: &[u64], lines: &[u64], cart: CartNumber) -> bool
 {
     let row = lines::register_of(lines, cart.0 as usize);
     let mut ok = true;
-    let mut s: usize = 0;
-    while s < 16 {
+    for s in 0..16 {
         let next = carts::next_of(carts, cart, Station(s as u64));
-        ok = both(ok, row[s] == next);
-        s += 1;
+        ok &= row[s] == next;
     }
     ok
 }
@@ -149,14 +117,10 @@ fn register_right(carts: &[u64], lines: &[u64], k: u64, i: u64, j: u64, cart: u6
     requires { (k * 19 ≤ length carts.now) × (rows_at ≤ length lines.now) × (k ≤ 64) }
     ensures { result ≡ (ltb cart k && (is_travelling ((carts_in carts.now).place cart) i j && same_numbers (registers_in lines.now cart) ((carts_in carts.now).next cart))) }
 {
-    if k <= cart {
-        return false;
-    }
     let number = CartNumber(cart);
-    if !is_travelling(carts::place_of(carts, number), i, j) {
-        return false;
-    }
-    carries_row(carts, lines, number)
+    cart < k
+        && (is_travelling(carts::place_of(carts, number), i, j)
+            && carries_row(carts, lines, number))
 }
 
 // A record on the line from i to j, on a floor of k carts.
@@ -202,12 +166,7 @@ struct Way {
 fn failed(way: Way) -> Way
     ensures { (seen : List ℕ) → met_of result seen ≡ provided false (met_of way seen) }
 {
-    Way {
-        ok: false,
-        next: way.next,
-        gone: way.gone,
-        found: way.found,
-    }
+    Way { ok: false, ..way }
 }
 
 // A multicast counts up.
@@ -215,15 +174,13 @@ fn note_multicast(way: Way, right: bool, m: u64, number: u64) -> Way
     requires { number < 18446744073709551615 }
     ensures { (seen : List ℕ) → met_of result seen ≡ outcome (right && fresh (met_of way seen) (a_multicast m number)) (met_of way seen) (a_multicast m number) }
 {
-    let up = number == way.next;
-    if !both(right, up) {
-        return failed(way);
-    }
-    Way {
-        ok: way.ok,
-        next: number + 1,
-        gone: way.gone,
-        found: way.found,
+    if right && number == way.next {
+        Way {
+            next: number + 1,
+            ..way
+        }
+    } else {
+        failed(way)
     }
 }
 
@@ -250,18 +207,13 @@ fn note_delete(way: Way, right: bool, m: u64, number: u64) -> Way
     requires { right ≡ true → m < rooms }
     ensures { (seen : List ℕ) → met_of result seen ≡ outcome (right && fresh (met_of way seen) (a_delete m number)) (met_of way seen) (a_delete m number) }
 {
-    if !right {
-        return failed(way);
-    }
-    let gone = sets::has(way.gone, m);
-    if !both(number < way.next, !gone) {
-        return failed(way);
-    }
-    Way {
-        ok: way.ok,
-        next: way.next,
-        gone: sets::with_member(way.gone, m),
-        found: way.found,
+    if right && number < way.next && !sets::has(way.gone, m) {
+        Way {
+            gone: sets::with_member(way.gone, m),
+            ..way
+        }
+    } else {
+        failed(way)
     }
 }
 
@@ -270,17 +222,13 @@ fn note_handoff(way: Way, right: bool, cart: u64) -> Way
     requires { right ≡ true → cart < 64 }
     ensures { (seen : List ℕ) → met_of result seen ≡ outcome (right && fresh (met_of way seen) (a_deregister cart)) (met_of way seen) (a_deregister cart) }
 {
-    if !right {
-        return failed(way);
-    }
-    if sets::has(way.found, cart) {
-        return failed(way);
-    }
-    Way {
-        ok: way.ok,
-        next: way.next,
-        gone: way.gone,
-        found: sets::with_member(way.found, cart),
+    if right && !sets::has(way.found, cart) {
+        Way {
+            found: sets::with_member(way.found, cart),
+            ..way
+        }
+    } else {
+        failed(way)
     }
 }
 
@@ -322,8 +270,8 @@ fn meet(
     ensures masks_len_unchanged { length masks.new ≡ length masks.old }
 {
     let right = is_right(messages, carts, lines, k, i, j, r);
-    let open = both(way.ok, both(i < n, j < n));
-    take(masks, way, both(open, right), r)
+    let open = way.ok & ((i < n) & (j < n));
+    take(masks, way, open & right, r)
 }
 
 // A walk, so far: its rows are rows of the pool, each met once, and the tails are right; and what was met on it.
@@ -376,27 +324,6 @@ fn along(
 
 // ---- All lines.
 
-// The number that station j expects of i, and how many messages i has sent: 0, where the table has no row for the station.
-fn expected_by(stations: &[u64], rows: u64, j: u64, i: u64) -> u64
-    requires { (length stations.now ≡ 116 + rows * 116) × (i < 16) }
-    ensures { result ≡ (stations_in stations.now).expected j i }
-{
-    if rows <= j {
-        return 0;
-    }
-    stations::expected_of(stations, Station(j), Station(i))
-}
-
-fn sent_by(stations: &[u64], rows: u64, i: u64) -> u64
-    requires { length stations.now ≡ 116 + rows * 116 }
-    ensures { result ≡ (stations_in stations.now).sent i }
-{
-    if rows <= i {
-        return 0;
-    }
-    stations::sent_of(stations, Station(i))
-}
-
 // The line from i to j: its multicasts run from the number that j expects up to what i has sent.
 fn on_line(
     masks: &mut [u64],
@@ -417,25 +344,19 @@ fn on_line(
     ensures masks_after { result.whole ≡ true → met_of result.met masks.new ≡ on_line n k (carts_in carts.now) (rooms_in messages.now) (stations_in stations.now) lines.now (met_of way masks.old) i j }
     ensures masks_len_unchanged { (length masks.new ≡ length masks.old) × (length seen.new ≡ length seen.old) }
 {
-    let expected = expected_by(stations, rows, j, i);
-    let sent = sent_by(stations, rows, i);
+    let expected = form_tables::expected_by(stations, rows, j, i);
+    let sent = form_tables::sent_by(stations, rows, i);
     let begin = Way {
-        ok: way.ok,
         next: expected,
         gone: 0,
-        found: way.found,
+        ..way
     };
     let walk = along(masks, seen, messages, carts, lines, n, k, i, j, begin);
     let met = walk.met;
-    let ok = both(met.ok, either(n <= j, met.next == sent));
+    let ok = met.ok & ((n <= j) | (met.next == sent));
     Walk {
         whole: walk.whole,
-        met: Way {
-            ok,
-            next: met.next,
-            gone: met.gone,
-            found: met.found,
-        },
+        met: Way { ok, ..met },
     }
 }
 
@@ -457,8 +378,7 @@ fn from_station(
     ensures { Checked lines.now (i * 16 + 16) seen.new result.whole (met_of result.met masks.new) (from_station n k (carts_in carts.now) (rooms_in messages.now) (stations_in stations.now) lines.now (met_of way masks.old) i 16) × ((length masks.new ≡ length masks.old) × (length seen.new ≡ length seen.old)) }
 {
     let mut met = way;
-    let mut j: u64 = 0;
-    while j < 16 {
+    for j in 0..16 {
         let walk = on_line(
             masks, seen, stations, messages, carts, lines, rows, n, k, i, j, met,
         );
@@ -466,7 +386,6 @@ fn from_station(
         if !walk.whole {
             return Walk { whole: false, met };
         }
-        j += 1;
     }
     Walk { whole: true, met }
 }
@@ -489,8 +408,7 @@ fn from_each(
     ensures masks_len_unchanged { (length masks.new ≡ length masks.old) × (length seen.new ≡ length seen.old) }
 {
     let mut met = way;
-    let mut i: u64 = 0;
-    while i < 16 {
+    for i in 0..16 {
         let walk = from_station(
             masks, seen, stations, messages, carts, lines, rows, n, k, i, met,
         );
@@ -498,7 +416,6 @@ fn from_each(
         if !walk.whole {
             return Walk { whole: false, met };
         }
-        i += 1;
     }
     Walk { whole: true, met }
 }
@@ -510,20 +427,22 @@ fn waiting_by(messages: &[u64], m: usize) -> u64
     requires { WholeRooms messages.now × (m < rooms) }
     ensures { result ≡ (rooms_in messages.now).waiting m }
 {
-    if messages.len() < m * 7 + 7 {
-        return 0;
+    if has_room(messages, m) {
+        messages::waiting_of(messages, m)
+    } else {
+        0
     }
-    messages::waiting_of(messages, m)
 }
 
 fn acked_by(messages: &[u64], m: usize) -> u64
     requires { WholeRooms messages.now × (m < rooms) }
     ensures { result ≡ (rooms_in messages.now).acked m }
 {
-    if messages.len() < m * 7 + 7 {
-        return 0;
+    if has_room(messages, m) {
+        messages::acked_of(messages, m)
+    } else {
+        0
     }
-    messages::acked_of(messages, m)
 }
 
 // The acknowledgements at the initiator and in the ack lists: they stand in one place, and whose they are.
@@ -540,12 +459,10 @@ fn gather_acks(stations: &[u64], messages: &[u64], n: u64, m: usize) -> Acked
 {
     let mut carts = acked_by(messages, m);
     let mut apart = true;
-    let mut t: u64 = 0;
-    while t < n {
+    for t in 0..n {
         let acks = stations::acks_of(stations, m, Station(t));
-        apart = both(apart, sets::is_disjoint(acks, carts));
+        apart &= sets::is_disjoint(acks, carts);
         carts = sets::union(carts, acks);
-        t += 1;
     }
     Acked { apart, carts }
 }
@@ -557,13 +474,11 @@ fn begin(masks: &mut [u64], stations: &[u64], messages: &[u64], n: u64) -> bool
     ensures masks_after { masks.new ≡ list_of 32 (λ m. gathered (stations_in stations.now) (rooms_in messages.now) m n) }
 {
     let mut ok = true;
-    let mut m: usize = 0;
-    while m < 32 {
+    for m in 0..32 {
         let met = gather_acks(stations, messages, n, m);
         let waiting = waiting_by(messages, m);
-        ok = both(ok, either(waiting == 0, met.apart));
+        ok &= (waiting == 0) | met.apart;
         masks[m] = met.carts;
-        m += 1;
     }
     ok
 }
@@ -592,10 +507,8 @@ fn all_ended(masks: &[u64], messages: &[u64], carts: &[u64], k: u64) -> bool
     ensures { result ≡ every 32 (ended k (carts_in carts.now) (rooms_in messages.now) masks.now) }
 {
     let mut ok = true;
-    let mut m: usize = 0;
-    while m < 32 {
-        ok = both(ok, has_ended(messages, carts, k, m, masks[m]));
-        m += 1;
+    for m in 0..32 {
+        ok &= has_ended(messages, carts, k, m, masks[m]);
     }
     ok
 }
@@ -604,23 +517,7 @@ fn all_ended(masks: &[u64], messages: &[u64], carts: &[u64], k: u64) -> bool
 fn is_moving(place: Place) -> bool
     ensures { result ≡ moving (seen place) }
 {
-    match place {
-        Place::Leaving(_, _) => true,
-        Place::Travelling(_, _) => true,
-        _ => false,
-    }
-}
-
-// The set, and the cart if it is to join.
-fn joined(set: u64, joins: bool, cart: u64) -> u64
-    requires { cart < 64 }
-    ensures { result ≡ cond joins (with set cart) set }
-{
-    if joins {
-        sets::with_member(set, cart)
-    } else {
-        set
-    }
+    matches!(place, Place::Leaving(_, _) | Place::Travelling(_, _))
 }
 
 // Those of the k carts that are leaving or travelling.
@@ -629,11 +526,9 @@ fn movers(carts: &[u64], k: u64) -> u64
     ensures { result ≡ movers k (carts_in carts.now) }
 {
     let mut set: u64 = 0;
-    let mut cart: u64 = 0;
-    while cart < k {
+    for cart in 0..k {
         let place = carts::place_of(carts, CartNumber(cart));
-        set = joined(set, is_moving(place), cart);
-        cart += 1;
+        set = sets::with_if(set, cart, is_moving(place));
     }
     set
 }
@@ -672,7 +567,7 @@ fn passes(
     let met = walk.met;
     let ends = all_ended(&masks, messages, carts, k);
     let set = movers(carts, k);
-    both(met.ok, both(met.found == set, ends))
+    met.ok & ((met.found == set) & ends)
 }
 
 // Of the lent parts, with the form of the pool itself: of so many rows of stations, on a floor whose stations and carts have rows.

@@ -18,18 +18,12 @@ offset_bounds-masks-m c = omega arith
 pub bounds-masks-m : goal.bounds-masks-m
 bounds-masks-m c = omega arith
 
-pub has_ended-requires : goal.has_ended-requires
-has_ended-requires c = (c.requires.1, c.requires.2, c.requires.3, omega arith)
-
-pub overflow_add-m : goal.overflow_add-m
-overflow_add-m c = omega arith
-
-pub loop-m-smaller : goal.loop-m-smaller
-loop-m-smaller c = omega arith
+pub has_ended-ok-requires : goal.has_ended-ok-requires
+has_ended-ok-requires c = (c.requires.1, c.requires.2, c.requires.3, omega arith)
 
 pub loop-m-preserved : goal.loop-m-preserved
 unfolding ended
-loop-m-preserved c = (omega arith, every_next (ended c.args.k (carts_in c.args.carts.now) (rooms_in c.args.messages.now) c.args.masks.now) c.loop-m.m c.loop-m.ok c.has_ended.result c.both-ok.result c.loop-m.invariant.1 c.has_ended.ensures c.both-ok.ensures)
+loop-m-preserved c = (omega arith, every_next (ended c.args.k (carts_in c.args.carts.now) (rooms_in c.args.messages.now) c.args.masks.now) c.loop-m.m c.loop-m.ok c.has_ended-ok.result _ c.loop-m.invariant.1 c.has_ended-ok.ensures refl)
 
 pub returns : goal.returns
 returns c = c.loop-m.invariant.1 ∙ ap (λ (x : ℕ). every x (ended c.args.k (carts_in c.args.carts.now) (rooms_in c.args.messages.now) c.args.masks.now)) (let z : c.loop-m.m ≡ 32 = omega arith in z)

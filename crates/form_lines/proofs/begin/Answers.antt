@@ -27,14 +27,8 @@ offset_bounds-masks-m c = omega arith
 pub bounds-masks-m : goal.bounds-masks-m
 bounds-masks-m c = omega arith
 
-pub overflow_add-m : goal.overflow_add-m
-overflow_add-m c = omega arith
-
-pub loop-m-smaller : goal.loop-m-smaller
-loop-m-smaller c = omega arith
-
 pub loop-m-preserved : goal.loop-m-preserved
-loop-m-preserved c = (omega arith, length-set c.loop-m.masks c.loop-m.m c.gather_acks-met.result.carts ∙ c.loop-m.invariant.1, read_one (λ x. gathered (stations_in c.args.stations.now) (rooms_in c.args.messages.now) x c.args.n) c.loop-m.masks c.loop-m.m c.gather_acks-met.result.carts (omega arith) c.gather_acks-met.ensures.1 c.loop-m.invariant.2, every_next (λ x. not (is_taken (rooms_in c.args.messages.now) x) || apart (stations_in c.args.stations.now) (rooms_in c.args.messages.now) x c.args.n) c.loop-m.m c.loop-m.ok c.either.result c.both-ok.result c.loop-m.invariant.3 (taken_test (rooms_in c.args.messages.now) c.loop-m.m c.waiting_by-waiting.result c.gather_acks-met.result.apart (apart (stations_in c.args.stations.now) (rooms_in c.args.messages.now) c.loop-m.m c.args.n) c.either.result c.waiting_by-waiting.ensures c.gather_acks-met.ensures.0 c.either.ensures) c.both-ok.ensures)
+loop-m-preserved c = (omega arith, length-set c.loop-m.masks c.loop-m.m c.gather_acks-met.result.carts ∙ c.loop-m.invariant.1, read_one (λ x. gathered (stations_in c.args.stations.now) (rooms_in c.args.messages.now) x c.args.n) c.loop-m.masks c.loop-m.m c.gather_acks-met.result.carts (omega arith) c.gather_acks-met.ensures.1 c.loop-m.invariant.2, every_next (λ x. not (is_taken (rooms_in c.args.messages.now) x) || apart (stations_in c.args.stations.now) (rooms_in c.args.messages.now) x c.args.n) c.loop-m.m c.loop-m.ok _ _ c.loop-m.invariant.3 (taken_test (rooms_in c.args.messages.now) c.loop-m.m c.waiting_by-waiting.result c.gather_acks-met.result.apart (apart (stations_in c.args.stations.now) (rooms_in c.args.messages.now) c.loop-m.m c.args.n) _ c.waiting_by-waiting.ensures c.gather_acks-met.ensures.0 refl) refl)
 
 pub shape_of-masks : goal.shape_of-masks
 shape_of-masks c = c.loop-m.invariant.1 ∙ sym c.requires.0

@@ -1,7 +1,7 @@
 -- `form_lines::begin` meets its contract.
 use mathlib.Core.Path.{◌≡◌}
 use mathlib.Core.Bool.{◌||◌, not}
-use Prim.Native.Nat.{◌-◌, ◌≤◌}
+use Prim.Native.Nat.{◌≤◌}
 use lib.ListN.{length}
 use Rattle.protocol.specs.Folds.{every}
 use Rattle.rows.proofs.WordByWord.{ReadTo}
@@ -14,6 +14,3 @@ abbrev pub invariant-loop-m : goal.invariant-loop-m
 invariant-loop-m l =
     (l.m ≤ 32) × (length l.masks ≡ 32) × ReadTo (λ x. gathered (stations_in l.stations) (rooms_in l.messages) x l.n) l.masks l.m
     × (l.ok ≡ every l.m (λ x. not (is_taken (rooms_in l.messages) x) || apart (stations_in l.stations) (rooms_in l.messages) x l.n))
-
-abbrev pub decreases-loop-m : goal.decreases-loop-m
-decreases-loop-m l = 32 - l.m

@@ -23,9 +23,8 @@ loop-s-preserved c =
     let l = c.loop-s in
     let row = c.register_of-row in
     let n = c.next_of-next in
-    let b = c.both-ok in
     let same = ap₂ eqb (ap (λ (r : List ℕ). get_or r l.s 0) row.ensures ∙ list_of_at 16 carried 0 l.s (omega arith)) n.ensures in
-    (omega arith, every_next (λ t. eqb (carried t) (own t)) l.s l.ok (eqb (get_or row.result l.s 0) n.result) b.result l.invariant.1 same b.ensures)
+    (omega arith, every_next (λ t. eqb (carried t) (own t)) l.s l.ok (eqb (get_or row.result l.s 0) n.result) _ l.invariant.1 same refl)
 
 pub returns : goal.returns
 returns c =

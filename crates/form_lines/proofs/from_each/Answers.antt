@@ -40,12 +40,6 @@ returns-then-not-walk c =
       masks_len_unchanged = (o.ensures.1.0 ∙ a.invariant.1 ∙ sym c.requires.0, o.ensures.1.1 ∙ a.invariant.2 ∙ sym c.requires.1);
     }
 
-pub overflow_add-i : goal.overflow_add-i
-overflow_add-i c = omega arith
-
-pub loop-i-smaller : goal.loop-i-smaller
-loop-i-smaller c = omega arith
-
 pub loop-i-preserved : goal.loop-i-preserved
 loop-i-preserved c =
     let a = c.loop-i in

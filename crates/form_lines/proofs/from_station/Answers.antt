@@ -39,12 +39,6 @@ returns-then-not-walk c =
       (o.ensures.masks_len_unchanged.0 ∙ a.invariant.1 ∙ sym c.requires.0, o.ensures.masks_len_unchanged.1 ∙ a.invariant.2 ∙ sym c.requires.1),
     )
 
-pub overflow_add-j : goal.overflow_add-j
-overflow_add-j c = omega arith
-
-pub loop-j-smaller : goal.loop-j-smaller
-loop-j-smaller c = omega arith
-
 pub loop-j-preserved : goal.loop-j-preserved
 loop-j-preserved c =
     let a = c.loop-j in

@@ -1,6 +1,6 @@
 -- `form_lines::from_station` meets its contract.
 use mathlib.Core.Path.{◌≡◌}
-use Prim.Native.Nat.{◌+◌, ◌-◌, ◌*◌, ◌≤◌}
+use Prim.Native.Nat.{◌+◌, ◌*◌, ◌≤◌}
 use lib.ListN.{length}
 use Rattle.carts.specs.View.{carts_in}
 use Rattle.messages.specs.View.{rooms_in}
@@ -16,6 +16,3 @@ invariant-loop-j l =
     × (length l.seen ≡ 49)
     × Whole l.lines (l.i * 16 + l.j) l.seen
     × (met_of l.met l.masks ≡ from_station l.n l.k (carts_in l.carts) (rooms_in l.messages) (stations_in l.stations) l.lines (met_of l.initial.met l.initial.masks) l.i l.j)
-
-abbrev pub decreases-loop-j : goal.decreases-loop-j
-decreases-loop-j l = 16 - l.j

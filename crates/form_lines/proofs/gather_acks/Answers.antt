@@ -19,14 +19,8 @@ loop-t-init c = (omega arith, c.acked_by-carts.ensures, refl)
 pub acks_of-acks-requires : goal.acks_of-acks-requires
 acks_of-acks-requires c = (omega arith, c.requires.3)
 
-pub overflow_add-t : goal.overflow_add-t
-overflow_add-t c = omega arith
-
-pub loop-t-smaller : goal.loop-t-smaller
-loop-t-smaller c = omega arith
-
 pub loop-t-preserved : goal.loop-t-preserved
-loop-t-preserved c = (omega arith, gathered_next (stations_in c.args.stations.now) (rooms_in c.args.messages.now) c.args.m c.loop-t.t c.loop-t.carts c.acks_of-acks.result c.union-carts.result c.loop-t.invariant.1 c.acks_of-acks.ensures c.union-carts.ensures, every_next (λ u. disjoint 64 ((stations_in c.args.stations.now).acks c.args.m u) (gathered (stations_in c.args.stations.now) (rooms_in c.args.messages.now) c.args.m u)) c.loop-t.t c.loop-t.apart c.is_disjoint.result c.both-apart.result c.loop-t.invariant.2 (c.is_disjoint.ensures ∙ ap₂ (λ (x y : ℕ). disjoint 64 x y) c.acks_of-acks.ensures c.loop-t.invariant.1) c.both-apart.ensures)
+loop-t-preserved c = (omega arith, gathered_next (stations_in c.args.stations.now) (rooms_in c.args.messages.now) c.args.m c.loop-t.t c.loop-t.carts c.acks_of-acks.result c.union-carts.result c.loop-t.invariant.1 c.acks_of-acks.ensures c.union-carts.ensures, every_next (λ u. disjoint 64 ((stations_in c.args.stations.now).acks c.args.m u) (gathered (stations_in c.args.stations.now) (rooms_in c.args.messages.now) c.args.m u)) c.loop-t.t c.loop-t.apart c.is_disjoint-apart.result _ c.loop-t.invariant.2 (c.is_disjoint-apart.ensures ∙ ap₂ (λ (x y : ℕ). disjoint 64 x y) c.acks_of-acks.ensures c.loop-t.invariant.1) refl)
 
 pub returns : goal.returns
 unfolding apart

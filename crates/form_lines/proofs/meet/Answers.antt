@@ -1,5 +1,5 @@
 -- `form_lines::meet` meets its contract.
-use mathlib.Core.Path.{sym, ◌∙◌}
+use mathlib.Core.Path.{refl, sym, ◌∙◌}
 use Rattle.protocol.proofs.Tests.{and_right}
 use Rattle.carts.specs.View.{carts_in}
 use Rattle.messages.specs.View.{rooms_in}
@@ -15,19 +15,16 @@ take-requires c =
     let r = c.is_right-right in (
       c.requires.0,
       λ t. right_inside a.n a.k (carts_in a.carts.now) (rooms_in a.messages.now) (registers_in a.lines.now) a.i a.j (said a.r) c.requires.4
-          (sym (r.ensures a.n) ∙ and_right c.both-open.result r.result (sym c.both-2.ensures ∙ t)),
+          (sym (r.ensures a.n) ∙ and_right _ r.result t),
     )
 
 pub returns : goal.returns
 returns c =
     let a = c.args in
     let r = c.is_right-right in
-    let f = c.both in
-    let o = c.both-open in
-    let b = c.both-2 in
     let t = c.take in
     record {
       masks_after = meets a.n a.k (carts_in a.carts.now) (rooms_in a.messages.now) (registers_in a.lines.now) a.i a.j (met_of a.way a.masks.now) (met_of t.result t.new.masks) (said a.r)
-          f.result o.result r.result b.result f.ensures o.ensures (r.ensures a.n) b.ensures t.ensures.masks_after;
+          _ _ r.result _ refl refl (r.ensures a.n) refl t.ensures.masks_after;
       masks_len_unchanged = t.ensures.masks_len_unchanged;
     }

@@ -15,17 +15,11 @@ loop-cart-init c = (omega arith, refl)
 pub place_of-place-requires : goal.place_of-place-requires
 place_of-place-requires c = omega arith
 
-pub joined-set-requires : goal.joined-set-requires
-joined-set-requires c = omega arith
-
-pub overflow_add-cart : goal.overflow_add-cart
-overflow_add-cart c = omega arith
-
-pub loop-cart-smaller : goal.loop-cart-smaller
-loop-cart-smaller c = omega arith
+pub with_if-set-requires : goal.with_if-set-requires
+with_if-set-requires c = omega arith
 
 pub loop-cart-preserved : goal.loop-cart-preserved
-loop-cart-preserved c = (omega arith, set_next (λ x. moving ((carts_in c.args.carts.now).place x)) c.loop-cart.cart c.loop-cart.set c.joined-set.result c.is_moving.result c.loop-cart.invariant.1 (c.is_moving.ensures ∙ ap moving c.place_of-place.ensures) c.joined-set.ensures)
+loop-cart-preserved c = (omega arith, set_next (λ x. moving ((carts_in c.args.carts.now).place x)) c.loop-cart.cart c.loop-cart.set c.with_if-set.result c.is_moving.result c.loop-cart.invariant.1 (c.is_moving.ensures ∙ ap moving c.place_of-place.ensures) c.with_if-set.ensures)
 
 pub returns : goal.returns
 unfolding movers

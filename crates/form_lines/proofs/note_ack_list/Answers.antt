@@ -16,7 +16,7 @@ pub returns-then-not-right : goal.returns-then-not-right
 unfolding fresh
 returns-then-not-right c =
     record {
-      by_index = (λ x. off_first c.args.right (disjoint 64 c.args.carts (get_or c.args.masks.now c.args.m 0)) (met_of c.args.way c.args.masks.now) (an_ack_list c.args.m x c.args.carts) (met_of c.failed.result c.args.masks.now) (ap not c.if-not-right.true) (c.failed.ensures c.args.masks.now));
+      by_index = (λ x. off_first c.args.right (disjoint 64 c.args.carts (get_or c.args.masks.now c.args.m 0)) (met_of c.args.way c.args.masks.now) (an_ack_list c.args.m x c.args.carts) (met_of c.failed.result c.args.masks.now) c.if-not-right.true (c.failed.ensures c.args.masks.now));
       masks_len_unchanged = refl;
     }
 
@@ -44,6 +44,6 @@ pub returns : goal.returns
 unfolding fresh note
 returns c =
     record {
-      by_index = (λ x. on_both c.args.right (disjoint 64 c.args.carts (get_or c.args.masks.now c.args.m 0)) (met_of c.args.way c.args.masks.now) (an_ack_list c.args.m x c.args.carts) (met_of c.args.way (set c.args.masks.now c.args.m c.union.result)) (ap not c.if-not-right.false) (sym c.is_disjoint.ensures ∙ not-false c.is_disjoint.result (ap not c.if-not-is_disjoint.false)) (ap (λ (y : ℕ). met_of c.args.way (set c.args.masks.now c.args.m y)) c.union.ensures));
+      by_index = (λ x. on_both c.args.right (disjoint 64 c.args.carts (get_or c.args.masks.now c.args.m 0)) (met_of c.args.way c.args.masks.now) (an_ack_list c.args.m x c.args.carts) (met_of c.args.way (set c.args.masks.now c.args.m c.union.result)) c.if-not-right.false (sym c.is_disjoint.ensures ∙ not-false c.is_disjoint.result (ap not c.if-not-is_disjoint.false)) (ap (λ (y : ℕ). met_of c.args.way (set c.args.masks.now c.args.m y)) c.union.ensures));
       masks_len_unchanged = length-set c.args.masks.now c.args.m c.union.result;
     }

@@ -1,4 +1,5 @@
 -- `form_lines::on_line` meets its contract.
+use mathlib.Core.Path.{refl}
 use Rattle.carts.specs.View.{carts_in}
 use Rattle.messages.specs.View.{rooms_in}
 use Rattle.stations.specs.View.{stations_in}
@@ -11,10 +12,8 @@ returns c =
     let e = c.expected_by-expected in
     let t = c.sent_by-sent in
     let a = c.along-walk in
-    let d = c.either in
-    let b = c.both-ok in
     record {
       walked = a.ensures.walked;
-      masks_after = (λ q. lined c.args.n c.args.k (carts_in c.args.carts.now) (rooms_in c.args.messages.now) (stations_in c.args.stations.now) c.args.lines.now (met_of c.args.way c.args.masks.now) c.args.i c.args.j e.result t.result a.result.met a.new.masks d.result b.result e.ensures t.ensures (a.ensures.masks_after.0 q) d.ensures b.ensures);
+      masks_after = (λ q. lined c.args.n c.args.k (carts_in c.args.carts.now) (rooms_in c.args.messages.now) (stations_in c.args.stations.now) c.args.lines.now (met_of c.args.way c.args.masks.now) c.args.i c.args.j e.result t.result a.result.met a.new.masks _ _ e.ensures t.ensures (a.ensures.masks_after.0 q) refl refl);
       masks_len_unchanged = a.ensures.masks_after.1;
     }

@@ -48,7 +48,5 @@ returns c =
     let b = c.begin-ok in
     let e = c.all_ended-ends in
     let m = c.movers-set in
-    let x = c.both in
-    let y = c.both-2 in
-    formed c.args.lines.now y.result (passes c.args.n c.args.k (stations_in c.args.stations.now) (carts_in c.args.carts.now) (rooms_in c.args.messages.now) c.args.lines.now) (sym r.ensures ∙ not-false _ (ap not c.if-not-rest_ok.false))
-    (passing c.args.n c.args.k (carts_in c.args.carts.now) (rooms_in c.args.messages.now) (stations_in c.args.stations.now) c.args.lines.now b.result e.result x.result y.result m.result f.result.met b.new.masks f.new.masks b.ensures.value b.ensures.masks_after (f.ensures.checked.good (not-false _ c.if-not-walk.false)).1 e.ensures m.ensures x.ensures y.ensures)
+    formed c.args.lines.now _ (passes c.args.n c.args.k (stations_in c.args.stations.now) (carts_in c.args.carts.now) (rooms_in c.args.messages.now) c.args.lines.now) (sym r.ensures ∙ not-false _ (ap not c.if-not-rest_ok.false))
+    (passing c.args.n c.args.k (carts_in c.args.carts.now) (rooms_in c.args.messages.now) (stations_in c.args.stations.now) c.args.lines.now b.result e.result _ _ m.result f.result.met b.new.masks f.new.masks b.ensures.value b.ensures.masks_after (f.ensures.checked.good (not-false _ c.if-not-walk.false)).1 e.ensures m.ensures refl refl)
