@@ -10,6 +10,7 @@ ghost use Rattle.exported_lists.specs.Said.{said_of, CallSaid, TakeSaid};
 
 use ids::{CartNumber, Station};
 use lists::Reply;
+use refusals::Refusal;
 
 // A reply: the refusal, or 0; the message's number; how many octets its text has.
 #[repr(C)]
@@ -20,26 +21,26 @@ pub struct Said {
     pub size: u64,
 }
 
-fn said_of(reply: Reply) -> Said
+fn said_of(reply: Result<Reply, Refusal>) -> Said
     ensures { result ≡ said_of reply }
 {
     match reply {
-        Reply::Refused(refusal) => Said {
-            refusal,
+        Err(refusal) => Said {
+            refusal: refusal.number(),
             number: 0,
             size: 0,
         },
-        Reply::Begun => Said {
+        Ok(Reply::Begun) => Said {
             refusal: 0,
             number: 0,
             size: 0,
         },
-        Reply::Sent(number) => Said {
+        Ok(Reply::Sent(number)) => Said {
             refusal: 0,
             number: number.0,
             size: 0,
         },
-        Reply::Took(number, size) => Said {
+        Ok(Reply::Took(number, size)) => Said {
             refusal: 0,
             number: number.0,
             size: size as u64,

@@ -20,8 +20,10 @@ use Rattle.protocol.proofs.SetLaws.{zero_below}
 use Rattle.protocol.proofs.PlainLaws.{refused_call_alone}
 use Rattle.sets.specs.Masks.{size}
 use Rattle.sets.proofs.MaskLaws.{set_of_all, ones_size}
+use Rattle.std.specs.Prelude.{Ok, Err}
+use Rattle.refusals.specs.declared.Refusal.{Refusal}
+use Rattle.refusals.specs.Numbers.{number_of}
 use Rattle.lists.specs.declared.Reply.{Reply}
-use Rattle.lists.specs.declared.Reply.TheVariants.{Refused, Begun, Sent, Took}
 use Rattle.lists.specs.View.{LentLists, Counts, counts_in, lists_in}
 use Rattle.lists.specs.Calls.{reply_of, ListsMet, ListsReady, send_checks, take_checks}
 use Rattle.lists.proofs.Facts.{entries_pass, not_begun_fails}
@@ -109,34 +111,25 @@ at_most_64 set x e = let z = count_le 64 (has set) in omega arith
 
 -- WHAT IS TO BE SHOWN OF A CALL
 
-pub refused_met : (L : LentLists) (call : PlainCall) (r : ℕ) → 0 < r → plain_refusal limits (lists_in L) call ≡ r → ListsMet L L call (Refused r)
-refused_met L call r pos e =
-    let alone = refused_call_alone limits (lists_in L) call (rw e pos) in
+-- every refusal has a number
+pub number_some : (refusal : Refusal) → 0 < number_of refusal
+number_some refusal = grind arith
+
+pub refused_met : (L : LentLists) (call : PlainCall) (refusal : Refusal) → plain_refusal limits (lists_in L) call ≡ number_of refusal → ListsMet L L call (Err refusal)
+refused_met L call refusal e =
+    let alone = refused_call_alone limits (lists_in L) call (rw e (number_some refusal)) in
     record {
-      answers = ap Refused (sym e) ∙ ap reply_of (sym alone.1);
+      answers = ap Err (sym e) ∙ ap reply_of (sym alone.1);
       lists = sym alone.0;
       untouched = λ n q. refl;
     }
 
--- a reply that refuses nothing
-abbrev pub Accepts : Reply → Type 0
-Accepts (Refused r) = ⊥
-Accepts Begun = Unit {0}
-Accepts (Sent n) = Unit {0}
-Accepts (Took n size) = Unit {0}
-
-accepts_no_refusal : (a : Reply) (r : ℕ) → Accepts a → a ≡ Refused r → ⊥
-accepts_no_refusal (Refused n) r h e = h
-accepts_no_refusal Begun r h e = let z : ◌≡◌ {A = ℕ} 0 1 = cc in omega arith
-accepts_no_refusal (Sent n) r h e = let z : ◌≡◌ {A = ℕ} 0 1 = cc in omega arith
-accepts_no_refusal (Took n size) r h e = let z : ◌≡◌ {A = ℕ} 0 1 = cc in omega arith
-
-pub accepted_met : (L L' : LentLists) (call : PlainCall) (a : Reply) → plain_refusal limits (lists_in L) call ≡ 0 → Accepts a → a ≡ reply_of (plain_report limits (lists_in L) call)
-    → lists_in L' ≡ plain_accept limits (lists_in L) call → ListsMet L L' call a
+pub accepted_met : (L L' : LentLists) (call : PlainCall) (reply : Reply) → plain_refusal limits (lists_in L) call ≡ 0 → Ok reply ≡ reply_of (plain_report limits (lists_in L) call)
+    → lists_in L' ≡ plain_accept limits (lists_in L) call → ListsMet L L' call (Ok reply)
 unfolding plain_step plain_answer
-accepted_met L L' call a free accepts answers lists =
+accepted_met L L' call reply free answers lists =
     record {
       answers = rw free answers;
       lists = rw free lists;
-      untouched = λ r e. absurd (accepts_no_refusal a r accepts e);
+      untouched = λ r e. absurd (let z : ◌≡◌ {A = ℕ} 0 1 = cc e in omega arith);
     }

@@ -12,6 +12,8 @@ use Rattle.protocol.specs.PlainLists.{Plain, PlainCall, plain_start, plain_send,
 use Rattle.protocol.proofs.Tests.{by_test, on_cond, clash}
 use Rattle.protocol.proofs.Accepted.{passed_check}
 use Rattle.protocol.proofs.PlainLaws.{plain_form_kept, plain_form_after, refused_call_alone}
+use Rattle.std.specs.Prelude.{Result}
+use Rattle.refusals.specs.declared.Refusal.{Refusal}
 use Rattle.lists.specs.declared.Reply.{Reply}
 use Rattle.lists.specs.View.{LentLists, lent_right, counts_of, lists_in}
 use Rattle.lists.specs.Calls.{ListsMet, ListsReady}
@@ -49,7 +51,7 @@ module _ (M : Limits) (P : Plain) where
   unfolding plain_step
   step_lengths e call = on_cond (λ (Q : Plain). Q.lengths_right ≡ true) (eqb (plain_refusal M P call) 0) (λ b. accept_lengths e call) (λ b. e)
 
-pub stays_ready : (L L' : LentLists) (call : PlainCall) (a : Reply) → ListsReady L → ListsMet L L' call a → ListsReady L'
+pub stays_ready : (L L' : LentLists) (call : PlainCall) (a : Result Reply Refusal) → ListsReady L → ListsMet L L' call a → ListsReady L'
 stays_ready L L' call a R met =
     let same = met.lists in
     record {

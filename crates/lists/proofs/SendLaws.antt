@@ -19,6 +19,7 @@ use Rattle.protocol.proofs.Counting.{count_at}
 use Rattle.protocol.proofs.SetLaws.{has_zero, some_member}
 use Rattle.ids.specs.declared.MessageNumber.{MessageNumber}
 use Rattle.sets.specs.Masks.{size}
+use Rattle.std.specs.Prelude.{Ok}
 use Rattle.lists.specs.declared.Reply.TheVariants.{Sent}
 use Rattle.lists.specs.Calls.{ListsMet, ListsReady, send_checks}
 use Rattle.list_rows.specs.Rows.{Row, width, text_room, most_rows, often_enough, listed, members, row_rule, new_row, Used, used_rows, squeezed, with_room, rows_in}
@@ -249,9 +250,9 @@ module _ (L : LentLists) (passes : plain_passes limits (lists_in L) ≡ true) (s
 
 -- a send that is not refused
 pub send_met : (L L' : LentLists) (s named : ℕ) (text : List ℕ) (n : MessageNumber) → ListsReady L → send_checks (counts_in L.counts) s named (length text) ≡ 0 → n.0 ≡ (counts_in L.counts).sent s
-    → lists_in L' ≡ appended (lists_in L) s named text → ListsMet L L' (plain_send s named text) (Sent n)
+    → lists_in L' ≡ appended (lists_in L) s named text → ListsMet L L' (plain_send s named text) (Ok (Sent n))
 send_met L L' s named text n R checks e lists =
-    accepted_met L L' (plain_send s named text) (Sent n) (send_checks_lem L s named text R ∙ checks) tt (λ i. Sent (record { 0 = e i })) lists
+    accepted_met L L' (plain_send s named text) (Sent n) (send_checks_lem L s named text R ∙ checks) (λ i. Ok (Sent (record { 0 = e i }))) lists
 
 -- lists for which a send is not refused pass
 pub send_passes : (L : LentLists) (s named size : ℕ) → ListsReady L → send_checks (counts_in L.counts) s named size ≡ 0 → plain_passes limits (lists_in L) ≡ true

@@ -11,7 +11,9 @@ use Rattle.protocol.specs.Folds.{sum, update}
 use Rattle.protocol.specs.Floor.{limits}
 use Rattle.protocol.specs.Refusals.{wrong_size}
 use Rattle.protocol.specs.PlainLists.{plain_afresh, plain_start, plain_refusal}
-use Rattle.lists.specs.declared.Reply.TheVariants.{Refused, Begun}
+use Rattle.std.specs.Prelude.{Ok, Err}
+use Rattle.refusals.specs.declared.Refusal.TheVariants.{NotReady, AlreadyStarted, WrongSize}
+use Rattle.lists.specs.declared.Reply.TheVariants.{Begun}
 use Rattle.list_rows.specs.Rows.{Row, listed, members, rows_in}
 use Rattle.lists.specs.Calls.{ListsMet}
 use Rattle.lists.proofs.CountLaws.{word_put}
@@ -63,20 +65,20 @@ counts_begun l n k long zeros =
         others s = rw (ne_eqb (5 + s) 2 (omega arith), ne_eqb (5 + s) 1 (omega arith), ne_eqb (5 + s) 0 (omega arith))
 
 module _ (L : LentLists) (n k : ℕ) where
-  pub start_lengths : lent_right L ≡ false → ListsMet L L (plain_start n k) (Refused 5)
+  pub start_lengths : lent_right L ≡ false → ListsMet L L (plain_start n k) (Err NotReady)
   unfolding plain_refusal
-  start_lengths e = refused_met L (plain_start n k) 5 (omega arith) (rw e)
+  start_lengths e = refused_met L (plain_start n k) NotReady (rw e)
 
-  pub start_begun : lent_right L ≡ true → (counts_in L.counts).mark ≡ 1 → ListsMet L L (plain_start n k) (Refused 6)
+  pub start_begun : lent_right L ≡ true → (counts_in L.counts).mark ≡ 1 → ListsMet L L (plain_start n k) (Err AlreadyStarted)
   unfolding plain_refusal
-  start_begun e m = refused_met L (plain_start n k) 6 (omega arith) (rw (e, eq-eqb (counts_in L.counts).mark 1 m))
+  start_begun e m = refused_met L (plain_start n k) AlreadyStarted (rw (e, eq-eqb (counts_in L.counts).mark 1 m))
 
-  pub start_size : lent_right L ≡ true → ((counts_in L.counts).mark ≡ 1 → ⊥) → wrong_size limits n k ≡ true → ListsMet L L (plain_start n k) (Refused 7)
+  pub start_size : lent_right L ≡ true → ((counts_in L.counts).mark ≡ 1 → ⊥) → wrong_size limits n k ≡ true → ListsMet L L (plain_start n k) (Err WrongSize)
   unfolding plain_refusal
-  start_size e m w = refused_met L (plain_start n k) 7 (omega arith) (rw (e, ne_eqb (counts_in L.counts).mark 1 m, w))
+  start_size e m w = refused_met L (plain_start n k) WrongSize (rw (e, ne_eqb (counts_in L.counts).mark 1 m, w))
 
   pub start_met : (L' : LentLists) → lent_right L ≡ true → ((counts_in L.counts).mark ≡ 1 → ⊥) → wrong_size limits n k ≡ false → lent_right L' ≡ true → counts_in L'.counts ≡ no_sends 1 n k
-      → ListsMet L L' (plain_start n k) Begun
+      → ListsMet L L' (plain_start n k) (Ok Begun)
   unfolding plain_refusal
   start_met L' e m w e' counts =
-      accepted_met L L' (plain_start n k) Begun (rw (e, ne_eqb (counts_in L.counts).mark 1 m, w)) tt refl (afresh_in L' 1 n k e' counts)
+      accepted_met L L' (plain_start n k) Begun (rw (e, ne_eqb (counts_in L.counts).mark 1 m, w)) refl (afresh_in L' 1 n k e' counts)

@@ -14,12 +14,14 @@ ghost use Rattle.protocol.specs.Floor.{limits};
 ghost use Rattle.protocol.specs.Refusals.{wrong_size};
 ghost use Rattle.protocol.specs.PlainLists.{plain_start, plain_send, plain_passes, appended};
 ghost use Rattle.rows.specs.Rows.{RowIn};
+ghost use Rattle.refusals.specs.Numbers.{refusal_in};
 ghost use Rattle.list_rows.specs.Rows.{width, text_room, rows_in, taken_by};
 ghost use Rattle.lists.specs.View.{lent_lists, lent_right, count_words, counts_in, lists_in, SizedCounts};
 ghost use Rattle.lists.specs.Calls.{ListsMet, ListsHanded, ListsReady, send_checks, take_checks};
 
 use ids::{CartNumber, MessageNumber, Station};
 use list_rows::Message;
+use refusals::Refusal;
 
 // The words of the counts: the mark, how many stations, how many carts, how many rows are used, how many entries all lists have, and from `SENT`
 // on the count of each station's sends.
@@ -49,11 +51,9 @@ const MOST_STATIONS: u64 = 16;
 
 const MOST_CARTS: u64 = 64;
 
-// What a call replies.
-#[derive(Clone, Copy)]
+// What an accepted call replies.
+#[derive(Clone, Copy, Debug, PartialEq, Eq)]
 pub enum Reply {
-    // A refusal's number.
-    Refused(u64),
     // The lists are started.
     Begun,
     // The number that the message has.
@@ -66,13 +66,7 @@ pub enum Reply {
 pub fn lengths_ok(counts: &[u64], sends: &[u64], octets: &[u8]) -> bool
     ensures { result ≡ lent_right (lent_lists counts.now sends.now octets.now) }
 {
-    if counts.len() != COUNTS {
-        return false;
-    }
-    if sends.len() != list_rows::SENDS {
-        return false;
-    }
-    octets.len() == list_rows::OCTETS
+    counts.len() == COUNTS && sends.len() == list_rows::SENDS && octets.len() == list_rows::OCTETS
 }
 
 // 7: stations not 1 to 16, or carts not 1 to 64.
@@ -92,68 +86,74 @@ pub fn wrong_size(n: u64, k: u64) -> bool
 }
 
 // "A start sets them up empty, checked as the floor's": the lengths of the lent parts, 5, the mark, 6, and the two numbers, 7.
-pub fn start(counts: &mut [u64], sends: &[u64], octets: &[u8], n: u64, k: u64) -> Reply
+pub fn start(
+    counts: &mut [u64],
+    sends: &[u64],
+    octets: &[u8],
+    n: u64,
+    k: u64,
+) -> Result<Reply, Refusal>
     ensures { ListsMet (lent_lists counts.old sends.now octets.now) (lent_lists counts.new sends.now octets.now) (plain_start n k) result }
 {
     if !lengths_ok(counts, sends, octets) {
-        return Reply::Refused(5);
+        return Err(Refusal::NotReady);
     }
     if counts[MARK] == STARTED {
-        return Reply::Refused(6);
+        return Err(Refusal::AlreadyStarted);
     }
     if wrong_size(n, k) {
-        return Reply::Refused(7);
+        return Err(Refusal::WrongSize);
     }
     rows::clear(counts);
     counts[MARK] = STARTED;
     counts[STATIONS] = n;
     counts[CARTS] = k;
-    Reply::Begun
+    Ok(Reply::Begun)
 }
 
-// The refusal of a send with a text of so many octets, or 0: "4 a text longer than a send may carry, 5 lists not started .., 8, 9, 13 by that
+// The refusal of a send with a text of so many octets: "4 a text longer than a send may carry, 5 lists not started .., 8, 9, 13 by that
 // count, then 30 a send whose entries would make more than 2,048".
-fn send_refusal(counts: &[u64], station: Station, set: u64, size: usize) -> u64
+fn send_refusal(counts: &[u64], station: Station, set: u64, size: usize) -> Result<(), Refusal>
     requires { SizedCounts counts.now }
-    ensures { result ≡ send_checks (counts_in counts.now) station.0 set size }
+    ensures { refusal_in result ≡ send_checks (counts_in counts.now) station.0 set size }
 {
     if list_rows::TEXT < size {
-        return 4;
+        return Err(Refusal::WrongLength);
     }
     if counts[MARK] != STARTED {
-        return 5;
+        return Err(Refusal::NotReady);
     }
     if counts[STATIONS] <= station.0 {
-        return 8;
+        return Err(Refusal::NoSuchStation);
     }
     if sets::all_below(counts[CARTS]) < set {
-        return 9;
+        return Err(Refusal::NoSuchCart);
     }
     let at = SENT + station.0 as usize;
     if LAST < counts[at] {
-        return 13;
+        return Err(Refusal::NumbersUsed);
     }
     if MOST_ENTRIES < counts[ENTRIES] + sets::count(set) {
-        return 30;
+        return Err(Refusal::TooManyEntries);
     }
-    0
+    Ok(())
 }
 
-// The refusal of a take, or 0: 5, 8, 9. That the list is empty, 31, is seen by looking for its head.
-fn take_refusal(counts: &[u64], station: Station, cart: CartNumber) -> u64
+// The refusal of a take: 5, 8, 9. That the list is empty, 31, is seen by looking for its head.
+fn take_refusal(counts: &[u64], station: Station, cart: CartNumber) -> Result<(), Refusal>
     requires { SizedCounts counts.now }
-    ensures { result ≡ take_checks (counts_in counts.now) station.0 cart.0 }
+    ensures { refusal_in result ≡ take_checks (counts_in counts.now) station.0 cart.0 }
 {
     if counts[MARK] != STARTED {
-        return 5;
+        return Err(Refusal::NotReady);
     }
     if counts[STATIONS] <= station.0 {
-        return 8;
+        return Err(Refusal::NoSuchStation);
     }
     if counts[CARTS] <= cart.0 {
-        return 9;
+        return Err(Refusal::NoSuchCart);
     }
-    0
+    Ok(())
 }
 
 // "A send appends its text, under the lists' own count of that station's sends, to the lists of the named carts". It answers the number. A send
@@ -200,15 +200,12 @@ pub fn send(
     station: Station,
     set: u64,
     text: &[u8],
-) -> Reply
+) -> Result<Reply, Refusal>
     requires { ListsReady (lent_lists counts.old sends.old octets.old) }
     ensures { ListsMet (lent_lists counts.old sends.old octets.old) (lent_lists counts.new sends.new octets.new) (plain_send station.0 set text.now) result }
 {
-    let refusal = send_refusal(counts, station, set, text.len());
-    if refusal != 0 {
-        return Reply::Refused(refusal);
-    }
-    Reply::Sent(append(counts, sends, octets, station, set, text))
+    send_refusal(counts, station, set, text.len())?;
+    Ok(Reply::Sent(append(counts, sends, octets, station, set, text)))
 }
 
 // The row is handed to the cart, which is crossed out, and there is one entry less. The text is at the front of the buffer. How many octets it has.
@@ -230,7 +227,7 @@ fn hand_over(
     let size = list_rows::size_at(sends, row);
     list_rows::copy_text(octets, row, size, buffer);
     list_rows::cross_out(sends, row, cart);
-    counts[ENTRIES] = counts[ENTRIES] - 1;
+    counts[ENTRIES] -= 1;
     size
 }
 
@@ -243,21 +240,16 @@ pub fn take(
     station: Station,
     cart: CartNumber,
     buffer: &mut [u8; list_rows::TEXT],
-) -> Reply
+) -> Result<Reply, Refusal>
     requires { ListsReady (lent_lists counts.old sends.old octets.now) }
     ensures { ListsHanded (lent_lists counts.old sends.old octets.now) (lent_lists counts.new sends.new octets.now) station.0 cart.0 result buffer.old buffer.new }
 {
-    let refusal = take_refusal(counts, station, cart);
-    if refusal != 0 {
-        return Reply::Refused(refusal);
-    }
+    take_refusal(counts, station, cart)?;
     let used = counts[USED] as usize;
-    let row = list_rows::find_row(sends, used, station, cart);
-    if row == used {
-        return Reply::Refused(31);
-    }
-    let message = list_rows::message_at(sends, row);
+    let Some(row) = list_rows::find_row(sends, used, station, cart) else {
+        return Err(Refusal::EmptyList);
+    };
+    let number = list_rows::message_at(sends, row).number;
     let size = hand_over(counts, sends, octets, row, cart, buffer);
-    let number = message.number;
-    Reply::Took(number, size)
+    Ok(Reply::Took(number, size))
 }

@@ -14,6 +14,7 @@ ghost use Rattle.tested_lists.specs.Form.{sent_rule, counts_rule, rows_rule};
 
 use ids::{CartNumber, Station};
 use lists::Reply;
+use refusals::Refusal;
 
 // A count of sends is at most one more than the last number.
 const MOST_SENT: u64 = 4294967295;
@@ -23,13 +24,11 @@ fn sent_ok(counts: &[u64], n: u64) -> bool
     requires { (length counts.now ≡ count_words) × (n ≤ 16) }
     ensures { result ≡ test (sent_rule (counts_in counts.now) n) }
 {
-    let mut s: u64 = 0;
-    while s < n {
+    for s in 0..n {
         let at = lists::SENT + s as usize;
         if MOST_SENT < counts[at] {
             return false;
         }
-        s += 1;
     }
     true
 }
@@ -87,8 +86,7 @@ fn rows_ok(counts: &[u64], sends: &[u64]) -> bool
     let used = counts[lists::USED] as usize;
     let mut low = [0u64; 16];
     let mut entries: u64 = 0;
-    let mut row: usize = 0;
-    while row < used {
+    for row in 0..used {
         if !row_ok(counts, sends, row, &low) {
             return false;
         }
@@ -96,7 +94,6 @@ fn rows_ok(counts: &[u64], sends: &[u64]) -> bool
         let s = message.initiator.0 as usize;
         low[s] = message.number.0 + 1;
         entries += sets::count(message.carts);
-        row += 1;
     }
     entries == counts[lists::ENTRIES]
 }
@@ -115,7 +112,13 @@ pub fn passes(counts: &[u64], sends: &[u64], octets: &[u8]) -> bool
 }
 
 // "A start sets them up empty, checked as the floor's".
-pub fn start(counts: &mut [u64], sends: &[u64], octets: &[u8], n: u64, k: u64) -> Reply
+pub fn start(
+    counts: &mut [u64],
+    sends: &[u64],
+    octets: &[u8],
+    n: u64,
+    k: u64,
+) -> Result<Reply, Refusal>
     ensures { ListsMet (lent_lists counts.old sends.now octets.now) (lent_lists counts.new sends.now octets.now) (plain_start n k) result }
 {
     lists::start(counts, sends, octets, n, k)
@@ -129,14 +132,14 @@ pub fn send(
     station: Station,
     set: u64,
     text: &[u8],
-) -> Reply
+) -> Result<Reply, Refusal>
     ensures { ListsMet (lent_lists counts.old sends.old octets.old) (lent_lists counts.new sends.new octets.new) (plain_send station.0 set text.now) result }
 {
     if list_rows::TEXT < text.len() {
-        return Reply::Refused(4);
+        return Err(Refusal::WrongLength);
     }
     if !passes(counts, sends, octets) {
-        return Reply::Refused(5);
+        return Err(Refusal::NotReady);
     }
     lists::send(counts, sends, octets, station, set, text)
 }
@@ -149,11 +152,11 @@ pub fn take(
     station: Station,
     cart: CartNumber,
     buffer: &mut [u8; list_rows::TEXT],
-) -> Reply
+) -> Result<Reply, Refusal>
     ensures { ListsHanded (lent_lists counts.old sends.old octets.now) (lent_lists counts.new sends.new octets.now) station.0 cart.0 result buffer.old buffer.new }
 {
     if !passes(counts, sends, octets) {
-        return Reply::Refused(5);
+        return Err(Refusal::NotReady);
     }
     lists::take(counts, sends, octets, station, cart, buffer)
 }

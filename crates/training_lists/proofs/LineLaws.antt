@@ -2,24 +2,22 @@
 use mathlib.Core.Path.{◌≡◌, refl, sym, ap, ap₂, ◌∙◌, subst}
 use mathlib.Core.List.{List, [], ◌∷◌, ◌++◌, append-nil, append_assoc}
 use mathlib.Core.Option.{Option, none, some}
-use Prim.{tt}
 use Prim.Native.Nat.{ℕ, zero, suc, ◌+◌, ◌-◌, ◌≤◌}
 use native.Mathlib.Omega.{arith}
 use lib.ListN.{length, set, take, drop, length-append}
-use denote.Enum.Declared.{tag_of}
-use types.Run.{OneOf, miss}
+use Rattle.std.specs.Prelude.{Result, Ok, Err}
+use Rattle.std.specs.Prelude as rust
+use Rattle.refusals.specs.declared.Refusal.{Refusal}
 use Rattle.protocol.specs.Floor.{Limits, limits}
 use Rattle.protocol.specs.PlainLists.{Plain, PlainCall, plain_start, plain_send, plain_take, PlainAnswer, plain_refused, plain_begun, plain_sent, plain_took, plain_answer, Exchange, exchanged, fed, head_line, head_lines}
 use Rattle.protocol.specs.Printed.{decimal, field}
 use Rattle.frame_lines.specs.Lines.{written, Wrote, Began, longest_number, longest_pair}
 use Rattle.frame_lines.proofs.Octets.{written_none, wrote_one, wrote_then, began_then, written_then}
-use Rattle.ids.specs.declared.MessageNumber.{MessageNumber}
 use Rattle.ids.specs.declared.Station.{Station}
 use Rattle.lists.specs.declared.Reply.{Reply}
-use Rattle.lists.specs.declared.Reply.TheVariants.{Refused, Begun, Sent, Took}
-use Rattle.lists.specs.contracts.Reply.{the_type as reply_type}
+use Rattle.lists.specs.declared.Reply.TheVariants.{Begun, Sent, Took}
 use Rattle.lists.specs.View.{LentLists, lists_in}
-use Rattle.lists.specs.Calls.{reply_of, ListsReady, ListsMet}
+use Rattle.lists.specs.Calls.{numbered, reply_of, ListsReady, ListsMet}
 use Rattle.lists.proofs.Readies.{stays_ready}
 use Rattle.training_rows.specs.declared.Call.{Call}
 use Rattle.training_rows.specs.declared.Call.TheVariants.{Send}
@@ -52,11 +50,22 @@ head_written index s n {l} {l₁} {l₂} {at} {p} {q} room u v =
 pub nothing_written : (l : List ℕ) (at : ℕ) → Wrote head_room [] l l at at
 nothing_written l at = record { octets = sym (written_none l at); behind = omega arith; few = omega arith; kept = refl }
 
-pub no_reply : (index s : ℕ) (reply : Reply) → OneOf (0 ∷ 1 ∷ 2 ∷ []) (tag_of reply_type reply) → (l : List ℕ) (at : ℕ) → Wrote head_room (reply_line index s reply) l l at at
-no_reply index s (Refused r) k l at = nothing_written l at
-no_reply index s Begun k l at = nothing_written l at
-no_reply index s (Sent n) k l at = nothing_written l at
-no_reply index s (Took n size) k l at = absurd (miss (0 ∷ 1 ∷ 2 ∷ []) 3 tt k)
+pub refused_reply : (index s : ℕ) (a : Result Reply Refusal) (refusal : Refusal) → a ≡ Err refusal → (l : List ℕ) (at : ℕ) → Wrote head_room (reply_line index s a) l l at at
+refused_reply index s a refusal e l at = subst (λ (x : Result Reply Refusal). Wrote head_room (reply_line index s x) l l at at) (sym e) (nothing_written l at)
+
+-- the reply that the code found
+pub reply_written : (index s : ℕ) (a : Result Reply Refusal) (reply x : Reply) (out out' : List ℕ) (at next : ℕ) → a ≡ Ok reply → reply ≡ x
+    → Wrote head_room (reply_line {A = Refusal} index s (Ok x)) out out' at next → Wrote head_room (reply_line index s a) out out' at next
+reply_written index s a reply x out out' at next e q w =
+    subst (λ (y : Result Reply Refusal). Wrote head_room (reply_line index s y) out out' at next) (sym e)
+    (subst (λ (y : Reply). Wrote head_room (reply_line {A = Refusal} index s (Ok y)) out out' at next) (sym q) w)
+
+-- the number of a refusal is in no line
+numbered_line : (index s : ℕ) (a : Result Reply Refusal) → reply_line index s a ≡ reply_line index s (numbered a)
+numbered_line index s (Err refusal) = refl
+numbered_line index s (Ok Begun) = refl
+numbered_line index s (Ok (Sent n)) = refl
+numbered_line index s (Ok (Took n size)) = refl
 
 -- the line by the reply is that by the written answer
 reply_line_lem : (index s c : ℕ) (a : PlainAnswer) → reply_line index s (reply_of a) ≡ head_line index (plain_take s c) a
@@ -66,10 +75,10 @@ reply_line_lem index s c (plain_sent n) = refl
 reply_line_lem index s c (plain_took n text) = refl
 
 -- ONE CALL
-pub none_made : (L : LentLists) (index : ℕ) (out : List ℕ) (at : ℕ) → ListsReady L → Answered L L none index out out at at
+none_made : (L : LentLists) (index : ℕ) (out : List ℕ) (at : ℕ) → ListsReady L → Answered L L none index out out at at
 none_made L index out at R = record { ready = R; lists = refl; line = nothing_written out at }
 
-silent : (L L' : LentLists) (call : PlainCall) (a : Reply) (index : ℕ) (out : List ℕ) (at : ℕ) → ((x : PlainAnswer) → head_line index call x ≡ []) → ListsReady L → ListsMet L L' call a
+silent : (L L' : LentLists) (call : PlainCall) (a : Result Reply Refusal) (index : ℕ) (out : List ℕ) (at : ℕ) → ((x : PlainAnswer) → head_line index call x ≡ []) → ListsReady L → ListsMet L L' call a
     → Answered L L' (some call) index out out at at
 silent L L' call a index out at none_said R met =
     record {
@@ -78,27 +87,27 @@ silent L L' call a index out at none_said R met =
       line = subst (λ (x : List ℕ). Wrote head_room x out out at at) (sym (append-nil (head_line index call (plain_answer limits (lists_in L) call)) ∙ none_said (plain_answer limits (lists_in L) call))) (nothing_written out at);
     }
 
-pub start_made : (L L' : LentLists) (n k : ℕ) (a : Reply) (index : ℕ) (out : List ℕ) (at : ℕ) → ListsReady L → ListsMet L L' (plain_start n k) a → Answered L L' (some (plain_start n k)) index out out at at
+pub start_made : (L L' : LentLists) (n k : ℕ) (a : Result Reply Refusal) (index : ℕ) (out : List ℕ) (at : ℕ) → ListsReady L → ListsMet L L' (plain_start n k) a → Answered L L' (some (plain_start n k)) index out out at at
 start_made L L' n k a index out at = silent L L' (plain_start n k) a index out at (λ x. refl)
 
-pub send_made : (L L' : LentLists) (s set : ℕ) (text : List ℕ) (a : Reply) (index : ℕ) (out : List ℕ) (at : ℕ) → ListsReady L → ListsMet L L' (plain_send s set text) a
+pub send_made : (L L' : LentLists) (s set : ℕ) (text : List ℕ) (a : Result Reply Refusal) (index : ℕ) (out : List ℕ) (at : ℕ) → ListsReady L → ListsMet L L' (plain_send s set text) a
     → Answered L L' (some (plain_send s set text)) index out out at at
 send_made L L' s set text a index out at = silent L L' (plain_send s set text) a index out at (λ x. refl)
 
-pub take_made : (L L' : LentLists) (s c : ℕ) (a : Reply) (index : ℕ) (out out' : List ℕ) (at next : ℕ) → ListsReady L → ListsMet L L' (plain_take s c) a
+pub take_made : (L L' : LentLists) (s c : ℕ) (a : Result Reply Refusal) (index : ℕ) (out out' : List ℕ) (at next : ℕ) → ListsReady L → ListsMet L L' (plain_take s c) a
     → Wrote head_room (reply_line index s a) out out' at next → Answered L L' (some (plain_take s c)) index out out' at next
 take_made L L' s c a index out out' at next R met line =
     let x = plain_answer limits (lists_in L) (plain_take s c) in
     record {
       ready = stays_ready L L' (plain_take s c) a R met;
       lists = met.lists;
-      line = subst (λ (y : List ℕ). Wrote head_room y out out' at next) (ap (reply_line index s) met.answers ∙ reply_line_lem index s c x ∙ sym (append-nil (head_line index (plain_take s c) x))) line;
+      line = subst (λ (y : List ℕ). Wrote head_room y out out' at next) (numbered_line index s a ∙ ap (reply_line index s) met.answers ∙ reply_line_lem index s c x ∙ sym (append-nil (head_line index (plain_take s c) x))) line;
     }
 
 -- ONE CALL MORE
 
 -- the calls of n rows are n
-pub made_length : (l : List ℕ) (C : ℕ → Call) (n : ℕ) → length (made_by l C n) ≡ n
+pub made_length : (l : List ℕ) (C : ℕ → rust.Option Call) (n : ℕ) → length (made_by l C n) ≡ n
 unfolding made_by
 made_length l C zero = refl
 made_length l C (suc n) = let z = length-append (made_by l C n) (made_in l (C n) ∷ []) in let y = made_length l C n in omega arith
@@ -153,37 +162,37 @@ module _ (P : Plain) (calls : List (Option PlainCall)) (index : ℕ) (L : LentLi
 -- AS THE CODE MAKES THEM
 
 -- the call that the code found
-pub by_call : (l : List ℕ) (call x : Call) (L L' : LentLists) (index : ℕ) (out out' : List ℕ) (at next : ℕ) → call ≡ x
-    → Answered L L' (made_in l x) index out out' at next → Answered L L' (made_in l call) index out out' at next
-by_call l call x L L' index out out' at next e m = subst (λ (y : Call). Answered L L' (made_in l y) index out out' at next) (sym e) m
+pub by_call : (l : List ℕ) (call : rust.Option Call) (found x : Call) (L L' : LentLists) (index : ℕ) (out out' : List ℕ) (at next : ℕ) → call ≡ rust.Some found → found ≡ x
+    → Answered L L' (made_in l (rust.Some x)) index out out' at next → Answered L L' (made_in l call) index out out' at next
+by_call l call found x L L' index out out' at next e q m =
+    subst (λ (y : rust.Option Call). Answered L L' (made_in l y) index out out' at next) (sym e)
+    (subst (λ (y : Call). Answered L L' (made_in l (rust.Some y)) index out out' at next) (sym q) m)
+
+pub by_none : (l : List ℕ) (call : rust.Option Call) (L : LentLists) (index : ℕ) (out : List ℕ) (at : ℕ) → call ≡ rust.None → ListsReady L → Answered L L (made_in l call) index out out at at
+by_none l call L index out at e R = subst (λ (y : rust.Option Call). Answered L L (made_in l y) index out out at at) (sym e) (none_made L index out at R)
 
 -- a text is a part of the input
-pub text_there : (n : ℕ) (call : Call) (s : Station) (set from size : ℕ) → call ≡ Send s set from size → TextIn n call → from + size ≤ n
-text_there n call s set from size e h = subst (TextIn n) e h
+pub text_there : (n : ℕ) (call : rust.Option Call) (found : Call) (s : Station) (set from size : ℕ) → call ≡ rust.Some found → found ≡ Send s set from size → TextIn n call → from + size ≤ n
+text_there n call found s set from size e q h = subst (λ (y : Call). TextIn n (rust.Some y)) q (subst (TextIn n) e h)
 
-pub part_sent : (l : List ℕ) (from size : ℕ) (L L' : LentLists) (s set : ℕ) (a : Reply) (index : ℕ) (out : List ℕ) (at : ℕ) → ListsReady L
+pub part_sent : (l : List ℕ) (from size : ℕ) (L L' : LentLists) (s set : ℕ) (a : Result Reply Refusal) (index : ℕ) (out : List ℕ) (at : ℕ) → ListsReady L
     → ListsMet L L' (plain_send s set (take (from + size - from) (drop from l))) a → Answered L L' (some (plain_send s set (take size (drop from l)))) index out out at at
 part_sent l from size L L' s set a index out at R met =
     let all : from + size - from ≡ size = omega arith in
     send_made L L' s set (take size (drop from l)) a index out at R (subst (λ (n : ℕ). ListsMet L L' (plain_send s set (take n (drop from l))) a) all met)
 
 -- a turn of the loop
-pub fed_turn : (P : Plain) (l : List ℕ) (C : ℕ → Call) (row index : ℕ) (L : LentLists) (out₀ out : List ℕ) (at : ℕ) → Fed P (made_by l C row) index L out₀ out at → at ≤ length out
-    → (L' : LentLists) (call : Call) (out' : List ℕ) (next : ℕ) → call ≡ C row → Answered L L' (made_in l call) (index + row) out out' at next
+pub fed_turn : (P : Plain) (l : List ℕ) (C : ℕ → rust.Option Call) (row index : ℕ) (L : LentLists) (out₀ out : List ℕ) (at : ℕ) → Fed P (made_by l C row) index L out₀ out at → at ≤ length out
+    → (L' : LentLists) (call : rust.Option Call) (out' : List ℕ) (next : ℕ) → call ≡ C row → Answered L L' (made_in l call) (index + row) out out' at next
     → Fed P (made_by l C (row + 1)) index L' out₀ out' next
 unfolding made_by
 fed_turn P l C row index L out₀ out at f here L' call out' next e m =
     let one : suc row ≡ row + 1 = omega arith in
     let there : index + row ≡ index + length (made_by l C row) = ap (λ (n : ℕ). index + n) (sym (made_length l C row)) in
-    let m' = subst (λ (n : ℕ). Answered L L' (made_in l (C row)) n out out' at next) there (subst (λ (x : Call). Answered L L' (made_in l x) (index + row) out out' at next) e m) in
+    let m' = subst (λ (n : ℕ). Answered L L' (made_in l (C row)) n out out' at next) there (subst (λ (x : rust.Option Call). Answered L L' (made_in l x) (index + row) out out' at next) e m) in
     subst (λ (n : ℕ). Fed P (made_by l C n) index L' out₀ out' next) one (fed_next P (made_by l C row) index L out₀ out at f here L' (made_in l (C row)) out' next m')
 
 -- before the first one
-pub fed_none : (l : List ℕ) (C : ℕ → Call) (L : LentLists) (index : ℕ) (out : List ℕ) → ListsReady L → Fed (lists_in L) (made_by l C 0) index L out out 0
+pub fed_none : (l : List ℕ) (C : ℕ → rust.Option Call) (L : LentLists) (index : ℕ) (out : List ℕ) → ListsReady L → Fed (lists_in L) (made_by l C 0) index L out out 0
 unfolding made_by
 fed_none l C L index out R = fed_first L index out R
-
--- the reply that the code found
-pub took_written : (index s : ℕ) (reply : Reply) (n : MessageNumber) (size : ℕ) (out out' : List ℕ) (at next : ℕ) → reply ≡ Took n size
-    → Wrote head_room (decimal index ++ field s ++ field n.0 ++ (10 ∷ [])) out out' at next → Wrote head_room (reply_line index s reply) out out' at next
-took_written index s reply n size out out' at next e w = subst (λ (x : Reply). Wrote head_room (reply_line index s x) out out' at next) (sym e) w

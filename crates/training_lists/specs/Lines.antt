@@ -1,12 +1,12 @@
 -- WHAT THE CALLS COME TO: the lists after them, and the lines of their takes.
-use Rattle.std.specs.Prelude.{◌≡◌, List, [], ◌∷◌, ◌++◌, ℕ, suc, ◌+◌, length}
+use Rattle.std.specs.Prelude.{◌≡◌, Result, Ok, Err, List, [], ◌∷◌, ◌++◌, ℕ, suc, ◌+◌, length}
 use Rattle.std.proofs.Math.Option.{Option}
 use Rattle.protocol.specs.Floor.{Limits, limits}
 use Rattle.protocol.specs.PlainLists.{Plain, PlainCall, Exchange, exchanged, fed, head_lines}
 use Rattle.protocol.specs.Printed.{decimal, field}
 use Rattle.frame_lines.specs.Lines.{written, Wrote, longest_number, longest_pair}
 use Rattle.lists.specs.declared.Reply.{Reply}
-use Rattle.lists.specs.declared.Reply.TheVariants.{Refused, Begun, Sent, Took}
+use Rattle.lists.specs.declared.Reply.TheVariants.{Begun, Sent, Took}
 use Rattle.lists.specs.View.{LentLists, lists_in}
 use Rattle.lists.specs.Calls.{ListsReady}
 
@@ -24,11 +24,11 @@ abbrev pub head_room : ℕ
 head_room = longest_number + (longest_pair + 1)
 
 -- the line of a take from a list of station s, by what the lists replied
-abbrev pub reply_line : ℕ → ℕ → Reply → List ℕ
-reply_line index s (Refused r) = []
-reply_line index s Begun = []
-reply_line index s (Sent n) = []
-reply_line index s (Took n size) = decimal index ++ field s ++ field n.0 ++ (10 ∷ [])
+abbrev pub reply_line : {A : Type 0} → ℕ → ℕ → Result Reply A → List ℕ
+reply_line index s (Err refusal) = []
+reply_line index s (Ok Begun) = []
+reply_line index s (Ok (Sent n)) = []
+reply_line index s (Ok (Took n size)) = decimal index ++ field s ++ field n.0 ++ (10 ∷ [])
 
 -- ONE CALL WAS MADE, if there was one, of the frame with this index: the lists were L and are L', and the line was written into out from `at` on
 pub record Answered (L L' : LentLists) (call : Option PlainCall) (index : ℕ) (out out' : List ℕ) (at next : ℕ) : Type 0 where

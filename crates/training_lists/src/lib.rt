@@ -15,6 +15,7 @@ ghost use Rattle.training_lists.specs.Lines.{head_room, reply_line, Answered, Fe
 
 use ids::{CartNumber, MessageNumber, Station};
 use lists::Reply;
+use refusals::Refusal;
 use training_rows::Call;
 
 // The line of a message at the head of a list: the index, the initiator and the number.
@@ -42,15 +43,17 @@ fn put_reply(
     numbers: &[u64],
     index: u64,
     station: Station,
-    reply: Reply,
+    reply: Result<Reply, Refusal>,
 ) -> usize
     requires { (at + head_room ≤ length output.old) × Tabled numbers.now }
     ensures { Wrote head_room (reply_line index station.0 reply) output.old output.new at result }
 {
-    let Reply::Took(number, _) = reply else {
-        return at;
-    };
-    put_head(output, at, numbers, index, station, number)
+    match reply {
+        Ok(Reply::Took(number, _)) => put_head(output, at, numbers, index, station, number),
+        Ok(Reply::Begun) => at,
+        Ok(Reply::Sent(_)) => at,
+        Err(_) => at,
+    }
 }
 
 // A take, and its line.
@@ -84,24 +87,24 @@ fn make_call(
     at: usize,
     numbers: &[u64],
     index: u64,
-    call: Call,
+    call: Option<Call>,
 ) -> usize
     requires lists_ready { ListsReady (lent_lists counts.old sends.old octets.old) × TextIn (length input.now) call }
     requires head_room_in_bounds { (at + head_room ≤ length output.old) × Tabled numbers.now }
     ensures { Answered (lent_lists counts.old sends.old octets.old) (lent_lists counts.new sends.new octets.new) (made_in input.now call) index output.old output.new at result }
 {
     match call {
-        Call::Nothing => at,
-        Call::Start(n, k) => {
-            lists::start(counts, sends, octets, n, k);
+        None => at,
+        Some(Call::Start(n, k)) => {
+            let _ = lists::start(counts, sends, octets, n, k);
             at
         }
-        Call::Send(station, set, from, size) => {
+        Some(Call::Send(station, set, from, size)) => {
             let end = from + size;
-            lists::send(counts, sends, octets, station, set, &input[from..end]);
+            let _ = lists::send(counts, sends, octets, station, set, &input[from..end]);
             at
         }
-        Call::Take(station, cart) => take(
+        Some(Call::Take(station, cart)) => take(
             counts, sends, octets, output, at, numbers, index, station, cart,
         ),
     }
@@ -124,9 +127,8 @@ pub fn make_calls(
     requires width_in_bounds { (frames * width ≤ length calls.now) × (frames * head_room ≤ length output.old) × (index + frames < 18446744073709551616) }
     ensures { Fed (lists_in (lent_lists counts.old sends.old octets.old)) (made_by input.now (calls_in calls.now) frames) index (lent_lists counts.new sends.new octets.new) output.old output.new result × (result ≤ frames * head_room) }
 {
-    let mut row: u64 = 0;
-    let mut at: usize = 0;
-    while row < frames {
+    let mut at = 0;
+    for row in 0..frames {
         let call = training_rows::call_at(calls, row as usize);
         at = make_call(
             counts,
@@ -139,7 +141,6 @@ pub fn make_calls(
             index + row,
             call,
         );
-        row += 1;
     }
     at
 }

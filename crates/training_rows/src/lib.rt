@@ -9,11 +9,9 @@ ghost use Rattle.training_rows.specs.Calls.{width, call_of, words_of, calls_in};
 
 use ids::{CartNumber, Station};
 
-// The call that a frame makes.
-#[derive(Clone, Copy)]
+// The call that a frame makes, if it makes one.
+#[derive(Clone, Copy, Debug, PartialEq, Eq)]
 pub enum Call {
-    // It makes none.
-    Nothing,
     // How many stations, and how many carts.
     Start(u64, u64),
     // The station, the carts, and the text: where it begins in the input, and how many octets it has.
@@ -35,7 +33,7 @@ const FROM: usize = 3;
 
 const SIZE: usize = 4;
 
-// The kinds.
+// The kinds; of no call it is 0.
 const NOTHING: u64 = 0;
 
 const START: u64 = 1;
@@ -54,33 +52,33 @@ struct Words {
     size: u64,
 }
 
-// The words that say a call.
-fn words_of(call: Call) -> Words
+// The words that say a call, or none.
+fn words_of(call: Option<Call>) -> Words
     ensures { result ≡ words_of call }
 {
     match call {
-        Call::Nothing => Words {
+        None => Words {
             kind: NOTHING,
             first: 0,
             second: 0,
             from: 0,
             size: 0,
         },
-        Call::Start(n, k) => Words {
+        Some(Call::Start(n, k)) => Words {
             kind: START,
             first: n,
             second: k,
             from: 0,
             size: 0,
         },
-        Call::Send(station, set, from, size) => Words {
+        Some(Call::Send(station, set, from, size)) => Words {
             kind: SEND,
             first: station.0,
             second: set,
             from: from as u64,
             size: size as u64,
         },
-        Call::Take(station, cart) => Words {
+        Some(Call::Take(station, cart)) => Words {
             kind: TAKE,
             first: station.0,
             second: cart.0,
@@ -90,24 +88,20 @@ fn words_of(call: Call) -> Words
     }
 }
 
-// The call that words say.
-fn call_of(w: Words) -> Call
+// The call that words say, if they say one.
+fn call_of(w: Words) -> Option<Call>
     ensures { result ≡ call_of w }
 {
-    if w.kind == START {
-        return Call::Start(w.first, w.second);
+    match w.kind {
+        START => Some(Call::Start(w.first, w.second)),
+        SEND => Some(Call::Send(Station(w.first), w.second, w.from as usize, w.size as usize)),
+        TAKE => Some(Call::Take(Station(w.first), CartNumber(w.second))),
+        _ => None,
     }
-    if w.kind == SEND {
-        return Call::Send(Station(w.first), w.second, w.from as usize, w.size as usize);
-    }
-    if w.kind == TAKE {
-        return Call::Take(Station(w.first), CartNumber(w.second));
-    }
-    Call::Nothing
 }
 
-// The call in a row.
-pub fn call_at(calls: &[u64], row: usize) -> Call
+// The call in a row, if there is one.
+pub fn call_at(calls: &[u64], row: usize) -> Option<Call>
     requires { RowIn width calls.now row }
     ensures { result ≡ calls_in calls.now row }
 {
@@ -120,8 +114,8 @@ pub fn call_at(calls: &[u64], row: usize) -> Call
     })
 }
 
-// Another call there; the other rows stay.
-pub fn put_call(calls: &mut [u64], row: usize, call: Call)
+// Another call there, or none; the other rows stay.
+pub fn put_call(calls: &mut [u64], row: usize, call: Option<Call>)
     requires { RowIn width calls.old row }
     ensures calls_after { calls_in calls.new ≡ update (calls_in calls.old) row call }
     ensures calls_len_unchanged { length calls.new ≡ length calls.old }

@@ -70,12 +70,6 @@ overflow_add-entries c =
     let few = few_entries (counts_in a.counts.now) (rows_in a.sends.now []) l.low l.entries l.row (l.invariant.1 []) rule.1.0.0.1 rule.1.0.1.1 in
     omega (arith, few, rule.1.1.0, c.loop-row-test.true, at_most_64 _ c.count-entries.result c.count-entries.ensures)
 
-pub overflow_add-row : goal.overflow_add-row
-overflow_add-row c = omega (arith, c.requires.2.1.1.0, c.loop-row-test.true)
-
-pub loop-row-smaller : goal.loop-row-smaller
-loop-row-smaller c = omega (arith, c.loop-row-test.true)
-
 pub loop-row-preserved : goal.loop-row-preserved
 loop-row-preserved c =
     let a = c.args in

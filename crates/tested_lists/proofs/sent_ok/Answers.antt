@@ -23,12 +23,6 @@ returns-then-counts-at-gt-MOST_SENT c =
     let l = c.loop-s in
     fails (sent_rule (counts_in a.counts.now) a.n) (λ h. let z = h l.s c.loop-s-test.true in let y = c.if-counts-at-gt-MOST_SENT.true in omega arith)
 
-pub overflow_add-s : goal.overflow_add-s
-overflow_add-s c = omega arith
-
-pub loop-s-smaller : goal.loop-s-smaller
-loop-s-smaller c = omega arith
-
 pub loop-s-preserved : goal.loop-s-preserved
 loop-s-preserved c =
     let a = c.args in

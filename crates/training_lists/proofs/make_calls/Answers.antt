@@ -2,7 +2,7 @@ use mathlib.Core.Path.{◌≡◌, subst}
 use Prim.Native.Nat.{ℕ}
 use lib.ListN.{length}
 use Rattle.training_rows.specs.Calls.{TextIn}
--- `training_lists::make_calls` meets its contract. The invariant: the lists and the lines are those of the calls of the rows passed. The rows left fall.
+-- `training_lists::make_calls` meets its contract. The invariant: the lists and the lines are those of the calls of the rows passed.
 use mathlib.Core.Path.{sym, ◌∙◌}
 use native.Mathlib.Omega.{arith}
 use Rattle.lists.specs.View.{lent_lists, lists_in}
@@ -32,12 +32,6 @@ make_call-at-requires c =
       lists_ready = (l.invariant.0.ready, subst (TextIn (length a.input.now)) (sym c.call_at-call.ensures) (c.requires.lists_ready.2 l.row here));
       head_room_in_bounds = (omega (arith, l.invariant.2, here, c.requires.width_in_bounds.1, l.invariant.0.kept), c.requires.lists_ready.1);
     }
-
-pub overflow_add-row : goal.overflow_add-row
-overflow_add-row c = omega (arith, c.requires.width_in_bounds.2, c.loop-row-test)
-
-pub loop-row-smaller : goal.loop-row-smaller
-loop-row-smaller c = omega (arith, c.loop-row-test)
 
 pub loop-row-preserved : goal.loop-row-preserved
 loop-row-preserved c =

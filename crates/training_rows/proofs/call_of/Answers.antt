@@ -1,15 +1,16 @@
 -- `training_rows::call_of` meets its contract.
+use native.Mathlib.Omega.{arith}
 use Rattle.training_rows.proofs.RowLaws.{a_start, a_send, a_take, no_call}
 use Rattle.training_rows.proofs.call_of.Goals as goal
 
-pub returns-then-w-eq-START : goal.returns-then-w-eq-START
-returns-then-w-eq-START c = a_start c.args.w c.if-w-eq-START.true
+pub returns-in-1 : goal.returns-in-1
+returns-in-1 c = a_start c.args.w c.in-1.is
 
-pub returns-then-w-eq-SEND : goal.returns-then-w-eq-SEND
-returns-then-w-eq-SEND c = a_send c.args.w c.if-w-eq-START.false c.if-w-eq-SEND.true
+pub returns-in-2 : goal.returns-in-2
+returns-in-2 c = a_send c.args.w c.in-2.is
 
-pub returns-then-w-eq-TAKE : goal.returns-then-w-eq-TAKE
-returns-then-w-eq-TAKE c = a_take c.args.w c.if-w-eq-START.false c.if-w-eq-SEND.false c.if-w-eq-TAKE.true
+pub returns-in-3 : goal.returns-in-3
+returns-in-3 c = a_take c.args.w c.in-3.is
 
-pub returns : goal.returns
-returns c = no_call c.args.w c.if-w-eq-START.false c.if-w-eq-SEND.false c.if-w-eq-TAKE.false
+pub returns-in_default : goal.returns-in_default
+returns-in_default c = no_call c.args.w (λ e. omega arith) (λ e. omega arith) (λ e. omega arith)
