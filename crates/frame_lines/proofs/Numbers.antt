@@ -12,7 +12,8 @@ use borrow.Author.Tests.{lt-ltb, le-ltb}
 use Rattle.protocol.proofs.Tests.{by_test, by_lt}
 use Rattle.protocol.specs.Printed.{digit_char, decimal_digits, decimal, hexadecimal}
 use Rattle.frame_lines.specs.Lines.{written, Wrote, Began, Spells, last_digits, four_octets, longest_number, text_octets, text_digits}
-use Rattle.frame_lines.proofs.Octets.{written_none, written_whole, written_last, wrote_one, wrote_all, wrote_join, began_some, began_then, pair_stored, four_stored}
+use Rattle.std.specs.Int.{w16, w32, to_le_bytes, from_le_bytes}
+use Rattle.frame_lines.proofs.Octets.{written_none, written_whole, written_last, wrote_one, wrote_all, wrote_join, began_some, began_then, pair_stored}
 
 -- DIGITS
 
@@ -186,7 +187,7 @@ octet_high w x y h e = omega arith
 abbrev pub pair_word : ℕ → ℕ
 pair_word n = 12336 + n * 256 - n / 10 * 2559
 
-pair_octets : (n : ℕ) → n < 100 → pair_word n % 256 ∷ pair_word n / 256 ∷ [] ≡ last_digits 2 n
+pub pair_octets : (n : ℕ) → n < 100 → pair_word n % 256 ∷ pair_word n / 256 ∷ [] ≡ last_digits 2 n
 unfolding last_digits
 pair_octets n k =
     ap₂ (λ (x y : ℕ). x ∷ y ∷ [])
@@ -196,15 +197,19 @@ pair_octets n k =
     made : pair_word n ≡ 48 + n / 10 % 10 + 256 * (48 + n % 10)
     made = omega arith
 
-pub pair_written : (l : List ℕ) (at n : ℕ) → at + 2 ≤ length l → n < 100
-    → set (set l at (pair_word n % 256)) (at + 1) (pair_word n / 256) ≡ written l at (last_digits 2 n)
-pair_written l at n h k =
-    (pair_stored l at (pair_word n % 256) (pair_word n / 256) h).octets ∙ ap (λ (a : List ℕ). written l at a) (pair_octets n k)
+-- the library's octets of a word of two, and of one of four
+pub two_octets : (w : ℕ) → w < 65536 → to_le_bytes w16 w ≡ w % 256 ∷ w / 256 ∷ []
+two_octets w h = let z : w / 256 % 256 ≡ w / 256 = omega arith in ap (λ (x : ℕ). w % 256 ∷ x ∷ []) z
 
-pub word_written : (l : List ℕ) (at w : ℕ) → at + 4 ≤ length l
-    → set (set (set (set l at (w % 256)) (at + 1) (w / 256 % 256)) (at + 2) (w / 65536 % 256)) (at + 3) (w / 16777216) ≡ written l at (four_octets w)
+pub octets_long : (w : ℕ) → length (four_octets w) ≡ 4
 unfolding four_octets
-word_written l at w h = (four_stored l at (w % 256) (w / 256 % 256) (w / 65536 % 256) (w / 16777216) h).octets
+octets_long w = refl
+
+pub octets_of : (w : ℕ) → w < 4294967296 → to_le_bytes w32 w ≡ four_octets w
+unfolding four_octets
+octets_of w h =
+    let z : w / 16777216 % 256 ≡ w / 16777216 = omega arith in
+    ap (λ (x : ℕ). w % 256 ∷ w / 256 % 256 ∷ w / 65536 % 256 ∷ x ∷ []) z
 
 -- the octets of a word that was made of them
 pub word_of : (w a b c d : ℕ) → a < 256 → b < 256 → c < 256 → w ≡ a + 256 * b + 65536 * c + 16777216 * d → four_octets w ≡ a ∷ b ∷ c ∷ d ∷ []
@@ -308,10 +313,9 @@ four_octets_lem (a ∷ b ∷ c ∷ []) e = absurd (omega arith)
 four_octets_lem (a ∷ b ∷ c ∷ d ∷ []) e = refl
 four_octets_lem (a ∷ b ∷ c ∷ d ∷ x ∷ l) e = absurd (omega arith)
 
-pub word_made : (l : List ℕ) (w : ℕ) → length l ≡ 4 → get_or l 0 0 < 256 → get_or l 1 0 < 256 → get_or l 2 0 < 256
-    → w ≡ get_or l 0 0 + 256 * get_or l 1 0 + 65536 * get_or l 2 0 + 16777216 * get_or l 3 0 → four_octets w ≡ l
-word_made l w e ha hb hc q =
-    word_of w (get_or l 0 0) (get_or l 1 0) (get_or l 2 0) (get_or l 3 0) ha hb hc q ∙ sym (four_octets_lem l e)
+pub word_made : (l : List ℕ) → length l ≡ 4 → get_or l 0 0 < 256 → get_or l 1 0 < 256 → get_or l 2 0 < 256 → four_octets (from_le_bytes w32 l) ≡ l
+word_made l e ha hb hc =
+    word_of _ (get_or l 0 0) (get_or l 1 0) (get_or l 2 0) (get_or l 3 0) ha hb hc (omega arith) ∙ sym (four_octets_lem l e)
 
 -- one to four digits, and what is left of four blanks
 blanks_behind : (d : List ℕ) → 1 ≤ length d → length d ≤ 4 → take 4 (d ++ (32 ∷ 32 ∷ 32 ∷ [])) ≡ d ++ drop (length d) (32 ∷ 32 ∷ 32 ∷ 32 ∷ [])

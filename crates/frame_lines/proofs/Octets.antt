@@ -197,6 +197,13 @@ four_stored l at x y z u h =
 
 -- COPIES
 
+-- a part of the octets that became others, so many
+pub part_written : (l x line : List ℕ) (at n : ℕ) → x ≡ line → n ≡ length line → take at l ++ (x ++ drop n (drop at l)) ≡ written l at line
+unfolding written
+part_written l x line at n e h =
+    ap₂ (λ (y z : List ℕ). take at l ++ (y ++ z)) e (drop-drop n at l ∙ ap (λ (k : ℕ). drop (at + k) l) h)
+    ∙ sym (append_assoc (take at l) line (drop (at + length line) l))
+
 -- one octet more of those from a position on, and so many of them
 pub part_more : (l l₁ d : List ℕ) (at first k : ℕ) → at + k < length l → first + k < length d → l₁ ≡ paste l at (drop first d) k
     → set l₁ (at + k) (get_or d (first + k) 0) ≡ paste l at (drop first d) (k + 1)

@@ -10,6 +10,7 @@ ghost use Rattle.frame_lines.specs.Lines.{written, Wrote, Began, Spells, Tabled,
 ghost use Rattle.frame_lines.specs.Lines.{longest_number, longest_field, short_field, longest_pair, longest_head, longest_numbers, text_octets, text_digits, long_octets};
 ghost use Rattle.frame_lines.specs.Lines.{longest_text, longest_fields, longest_rest, digits_room, rest_room, longest_no, short_rest, longest_refusal};
 
+use products::{LONG, TEXT};
 use reports::Report;
 
 // The longest number has so many digits.
@@ -18,29 +19,14 @@ const LONGEST_NUMBER: usize = 20;
 // So many numbers stand behind the index, each with a blank before it: kind, a, b, p, w and q.
 const FIELDS: usize = 6;
 
-// A text in a room has at most so many octets, and each is printed as two digits.
-const TEXT_OCTETS: usize = 32;
-
-const TEXT_DIGITS: usize = 2 * TEXT_OCTETS;
-
-// The longest text has so many, and lies in the long store.
-const LONG_OCTETS: usize = 512;
+// The digits of a text in a room: each octet is printed as two.
+const TEXT_DIGITS: usize = 2 * TEXT;
 
 // The room that a line is written in, which is the longest line's: the index, the numbers, a blank and the text, and the line end.
-pub const LINE_ROOM: usize = LONGEST_NUMBER
-    + FIELDS * (1 + LONGEST_NUMBER)
-    + 1
-    + 2 * LONG_OCTETS
-    + 1;
+pub const LINE_ROOM: usize = LONGEST_NUMBER + FIELDS * (1 + LONGEST_NUMBER) + 1 + 2 * LONG + 1;
 
 // So many numbers are spelled in the lent table: those of at most four digits.
 const NUMBERS: usize = 10000;
-
-fn wide(x: u8) -> u64
-    ensures { (result ≡ x) × (result < 256) }
-{
-    x as u64
-}
 
 // How much further on the character of a digit stands: from 10 on they are letters.
 fn letter(d: u64) -> u64
@@ -57,7 +43,7 @@ fn digit(d: u64) -> u8
     (48 + d + letter(d)) as u8
 }
 
-// How many decimal digits a number has. A division takes off four of them.
+// How many decimal digits a number has. A division takes off four of them; the library has no `ilog10`.
 fn digits_of(n: u64) -> usize
     ensures { (result ≡ length (decimal n)) × (result ≤ longest_number) }
 {
@@ -79,7 +65,7 @@ fn digits_of(n: u64) -> usize
     count + 3
 }
 
-// The last digits of a number, so many, stored from the right, two for each division.
+// The last digits of a number, so many, stored from the right, two for each division: a `for` over the digits would divide twice as often.
 fn put_digits(out: &mut [u8], at: usize, count: usize, n: u64)
     requires { at + count ≤ length out.old }
     ensures { out.new ≡ written out.old at (last_digits count n) }
@@ -104,19 +90,15 @@ fn put_pair(out: &mut [u8], at: usize, n: u64)
     ensures { out.new ≡ written out.old at (last_digits 2 n) }
 {
     let word = 12336 + n * 256 - n / 10 * 2559;
-    out[at] = (word % 256) as u8;
-    out[at + 1] = (word / 256) as u8;
+    out[at..at + 2].copy_from_slice(&(word as u16).to_le_bytes());
 }
 
-// The four octets of a word, the least first, which the compiler makes one store.
+// The four octets of a word, the least first: one store.
 fn put_word(out: &mut [u8], at: usize, word: u64)
     requires { (at + 4 ≤ length out.old) × (word < 4294967296) }
     ensures { out.new ≡ written out.old at (four_octets word) }
 {
-    out[at] = (word % 256) as u8;
-    out[at + 1] = (word / 256 % 256) as u8;
-    out[at + 2] = (word / 65536 % 256) as u8;
-    out[at + 3] = (word / 16777216) as u8;
+    out[at..at + 4].copy_from_slice(&(word as u32).to_le_bytes());
 }
 
 // The four digits of a number, also where the first are 0: two pairs at once, as above, and one store for all four.
@@ -172,11 +154,10 @@ fn put_decimal(out: &mut [u8], at: usize, n: u64) -> usize
 }
 
 // Four octets as a word, the first one lowest.
-fn word_of(octets: &[u8]) -> u64
-    requires { length octets.now ≡ 4 }
+fn word_of(octets: &[u8; 4]) -> u64
     ensures { (four_octets result ≡ octets.now) × (result < 4294967296) }
 {
-    wide(octets[0]) + wide(octets[1]) * 256 + wide(octets[2]) * 65536 + wide(octets[3]) * 16777216
+    u64::from(u32::from_le_bytes(*octets))
 }
 
 // A number in a word: its digits and blanks behind them in the four lowest octets, and above these how many digits it has.
@@ -194,10 +175,8 @@ pub fn spell_all(numbers: &mut [u64])
     requires { length numbers.old ≡ 10000 }
     ensures { Tabled numbers.new }
 {
-    let mut n: usize = 0;
-    while n < NUMBERS {
+    for n in 0..NUMBERS {
         numbers[n] = spell(n as u64);
-        n += 1;
     }
 }
 
@@ -222,15 +201,14 @@ fn four_word(numbers: &[u64], n: u64) -> u64
     numbers[n as usize] % 4294967296
 }
 
-// Octets from a position on, so many. Where that is a constant, the compiler moves them as a word or two.
+// Octets from a position on, so many. Where that is a constant, the compiler moves them as a word or two; the library's `copy_from_slice` asks first
+// whether the two parts overlap, which took a line 7 % longer.
 fn copy_part(out: &mut [u8], at: usize, from: &[u8], first: usize, count: usize)
     requires { (at + count ≤ length out.old) × (first + count ≤ length from.now) }
     ensures { out.new ≡ written out.old at (take count (drop first from.now)) }
 {
-    let mut k: usize = 0;
-    while k < count {
+    for k in 0..count {
         out[at + k] = from[first + k];
-        k += 1;
     }
 }
 
@@ -277,11 +255,9 @@ pub fn put_two_fields(out: &mut [u8], at: usize, x: u64, y: u64) -> usize
     requires { at + longest_pair ≤ length out.old }
     ensures { Wrote longest_pair (field x ++ field y) out.old out.new at result }
 {
-    if x < 10 {
-        if y < 10 {
-            put_word(out, at, 807415840 + x * 256 + y * 16777216);
-            return at + 4;
-        }
+    if x < 10 && y < 10 {
+        put_word(out, at, 807415840 + x * 256 + y * 16777216);
+        return at + 4;
     }
     let next = put_field(out, at, x);
     put_field(out, next, y)
@@ -300,16 +276,7 @@ fn put_short(out: &mut [u8], at: usize, numbers: &[u64], n: u64) -> usize
 fn are_short(r: Report) -> bool
     ensures { result ≡ true → (r.kind < 10) × (r.a < 10000) × (r.b < 10000) × (r.effect.passed < 10000) }
 {
-    if 9 < r.kind {
-        return false;
-    }
-    if 9999 < r.a {
-        return false;
-    }
-    if 9999 < r.b {
-        return false;
-    }
-    r.effect.passed < 10000
+    r.kind < 10 && r.a < 10000 && r.b < 10000 && r.effect.passed < 10000
 }
 
 // Kind, a, b and p. By the table they leave up to three blanks behind them, which w and q cover.
@@ -332,12 +299,10 @@ fn room_digits(digits: &mut [u8], room: &[u8])
     requires { (length digits.old ≡ text_digits) × (length room.now ≡ text_octets) }
     ensures { digits.new ≡ hexadecimal room.now }
 {
-    let mut i: usize = 0;
-    while i < TEXT_OCTETS {
-        let x = wide(room[i]);
+    for i in 0..TEXT {
+        let x = u64::from(room[i]);
         digits[2 * i] = digit(x / 16);
         digits[2 * i + 1] = digit(x % 16);
-        i += 1;
     }
 }
 
@@ -413,16 +378,13 @@ fn put_long_text(out: &mut [u8], at: usize, text: &[u8]) -> usize
     ensures { Wrote longest_text (text_field text.now) out.old out.new at result }
 {
     out[at] = b' ';
-    let mut next = at + 1;
-    let mut i: usize = 0;
-    while i < text.len() {
-        let x = wide(text[i]);
+    for i in 0..text.len() {
+        let x = u64::from(text[i]);
+        let next = at + 1 + 2 * i;
         out[next] = digit(x / 16);
         out[next + 1] = digit(x % 16);
-        next += 2;
-        i += 1;
     }
-    next
+    at + 1 + 2 * text.len()
 }
 
 // "kind, a, b, p, w" and q, without the table: before a long text it would save little.
@@ -462,9 +424,7 @@ fn put_no(out: &mut [u8], at: usize) -> usize
     requires { at + longest_no ≤ length out.old }
     ensures { Wrote longest_no (32 ∷ 110 ∷ 111 ∷ []) out.old out.new at result }
 {
-    out[at] = b' ';
-    out[at + 1] = b'n';
-    out[at + 2] = b'o';
+    out[at..at + 3].copy_from_slice(b" no");
     at + 3
 }
 

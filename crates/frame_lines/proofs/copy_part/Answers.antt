@@ -20,12 +20,6 @@ overflow_add-out-in-loop-k c = omega arith
 pub bounds-out-at : goal.bounds-out-at
 bounds-out-at c = omega arith
 
-pub overflow_add-k : goal.overflow_add-k
-overflow_add-k c = omega arith
-
-pub loop-k-smaller : goal.loop-k-smaller
-loop-k-smaller c = omega arith
-
 pub loop-k-preserved : goal.loop-k-preserved
 loop-k-preserved c =
     let a = c.args in

@@ -1,14 +1,11 @@
 -- `frame_lines::put_no` meets its contract.
+use mathlib.Core.Path.{refl}
+use mathlib.Core.List.{[], ◌∷◌}
 use native.Mathlib.Omega.{arith}
-use lib.ListN.{length-set}
-use Rattle.frame_lines.proofs.Octets.{three_stored}
+use Rattle.frame_lines.proofs.Octets.{part_written, wrote_all}
 use Rattle.frame_lines.proofs.put_no.Goals as goal
 
-pub bounds-out-at-2 : goal.bounds-out-at-2
-bounds-out-at-2 c = simp length-set (omega arith)
-
-pub bounds-out-at-3 : goal.bounds-out-at-3
-bounds-out-at-3 c = simp length-set (omega arith)
-
 pub returns : goal.returns
-returns c = three_stored c.args.out.now c.args.at 32 110 111 (omega arith)
+returns c =
+    let a = c.args in
+    wrote_all a.out.now a.at (32 ∷ 110 ∷ 111 ∷ []) (omega arith) refl (omega arith) (part_written a.out.now _ _ a.at _ c.copy_from_slice.ensures.after (omega arith))

@@ -1,17 +1,11 @@
 -- `frame_lines::put_word` meets its contract.
+use mathlib.Core.Path.{◌∙◌}
 use native.Mathlib.Omega.{arith}
-use lib.ListN.{length-set}
-use Rattle.frame_lines.proofs.Numbers.{word_written}
+use Rattle.frame_lines.proofs.Octets.{part_written}
+use Rattle.frame_lines.proofs.Numbers.{octets_of, octets_long}
 use Rattle.frame_lines.proofs.put_word.Goals as goal
 
-pub bounds-out-at-2 : goal.bounds-out-at-2
-bounds-out-at-2 c = simp length-set (omega arith)
-
-pub bounds-out-at-3 : goal.bounds-out-at-3
-bounds-out-at-3 c = simp length-set (omega arith)
-
-pub bounds-out-at-4 : goal.bounds-out-at-4
-bounds-out-at-4 c = simp length-set (omega arith)
-
 pub returns : goal.returns
-returns c = word_written c.args.out.now c.args.at c.args.word c.requires.0
+returns c =
+    let a = c.args in
+    part_written a.out.now _ _ a.at _ (c.copy_from_slice.ensures.after ∙ c.to_le_bytes.ensures ∙ octets_of a.word c.requires.1) (omega (arith, octets_long a.word))

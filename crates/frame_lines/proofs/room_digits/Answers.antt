@@ -11,9 +11,6 @@ loop-i-init c = let a = c.args in (omega arith, hex_none text_digits a.room.now 
 pub bounds-room-i : goal.bounds-room-i
 bounds-room-i c = omega arith
 
-pub wide-x-requires : goal.wide-x-requires
-wide-x-requires c = tt
-
 pub digit-requires : goal.digit-requires
 digit-requires c = omega arith
 
@@ -35,19 +32,13 @@ overflow_add-digits c = omega arith
 pub bounds-digits-i-in-loop-i : goal.bounds-digits-i-in-loop-i
 bounds-digits-i-in-loop-i c = simp length-set (let z = c.loop-i.invariant.1.kept in omega arith)
 
-pub overflow_add-i : goal.overflow_add-i
-overflow_add-i c = omega arith
-
-pub loop-i-smaller : goal.loop-i-smaller
-loop-i-smaller c = omega arith
-
 pub loop-i-preserved : goal.loop-i-preserved
 loop-i-preserved c =
     let a = c.args in
     let v = c.loop-i in
     let more =
-    hex_stored text_digits a.room.now a.digits.now v.digits 0 v.i (2 * v.i) (2 * (v.i + 1)) c.wide-x.result c.digit.result c.digit-in-loop-i.result
-    (omega arith) (omega arith) (omega arith) (omega arith) c.wide-x.ensures.0 c.digit.ensures c.digit-in-loop-i.ensures v.invariant.1 in
+    hex_stored text_digits a.room.now a.digits.now v.digits 0 v.i (2 * v.i) (2 * (v.i + 1)) c.from-x.result c.digit.result c.digit-in-loop-i.result
+    (omega arith) (omega arith) (omega arith) (omega arith) c.from-x.ensures c.digit.ensures c.digit-in-loop-i.ensures v.invariant.1 in
     (omega arith, more)
 
 pub shape_of-digits : goal.shape_of-digits
