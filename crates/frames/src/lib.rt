@@ -65,7 +65,7 @@ fn word_at(octets: &[u8], at: usize) -> u64
     requires { at + 8 ≤ length octets.now }
     ensures { result ≡ big_endian 0 (take 8 (drop at octets.now)) }
 {
-    let eight: &[u8; 8] = octets[at..].first_chunk().unwrap();
+    let eight: &[u8; 8] = octets[at..at + 8].first_chunk().unwrap();
     u64::from_be_bytes(*eight)
 }
 
