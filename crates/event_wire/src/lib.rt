@@ -9,31 +9,33 @@ ghost use Rattle.protocol.specs.Refusals.{refusal_if};
 ghost use Rattle.stations.specs.View.{HasHead, head_in};
 ghost use Rattle.lines.specs.Form.{form};
 ghost use Rattle.view.specs.View.{lent, floor_in};
+ghost use Rattle.refusals.specs.Numbers.{refusal_in};
 ghost use Rattle.event_answers.specs.Answers.{answer_in};
 ghost use Rattle.event_answers.specs.Met.{Met, ReadyBySome, MetByEach};
 ghost use Rattle.event_wire.specs.Off.{TakenOff, IsOff};
 
-use event_answers::{Answer, Outcome};
+use event_answers::{Accepted, Answer, Outcome};
 use ids::{CartNumber, MessageNumber, Station};
 use lines::Record;
+use refusals::Refusal;
 use view::Kind;
 
-// The refusal of a wire event, 8 or 15, or 0.
-fn wire_refusal(stations: &[u64], lines: &[u64], from: Station, to: Station) -> u64
+// The checks of a wire event, 8 and 15.
+fn check_wire(stations: &[u64], lines: &[u64], from: Station, to: Station) -> Result<(), Refusal>
     requires { HasHead stations.now × ((head_in stations.now).stations ≤ 16) × (form lines.now ≡ true) }
-    ensures { (P : Product) (C M T O : List ℕ) → result ≡ refusal_if (limits_of P) (floor_in (lent P stations.now C M lines.now T O)) false (wire from.0 to.0) }
+    ensures { (P : Product) (C M T O : List ℕ) → refusal_in result ≡ refusal_if (limits_of P) (floor_in (lent P stations.now C M lines.now T O)) false (wire from.0 to.0) }
 {
     let n = stations::station_count(stations);
     if n <= from.0 {
-        return 8;
+        return Err(Refusal::NoSuchStation);
     }
     if n <= to.0 {
-        return 8;
+        return Err(Refusal::NoSuchStation);
     }
     if lines::is_empty(lines, from.0 as usize, to.0 as usize) {
-        return 15;
+        return Err(Refusal::EmptyLine);
     }
-    0
+    Ok(())
 }
 
 // A record that came from one station is handled at the other, by its kind: "multicast (1)", "ack list (2)", "delete (3)", "deregister (4)",
@@ -57,24 +59,39 @@ fn handle(
     if kind == Some(Kind::AckList) {
         let n = stations::station_count(stations);
         let effect = wired_records::on_ack_list(messages, lines, said, to, n);
-        return Answer::Accepted(Outcome::Acknowledged(number), effect);
+        return Ok(Accepted {
+            outcome: Outcome::Acknowledged(number),
+            effect,
+        });
     }
     if kind == Some(Kind::Delete) {
         let effect = wired_records::on_delete(messages, said, to);
-        return Answer::Accepted(Outcome::Deleted(number), effect);
+        return Ok(Accepted {
+            outcome: Outcome::Deleted(number),
+            effect,
+        });
     }
     if kind == Some(Kind::Multicast) {
         let effect = wired_records::on_multicast(stations, carts, messages, said, from, to);
-        return Answer::Accepted(Outcome::Buffered(number), effect);
+        return Ok(Accepted {
+            outcome: Outcome::Buffered(number),
+            effect,
+        });
     }
     let cart = CartNumber(view::index_of(said));
     if kind == Some(Kind::Deregister) {
         let effect = handoff::on_deregister(stations, carts, messages, lines, cart, to, from);
-        return Answer::Accepted(Outcome::Deregistered(cart), effect);
+        return Ok(Accepted {
+            outcome: Outcome::Deregistered(cart),
+            effect,
+        });
     }
     let row = lines::register_of(lines, cart.0 as usize);
     let effect = handoff::on_register(stations, carts, messages, to, cart, row);
-    Answer::Accepted(Outcome::Registered(cart), effect)
+    Ok(Accepted {
+        outcome: Outcome::Registered(cart),
+        effect,
+    })
 }
 
 // "Wire (from, to)".
@@ -92,12 +109,9 @@ pub fn wire(
     ensures { MetByEach (λ P. lent P stations.old carts.old messages.old lines.old texts.now store.now) (λ P. lent P stations.new carts.new messages.new lines.new texts.now store.now) (wire from.0 to.0) (answer_in result []) }
 {
     if !stations::is_started(stations) {
-        return Answer::Refused(5);
+        return Err(Refusal::NotReady);
     }
-    let refusal = wire_refusal(stations, lines, from, to);
-    if refusal != 0 {
-        return Answer::Refused(refusal);
-    }
+    check_wire(stations, lines, from, to)?;
     let i = from.0 as usize;
     let j = to.0 as usize;
     let said = lines::front(lines, i, j);

@@ -1,8 +1,8 @@
--- `event_wire::wire_refusal` meets its contract.
+-- `event_wire::check_wire` meets its contract.
 use native.Mathlib.Omega.{arith}
 use mathlib.Core.Path.{sym, ◌∙◌}
 use Rattle.event_wire.proofs.WireChecks.{wire_no_from, wire_no_to, wire_empty, wire_passes}
-use Rattle.event_wire.proofs.wire_refusal.Goals as goal
+use Rattle.event_wire.proofs.check_wire.Goals as goal
 
 pub returns-then-n-from : goal.returns-then-n-from
 returns-then-n-from c = let a = c.args in λ P C M T O. wire_no_from a.stations.now a.lines.now a.from.0 a.to.0 P C M T O (omega (arith, c.station_count-n.ensures, c.if-n-from.true))
