@@ -1,15 +1,13 @@
 -- Laws of the decoder's values: what is known of a reading, for the decoder's callers too.
 use mathlib.Core.Path.{◌≡◌, refl, sym, ap, ap₂, ◌∙◌}
 use mathlib.Core.Bool.{Bool, true, false}
-use mathlib.Core.List.{List, [], ◌∷◌}
+use mathlib.Core.List.{List}
 use Prim.{tt}
 use Prim.Native.Nat.{ℕ, suc, ◌+◌, ◌-◌, ◌/◌, ◌%◌, ◌^◌, ◌≤◌, ◌<◌}
 use native.Mathlib.Omega.{arith}
 use lib.Dec.{eqb, ltb}
 use lib.ListN.{length, take, drop}
 use borrow.Author.Tests.{eq-eqb, ne_eqb, le-ltb, eqb-true, eqb-false, ltb-true, ltb-false}
-use denote.Enum.Declared.{tag_of}
-use types.Run.{OneOf, miss}
 use Rattle.protocol.proofs.Tests.{by_lt, by_eq, on_cond, clash}
 use Rattle.protocol.specs.Floor.{limits}
 use Rattle.protocol.specs.Store.{not_long}
@@ -22,7 +20,6 @@ use Rattle.std.specs.Prelude.{Option, None, Some, Result, Ok, Err}
 use Rattle.refusals.specs.declared.Refusal.{Refusal}
 use Rattle.frames.specs.declared.Halves.{Halves}
 use Rattle.frames.specs.Decoded.{fields_in, if_listed, if_whole, frame_in, event_in, taken_in, frame_reading, reading_in, size_of, longest_frame, TextFits, refusal_number, refusal_of}
-use Rattle.frames.specs.contracts.Event.{the_type as event_type}
 use Rattle.frames.proofs.Laws.{low_fields, send_fields, long_fields, low_sixteen, unlisted_send, unlisted_wire, unlisted_move, unlisted_flag, unlisted_group, unlisted_send_group, unlisted_send_long, unlisted_retire}
 use Rattle.frames.proofs.Laws.{long_length, long_wrong, short_length, short_wrong, long_text, short_text, text_at_most}
 use Rattle.frames.proofs.Laws.{no_kind, stray_field, wrong_text, cut_text, no_refusal, kind_known, text_right, text_there}
@@ -181,20 +178,6 @@ frame_read l at f h e =
     (λ n. sym (read_refused f (length l - at - 16) (drop at l) _ refl n) ∙ refused_frame_lem l at f h e _ refl n)
 
 -- EVENTS
-
--- an event without a text has the size of a frame
-pub other_size : (e : Event) → OneOf (0 ∷ 1 ∷ 3 ∷ 4 ∷ 5 ∷ 6 ∷ 7 ∷ 10 ∷ []) (tag_of event_type e) → 16 ≡ size_of e
-other_size (Start n k) h = refl
-other_size (Enter t c) h = refl
-other_size (Send s set n) h = absurd (miss (0 ∷ 1 ∷ 3 ∷ 4 ∷ 5 ∷ 6 ∷ 7 ∷ 10 ∷ []) 2 tt h)
-other_size (Wire i j) h = refl
-other_size (Radio t c) h = refl
-other_size (Move c to) h = refl
-other_size (Flag c b) h = refl
-other_size (Group g set) h = refl
-other_size (SendGroup s g n) h = absurd (miss (0 ∷ 1 ∷ 3 ∷ 4 ∷ 5 ∷ 6 ∷ 7 ∷ 10 ∷ []) 8 tt h)
-other_size (SendLong s set n) h = absurd (miss (0 ∷ 1 ∷ 3 ∷ 4 ∷ 5 ∷ 6 ∷ 7 ∷ 10 ∷ []) 9 tt h)
-other_size (Retire c) h = refl
 
 -- the frame of an event that was taken: its fields are not refused, and its octets are there
 taken_fields : (l : List ℕ) (at : ℕ) (e : events.Event) (n : ℕ) → read_at limits l at ≡ taken e n

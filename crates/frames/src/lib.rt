@@ -284,9 +284,9 @@ pub fn size_of(e: Event) -> usize
     ensures { result ≡ size_of e }
 {
     match e {
-        Event::Send(_, _, length) => FRAME + length,
-        Event::SendGroup(_, _, length) => FRAME + length,
-        Event::SendLong(_, _, length) => FRAME + length,
+        Event::Send(_, _, length)
+        | Event::SendGroup(_, _, length)
+        | Event::SendLong(_, _, length) => FRAME + length,
         _ => FRAME,
     }
 }
