@@ -1,13 +1,13 @@
 -- THE TURNS OF A RUN, one after the other: what holds before each turn.
 use mathlib.Core.Path.{◌≡◌, refl, sym, ap, ◌∙◌, subst}
-use mathlib.Core.Bool.{Bool, true, false, not, ◌&&◌}
+use mathlib.Core.Bool.{Bool, true, false, ◌&&◌}
 use mathlib.Core.List.{List, [], ◌∷◌, ◌++◌}
-use mathlib.Core.Logic.{inl, inr}
-use Prim.Native.Nat.{ℕ, ◌+◌, ◌-◌, ◌<◌, ◌≤◌}
+use mathlib.Core.Logic.{◌⊎◌, inl, inr, ⊎_elim}
+use Prim.Native.Nat.{ℕ, ◌+◌, ◌-◌, ◌<◌}
 use native.Mathlib.Omega.{arith}
-use lib.Dec.{eqb, ltb}
+use lib.Dec.{ltb}
 use lib.ListN.{length, length-append}
-use borrow.Author.Tests.{eqb-true, eqb-false, ltb-true, ltb-false, not-true, eq-eqb, ne_eqb, lt-ltb, le-ltb}
+use borrow.Author.Tests.{ltb-true, ltb-false}
 use Rattle.protocol.specs.Floor.{Product, Floor}
 use Rattle.protocol.proofs.Tests.{by_test, and_left, and_right, clash}
 use Rattle.view.specs.View.{Lent, floor_in}
@@ -15,7 +15,7 @@ use Rattle.event_answers.specs.Met.{Ready}
 use Rattle.frame_stream.specs.declared.Feed.{Feed}
 use Rattle.frame_stream.specs.declared.Ending.{Ending}
 use Rattle.frame_stream.specs.Stream.{Stream, begin, Turn, after, MayBy, TurnsBy, lines_fill, May, Turns, stream_after}
-use Rattle.frame_stream.specs.Feed.{Inside, stream_of, Made, Finished, RanAll}
+use Rattle.frame_stream.specs.Feed.{state_number, Inside, stream_of, Made, Finished, RanAll}
 use Rattle.frame_stream.proofs.Feeds.{part_length}
 
 -- one turn more
@@ -29,19 +29,19 @@ unfolding stream_after TurnsBy
 turns_more full S [] m made may = (may, made)
 turns_more full S (x ∷ ts) m made may = (made.0, turns_more full (after S x) ts m made.1 may)
 
--- BEFORE EACH TURN: some turns led from the beginning to this stream, and with those that are left they are 2^64 − 1
-pub record Came (P : Product) (F : Floor) (S : Stream) (left : ℕ) : Type 0 where
+-- BEFORE EACH TURN: as many turns as were counted led from the beginning to this stream
+pub record Came (P : Product) (F : Floor) (S : Stream) (made_turns : ℕ) : Type 0 where
   pub turns : List Turn
   pub made : Turns (begin P F) turns
   pub there : S ≡ stream_after (begin P F) turns
-  pub counted : length turns + left ≡ 18446744073709551615
+  pub counted : length turns ≡ made_turns
 
-pub came_first : (P : Product) (F : Floor) → Came P F (begin P F) 18446744073709551615
+pub came_first : (P : Product) (F : Floor) → Came P F (begin P F) 0
 unfolding TurnsBy stream_after
 came_first P F = record { turns = []; made = tt; there = refl; counted = refl }
 
-pub came_next : (P : Product) (F : Floor) (S S' : Stream) (octets : List ℕ) (turns left : ℕ) → Came P F S turns → Made S S' octets → left + 1 ≡ turns → Came P F S' left
-came_next P F S S' octets turns left k m e =
+pub came_next : (P : Product) (F : Floor) (S S' : Stream) (octets : List ℕ) (turns more : ℕ) → Came P F S turns → Made S S' octets → more ≡ turns + 1 → Came P F S' more
+came_next P F S S' octets turns more k m e =
     let ts = k.turns in
     let may : May (stream_after (begin P F) ts) m.turn = subst (λ (X : Stream). May X m.turn) k.there m.may in
     record {
@@ -52,59 +52,48 @@ came_next P F S S' octets turns left k m e =
     }
 
 -- IS ANYTHING MORE TO BE DONE: what the code asks
-abbrev pub going : ℕ → Feed → Bool
-going turns f = not (eqb turns 0) && (ltb f.index 9223372036854775808 && ltb f.state 2)
+abbrev pub going : Feed → Bool
+going f = ltb f.index 9223372036854775808 && ltb (state_number f.state) 2
 
-pub none_left : (turns : ℕ) (f : Feed) → turns ≡ 0 → false ≡ going turns f
-none_left turns f e = rw (eq-eqb turns 0 e) refl
-
-pub too_many : (turns : ℕ) (f : Feed) → (turns ≡ 0 → ⊥) → 9223372036854775808 ≤ f.index → false ≡ going turns f
-too_many turns f n h = rw (ne_eqb turns 0 n, le-ltb f.index 9223372036854775808 h) refl
-
-pub by_state : (turns : ℕ) (f : Feed) → (turns ≡ 0 → ⊥) → f.index < 9223372036854775808 → ltb f.state 2 ≡ going turns f
-by_state turns f n h = rw (ne_eqb turns 0 n, lt-ltb f.index 9223372036854775808 h) refl
-
-pub goes : (turns : ℕ) (f : Feed) (b : Bool) → b ≡ going turns f → b ≡ true → (0 < turns) × (f.index < 9223372036854775808) × (f.state < 2)
-goes turns f b e t =
-    let all : going turns f ≡ true = sym e ∙ t in
-    let one = and_left (not (eqb turns 0)) (ltb f.index 9223372036854775808 && ltb f.state 2) all in
-    let two = and_right (not (eqb turns 0)) (ltb f.index 9223372036854775808 && ltb f.state 2) all in
-    let some = eqb-false turns 0 (not-true (eqb turns 0) one) in (
-      by_zero turns some,
-      ltb-true f.index 9223372036854775808 (and_left (ltb f.index 9223372036854775808) (ltb f.state 2) two),
-      ltb-true f.state 2 (and_right (ltb f.index 9223372036854775808) (ltb f.state 2) two),
+pub goes : (f : Feed) (b : Bool) → b ≡ going f → b ≡ true → (f.index < 9223372036854775808) × (state_number f.state < 2)
+goes f b e t =
+    let both : going f ≡ true = sym e ∙ t in (
+      ltb-true f.index 9223372036854775808 (and_left (ltb f.index 9223372036854775808) (ltb (state_number f.state) 2) both),
+      ltb-true (state_number f.state) 2 (and_right (ltb f.index 9223372036854775808) (ltb (state_number f.state) 2) both),
     )
-  where
-    by_zero : (k : ℕ) → (k ≡ 0 → ⊥) → 0 < k
-    by_zero k n = omega arith
+
+-- a run stops where nothing is to be done, or after the last turn that is counted
+abbrev pub Stopped : ℕ → Feed → Type 0
+Stopped turns f = (turns ≡ 18446744073709551615) ⊎ (going f ≡ false)
 
 -- and where it stops
-finished : (P : Product) (F : Floor) (S : Stream) (turns : ℕ) (f : Feed) (r : Ending) (b : Bool) → Came P F S turns → S.index ≡ f.index → S.state ≡ f.state
-    → length S.left ≡ f.have - f.at → r ≡ record { frames = f.index; state = f.state; left = f.have - f.at } → b ≡ going turns f → b ≡ false → Finished P F r
-finished P F S turns f r b k index state left q e none =
+finished : (P : Product) (F : Floor) (S : Stream) (turns : ℕ) (f : Feed) (r : Ending) → Came P F S turns → S.index ≡ f.index → S.state ≡ state_number f.state
+    → length S.left ≡ f.have - f.at → r ≡ record { frames = f.index; state = f.state; left = f.have - f.at } → Stopped turns f → Finished P F r
+finished P F S turns f r k index state left q stop =
     record {
       turns = k.turns;
       made = k.made;
       frames = ap (λ (o : Ending). o.frames) q ∙ sym index ∙ ap (λ (X : Stream). X.index) k.there;
-      state = ap (λ (o : Ending). o.state) q ∙ sym state ∙ ap (λ (X : Stream). X.state) k.there;
+      state = ap (λ (o : Ending). state_number o.state) q ∙ sym state ∙ ap (λ (X : Stream). X.state) k.there;
       left = ap (λ (o : Ending). o.left) q ∙ sym left ∙ ap (λ (X : Stream). length X.left) k.there;
-      stopped = by_test (ltb f.state 2)
+      stopped = ⊎_elim
+          (λ all. inr (inr (let c = k.counted in omega arith)))
+          (λ none. by_test (ltb (state_number f.state) 2)
           (λ low. by_test (ltb f.index 9223372036854775808)
-          (λ few. by_test (eqb turns 0)
-          (λ z. inr (inr (let t = eqb-true turns 0 z in let c = k.counted in omega arith)))
-          (λ some. clash (going turns f) (let all : going turns f ≡ true = rw (some, few, low) refl in all) (sym e ∙ none)))
+          (λ few. clash (going f) (let both : going f ≡ true = rw (few, low) refl in both) none)
           (λ many. inr (inl (let m = ltb-false f.index 9223372036854775808 many in let w = ap (λ (o : Ending). o.frames) q in omega arith))))
-          (λ high. inl (let m = ltb-false f.state 2 high in let w = ap (λ (o : Ending). o.state) q in omega arith));
+          (λ high. inl (let m = ltb-false (state_number f.state) 2 high in let w = ap (λ (o : Ending). state_number o.state) q in omega arith)))
+          stop;
     }
 
 -- with the floor that the lent parts then say
-pub ran_all : (L L' : Lent) (input : List ℕ) (turns : ℕ) (f : Feed) (r : Ending) (b : Bool) → Ready L' → Inside (length input) f
-    → Came L.product (floor_in L) (stream_of input L' f) turns → r ≡ record { frames = f.index; state = f.state; left = f.have - f.at } → b ≡ going turns f → b ≡ false
+pub ran_all : (L L' : Lent) (input : List ℕ) (turns : ℕ) (f : Feed) (r : Ending) → Ready L' → Inside (length input) f
+    → Came L.product (floor_in L) (stream_of input L' f) turns → r ≡ record { frames = f.index; state = f.state; left = f.have - f.at } → Stopped turns f
     → RanAll L L' r
 unfolding finished
-ran_all L L' input turns f r b ready inside k q e none =
+ran_all L L' input turns f r ready inside k q stop =
     record {
-      finished = finished L.product (floor_in L) (stream_of input L' f) turns f r b k refl refl (part_length input f inside) q e none;
+      finished = finished L.product (floor_in L) (stream_of input L' f) turns f r k refl refl (part_length input f inside) q stop;
       ready = ready;
       floor = ap (λ (X : Stream). X.floor) k.there;
     }

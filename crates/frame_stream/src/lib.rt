@@ -3,19 +3,32 @@
 // and `hand_on`. All the others are about slices and numbers, and what they come to is the written stream (specs/Stream).
 #![tactic(auto)]
 
-ghost use Rattle.std.specs.Prelude.{◌≡◌, false, not, ◌&&◌, [], ◌+◌, ◌^◌, ◌≤◌, ◌<◌, eqb, ltb, pos, negsuc, IfOk, OnErr, length, take};
+ghost use Rattle.std.specs.Prelude.{◌≡◌, false, not, ◌&&◌, [], ◌+◌, ◌^◌, ◌≤◌, ◌<◌, eqb, ltb, IfSome, length, take};
 ghost use Rattle.stations.specs.View.{head_in};
 ghost use Rattle.frame_lines.specs.Lines.{Tabled};
 ghost use Rattle.protocol.specs.Floor.{whole_floor, kit};
 ghost use Rattle.event_answers.specs.Met.{Ready};
 ghost use Rattle.frame_run.specs.CanRun.{CanRun, ByEach};
 ghost use Rattle.view.specs.View.{Lent, lent};
-ghost use Rattle.frame_stream.specs.Stream.{state_after};
-ghost use Rattle.frame_stream.specs.Feed.{Inside, stream_of, Made, got_of, after_read, after_run, RanAll, Streamed};
+ghost use Rattle.frame_stream.specs.declared.State.TheVariants.{Runs, Wants};
+ghost use Rattle.frame_stream.specs.Feed.{state_number, Inside, stream_of, Made, after_read, next_state, after_run, RanAll, Streamed};
 
-use frame_run::Progress;
+use frame_run::{Progress, Stop};
 use products::Bounds;
-use std::io::{Read, Result, Write};
+use std::io::{Read, Write};
+
+// What a stream is to do.
+#[derive(Clone, Copy, Debug, PartialEq, Eq)]
+pub enum State {
+    // A run: more frames may be there.
+    Runs,
+    // A read: more input is wanted.
+    Wants,
+    // Nothing more: the input has ended, or a frame was refused.
+    Over,
+    // Nothing more, for a read failed, or the lines could not be written.
+    Failed,
+}
 
 // The piece of input: the octets up to `at` were run, those up to `have` were read. The index of the next frame; what is to be done; whether the
 // input has ended; and how many octets of the output were handed on in the last turn.
@@ -24,22 +37,10 @@ pub struct Feed {
     pub at: usize,
     pub have: usize,
     pub index: u64,
-    pub state: u64,
+    pub state: State,
     pub last: bool,
     pub handed: usize,
 }
-
-// More frames may be there.
-const RUNS: u64 = 0;
-
-// More input is wanted.
-pub const WANTS: u64 = 1;
-
-// The input has ended, or a frame was refused: nothing more is to be done.
-pub const OVER: u64 = 2;
-
-// A read failed, or the lines could not be written: nothing more can be done.
-pub const FAILED: u64 = 3;
 
 // A run ends after this many frames, which no input has.
 const FRAMES: u64 = 9223372036854775808;
@@ -82,90 +83,59 @@ pub fn no_store() -> [u8; 4096]
     [0; 4096]
 }
 
-// The table of numbers, spelled once for the whole run.
-pub fn all_numbers() -> [u64; 10000]
-    ensures { Tabled result }
-{
-    let mut numbers = [0u64; 10000];
-    frame_lines::spell_all(&mut numbers);
-    numbers
-}
-
-// What a read brought: this many octets, of as many as it was handed to fill; or it failed.
+// What a read brought: this many octets, or none, where it failed; and how many it was handed to fill.
 #[derive(Clone, Copy)]
 struct Got {
-    count: usize,
-    failed: bool,
+    brought: Option<usize>,
     room: usize,
-}
-
-// What a read's answer says, where this part of the piece was handed over.
-fn got_of(answer: isize, rest: &[u8]) -> Got
-    ensures { result ≡ got_of answer (length rest.now) }
-{
-    Got {
-        count: io::count(answer, rest),
-        failed: answer < 0,
-        room: rest.len(),
-    }
-}
-
-// A read's answer as one number: how many octets it brought, and a negative one where it failed.
-fn answer_of(answer: Result<usize>) -> isize
-    ensures brought { IfOk answer (λ n. n < 2 ^ 63 → result ≡ pos n) }
-    ensures failed { OnErr answer (result ≡ negsuc 0) }
-{
-    match answer {
-        Ok(count) => count.cast_signed(),
-        Err(_) => -1,
-    }
 }
 
 // One read, into the rest of the piece.
 fn read<R: Read>(from: &mut R, rest: &mut [u8]) -> Got
-    ensures room_value { (result.room ≡ length rest.old) × (result.count ≤ result.room) }
-    ensures rest_len_unchanged { length rest.new ≡ length rest.old }
+    ensures { (result.room ≡ length rest.old) × IfSome result.brought (λ n. n ≤ result.room) }
 {
-    let answer = answer_of(from.read(rest));
-    got_of(answer, rest)
+    let brought = from.read(rest).ok();
+    Got {
+        brought,
+        room: rest.len(),
+    }
 }
 
 // The piece, of `size` octets, after a read that was handed all of it behind what was kept. At the end of the input a read brings nothing.
 fn after_read(size: usize, kept: usize, got: Got, f: Feed) -> Feed
-    requires { (kept + got.room ≡ size) × (kept < size) × (got.count ≤ got.room) }
-    ensures { result ≡ after_read kept got f }
+    requires { (kept + got.room ≡ size) × (kept < size) × IfSome got.brought (λ n. n ≤ got.room) }
+    ensures { result ≡ after_read kept got.brought f }
 {
-    if got.failed {
+    let Some(count) = got.brought else {
         return Feed {
             at: 0,
             have: kept,
             index: f.index,
-            state: FAILED,
+            state: State::Failed,
             last: f.last,
             handed: 0,
         };
-    }
-    let have = kept + got.count;
+    };
     Feed {
         at: 0,
-        have,
+        have: kept + count,
         index: f.index,
-        state: RUNS,
-        last: got.count == 0,
+        state: State::Runs,
+        last: count == 0,
         handed: 0,
     }
 }
 
 // More input behind what is not run yet.
 pub fn more<R: Read>(from: &mut R, input: &mut [u8], f: Feed) -> Feed
-    requires { Inside (length input.old) f × (f.state ≡ 1) × (length input.old ≡ 65536) }
+    requires { Inside (length input.old) f × (f.state ≡ Wants) × (length input.old ≡ 65536) }
     ensures inside { Inside (length input.new) result × ((L : Lent) → Made (stream_of input.old L f) (stream_of input.new L result) []) × (result.handed ≡ 0) }
     ensures input_len_unchanged { length input.new ≡ length input.old }
 {
     let kept = frames::keep(input, f.at, f.have);
-    let end = input.len();
-    let got = read(from, &mut input[kept..end]);
-    after_read(end, kept, got, f)
+    let size = input.len();
+    let got = read(from, &mut input[kept..]);
+    after_read(size, kept, got, f)
 }
 
 // The lines that were handed on to be written: how many octets, and whether all of them were taken.
@@ -187,22 +157,17 @@ pub fn hand_on<W: Write>(to: &mut W, lines: &[u8]) -> Handed
 }
 
 // What is to be done after a piece was run: nothing once the lines could not be written, a frame was refused, or the input has ended.
-fn state_after(why: u64, last: bool, accepted: bool) -> u64
-    ensures { result ≡ state_after why last accepted }
+fn state_after(why: Stop, last: bool, accepted: bool) -> State
+    ensures { result ≡ next_state why last accepted }
 {
     if !accepted {
-        return FAILED;
+        return State::Failed;
     }
-    if why == frame_run::ENDED {
-        return OVER;
+    match why {
+        Stop::Ended => State::Over,
+        Stop::Full => State::Runs,
+        Stop::Waits => { if last { State::Over } else { State::Wants } }
     }
-    if why == frame_run::FULL {
-        return RUNS;
-    }
-    if last {
-        return OVER;
-    }
-    WANTS
 }
 
 // The piece after frames of it were run and their lines were handed on.
@@ -238,7 +203,7 @@ fn run_piece<W: Write>(
     f: Feed,
 ) -> Feed
     requires can_run { CanRun bounds (λ P. lent P stations.old carts.old messages.old lines.old texts.old store.old) × Tabled numbers.now }
-    requires inside { Inside (length input.now) f × (f.state ≡ 0) × (f.index < 9223372036854775808) × (length input.now ≡ 65536) × (length output.old ≡ 65536) }
+    requires inside { Inside (length input.now) f × (f.state ≡ Runs) × (f.index < 9223372036854775808) × (length input.now ≡ 65536) × (length output.old ≡ 65536) }
     ensures by_each { ByEach bounds (λ P. lent P stations.old carts.old messages.old lines.old texts.old store.old) (λ P. lent P stations.new carts.new messages.new lines.new texts.new store.new) (λ L L'. Ready L' × Made (stream_of input.now L f) (stream_of input.now L' result) (take result.handed output.new)) }
     ensures inside_2 { Inside (length input.now) result }
     ensures output_len_unchanged { length output.new ≡ length output.old }
@@ -281,39 +246,35 @@ fn turn<R: Read, W: Write>(
     f: Feed,
 ) -> Feed
     requires can_run { CanRun bounds (λ P. lent P stations.old carts.old messages.old lines.old texts.old store.old) × Tabled numbers.now }
-    requires inside { Inside (length input.old) f × (f.state < 2) × (f.index < 9223372036854775808) × (length input.old ≡ 65536) × (length output.old ≡ 65536) }
+    requires inside { Inside (length input.old) f × (state_number f.state < 2) × (f.index < 9223372036854775808) × (length input.old ≡ 65536) × (length output.old ≡ 65536) }
     ensures by_each { ByEach bounds (λ P. lent P stations.old carts.old messages.old lines.old texts.old store.old) (λ P. lent P stations.new carts.new messages.new lines.new texts.new store.new) (λ L L'. Ready L' × Made (stream_of input.old L f) (stream_of input.new L' result) (take result.handed output.new)) }
     ensures inside_2 { Inside (length input.new) result }
     ensures input_len_unchanged { (length input.new ≡ length input.old) × (length output.new ≡ length output.old) }
 {
-    if f.state == WANTS {
-        return more(from, input, f);
+    match f.state {
+        State::Wants => more(from, input, f),
+        _ => run_piece(
+            to, input, output, stations, carts, messages, lines, texts, store, bounds, numbers, f,
+        ),
     }
-    run_piece(
-        to, input, output, stations, carts, messages, lines, texts, store, bounds, numbers, f,
-    )
 }
 
-// Is there anything more to be done? A proved loop has to end, and nothing says that the input does: so turns are counted down from a number
-// that no run uses up.
-pub fn goes_on(turns: u64, f: Feed) -> bool
-    ensures { result ≡ (not (eqb turns 0) && (ltb f.index 9223372036854775808 && ltb f.state 2)) }
+// Is there anything more to be done?
+pub fn goes_on(f: Feed) -> bool
+    ensures { result ≡ (ltb f.index 9223372036854775808 && ltb (state_number f.state) 2) }
 {
-    if turns == 0 {
-        return false;
+    match f.state {
+        State::Runs | State::Wants => f.index < FRAMES,
+        State::Over | State::Failed => false,
     }
-    if FRAMES <= f.index {
-        return false;
-    }
-    f.state < OVER
 }
 
-// How a run came out: how many frames there were, the refused one among them, whether it is `OVER` or `FAILED`, and how many octets were read and
-// not run. An `OVER` run has none left at the end of its input, and some where a frame was refused.
+// How a run came out: how many frames there were, the refused one among them, whether it is `Over` or `Failed`, and how many octets were read and
+// not run. An `Over` run has none left at the end of its input, and some where a frame was refused.
 #[derive(Clone, Copy)]
 pub struct Ending {
     pub frames: u64,
-    pub state: u64,
+    pub state: State,
     pub left: usize,
 }
 
@@ -339,13 +300,15 @@ pub fn run_all<R: Read, W: Write>(
         at: 0,
         have: 0,
         index: 0,
-        state: WANTS,
+        state: State::Wants,
         last: false,
         handed: 0,
     };
-    let mut turns = u64::MAX;
-    while goes_on(turns, f) {
-        turns -= 1;
+    // A proved loop has to end, and nothing says that the input does: so turns are counted, up to a number that no run comes to.
+    for made in 0..u64::MAX {
+        if !goes_on(f) {
+            break;
+        }
         f = turn(
             from, to, input, output, stations, carts, messages, lines, texts, store, bounds,
             numbers, f,
@@ -376,7 +339,7 @@ pub fn run_over<R: Read, W: Write>(
 {
     let mut input = io::large_buffer();
     let mut output = io::large_buffer();
-    let numbers = all_numbers();
+    let numbers = frame_run::all_numbers();
     run_all(
         from,
         to,

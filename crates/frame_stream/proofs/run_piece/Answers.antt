@@ -1,8 +1,9 @@
 -- `frame_stream::run_piece` meets its contract.
-use mathlib.Core.Path.{sym, ◌∙◌}
+use mathlib.Core.Path.{sym, ap, ◌∙◌}
 use native.Mathlib.Omega.{arith}
 use lib.Seq.{length-take-le}
 use Rattle.view.specs.View.{lent}
+use Rattle.frame_stream.specs.Feed.{state_number}
 use Rattle.frame_stream.proofs.Feeds.{part_length, run_made, run_inside}
 use Rattle.frame_stream.proofs.run_piece.Goals as goal
 
@@ -43,9 +44,9 @@ returns g c =
     let w = t.ensures in
     let h = c.hand_on-handed in
     let size = h.ensures ∙ length-take-le _ t.new.output (let u = w q.0 q.1 q.2 in omega (arith, u.within, u.kept)) in
-    let i = run_inside a.input.now (lent q.0 a.stations.now a.carts.now a.messages.now a.lines.now a.texts.now a.store.now) _ a.output.now _ a.f c.after_run.result t.result h.result c.requires.inside.0 c.requires.inside.1 c.requires.inside.4 (w q.0 q.1 q.2) size c.after_run.ensures in
+    let i = run_inside a.input.now (lent q.0 a.stations.now a.carts.now a.messages.now a.lines.now a.texts.now a.store.now) _ a.output.now _ a.f c.after_run.result t.result h.result c.requires.inside.0 (ap state_number c.requires.inside.1) c.requires.inside.4 (w q.0 q.1 q.2) size c.after_run.ensures in
     record {
-      by_each = λ P n R. ((w P n R).ready, run_made a.input.now (lent P a.stations.now a.carts.now a.messages.now a.lines.now a.texts.now a.store.now) _ a.output.now _ a.f c.after_run.result t.result h.result c.requires.inside.0 c.requires.inside.1 c.requires.inside.4 (w P n R) size c.after_run.ensures);
+      by_each = λ P n R. ((w P n R).ready, run_made a.input.now (lent P a.stations.now a.carts.now a.messages.now a.lines.now a.texts.now a.store.now) _ a.output.now _ a.f c.after_run.result t.result h.result c.requires.inside.0 (ap state_number c.requires.inside.1) c.requires.inside.4 (w P n R) size c.after_run.ensures);
       inside_2 = i;
       output_len_unchanged = (w q.0 q.1 q.2).kept;
     }

@@ -1,12 +1,11 @@
 -- `frame_stream::turn` meets its contract.
 use mathlib.Core.Path.{refl}
-use native.Mathlib.Omega.{arith}
 use Rattle.view.specs.View.{lent}
-use Rattle.frame_stream.proofs.Feeds.{no_lines}
+use Rattle.frame_stream.proofs.Feeds.{no_lines, runs_else}
 use Rattle.frame_stream.proofs.turn.Goals as goal
 
-pub returns-then-f-eq-WANTS : goal.returns-then-f-eq-WANTS
-returns-then-f-eq-WANTS g c =
+pub returns-in-Wants : goal.returns-in-Wants
+returns-in-Wants g c =
     let a = c.args in
     let m = c.more.ensures in
     record {
@@ -20,11 +19,11 @@ run_piece-requires g c =
     let p = c.requires.inside in
     record {
       can_run = c.requires.can_run;
-      inside = (p.0, omega (arith, p.1, c.if-f-eq-WANTS.false), p.2, p.3, p.4);
+      inside = (p.0, runs_else c.args.f.state p.1 c.in_default.not-Wants, p.2, p.3, p.4);
     }
 
-pub returns : goal.returns
-returns g c =
+pub returns-in_default : goal.returns-in_default
+returns-in_default g c =
     let r = c.run_piece.ensures in
     record {
       by_each = r.by_each;
