@@ -1,18 +1,23 @@
 -- THE ROOMS WHOSE WORDS PASS A TEST: looked at from the last one down, and those of them that count.
 use mathlib.Core.Path.{◌≡◌, refl, sym, ap, ap₂, ◌∙◌, fun_ext}
-use mathlib.Core.Bool.{Bool, true, false, cond, ◌&&◌}
+use mathlib.Core.Bool.{Bool, true, false, cond, not, ◌&&◌, ◌||◌}
 use mathlib.Core.List.{List}
 use Prim.Native.Nat.{ℕ, suc, ◌+◌, ◌-◌, ◌*◌, ◌^◌, ◌≤◌, ◌<◌}
 use native.Mathlib.Omega.{arith}
+use lib.Dec.{eqb, ltb}
+use lib.ListN.{get_or}
 use lib.Bits.{bit_and, and_le_l, and_zero_r}
 use lib.Pow.{pow_mono}
-use Rattle.protocol.specs.CartSets.{digit, has, set_of}
-use Rattle.protocol.proofs.Tests.{by_test, by_lt, and-false}
-use Rattle.protocol.proofs.SetLaws.{has_zero, has_set_of, set_of_lt, no_member, same_members}
-use Rattle.sets.proofs.MaskLaws.{digit_is, set_of_low, has_and}
+use Rattle.protocol.specs.CartSets.{has, with, set_of}
+use Rattle.protocol.proofs.Tests.{by_test, by_lt, by_eq, clash, and-false, every_all}
+use Rattle.protocol.proofs.SetLaws.{has_zero, has_with, has_set_of, set_of_lt, no_member, same_members}
+use Rattle.sets.proofs.MaskLaws.{set_of_low, has_and, disjoint_has, with_here}
+use Rattle.sets.specs.Masks.{disjoint}
+use borrow.Author.Tests.{ne_eqb}
+use Rattle.rows.proofs.RowLaws.{cell_read, cell_beyond}
 use Rattle.rows.proofs.ColumnLaws.{column_read}
 use Rattle.rows.specs.Rows.{column}
-use Rattle.stations.specs.View.{rooms, copy_at, copies_at, counted, station_word, word_names}
+use Rattle.stations.specs.View.{rooms, copy_at, acks_at, copies_at, counted, station_word, stations_of, meets, some_in, rooms_meeting, naming_in, listing_in}
 
 -- of the first n rooms, those from m on that pass, counted from m
 module _ (n : ℕ) (f : ℕ → Bool) where
@@ -56,9 +61,35 @@ module _ (n : ℕ) (f : ℕ → Bool) where
       one_more : suc (n - m) ≡ n - (m - 1)
       one_more = omega arith
 
--- the digit of a copy's word for a cart
-pub word_digit : (l : List ℕ) (t c m w : ℕ) → w ≡ station_word l t (copy_at m) → digit w c ≡ cond (word_names l t c m) 1 0
-word_digit l t c m w e = ap (λ (x : ℕ). digit x c) e ∙ digit_is (station_word l t (copy_at m)) c
+-- A WORD THAT HAS ONE OF THE CARTS: an empty one has none
+pub meets_nothing : (carts : ℕ) → meets carts 0 ≡ false
+unfolding disjoint
+meets_nothing carts = ap not (every_all 64 (λ d. not (has 0 d && has carts d)) (λ d l. rw (has_zero d) refl))
+
+-- one of a cart alone: that cart
+pub meets_one : (c word : ℕ) → c < 64 → meets (with 0 c) word ≡ has word c
+unfolding disjoint
+meets_one c word l =
+    by_test (has word c)
+    (λ h. by_test (disjoint 64 word (with 0 c)) (λ e. clash (has (with 0 c) c) (with_here 0 c) (disjoint_has 64 word (with 0 c) e c l h)) (λ e. rw (e, h) refl))
+    (λ h. rw h (ap not (every_all 64 (λ d. not (has word d && has (with 0 c) d)) (λ d k. by_eq c d
+    (λ e. rw (← e, h) refl)
+    (λ e. rw (has_with 0 c d ∙ ap (λ (b : Bool). b || eqb c d) (has_zero d) ∙ ne_eqb c d e, and-false (has word d)) refl)))))
+
+-- one of all carts: any
+pub meets_any : (word : ℕ) → word < 2 ^ 64 → meets (set_of 64 (λ c. true)) word ≡ some_in word
+meets_any word small =
+    by_eq word 0
+    (λ z. rw z (meets_nothing (set_of 64 (λ c. true))))
+    (λ n. rw (ne_eqb word 0 n) (by_test (disjoint 64 word (set_of 64 (λ c. true)))
+    (λ e. absurd (n (same_members 64 word 0 small (omega arith) (λ c l. none e c l ∙ sym (has_zero c)))))
+    (λ e. ap not e)))
+  where
+    none : disjoint 64 word (set_of 64 (λ c. true)) ≡ true → (c : ℕ) → c < 64 → has word c ≡ false
+    none e c l =
+        by_test (has word c)
+        (λ h. clash (has (set_of 64 (λ d. true)) c) (has_set_of 64 (λ d. true) c l) (disjoint_has 64 word (set_of 64 (λ d. true)) e c l h))
+        (λ h. h)
 
 -- the rooms whose words count and pass, where no empty word passes
 module _ (l : List ℕ) (t : ℕ) (pos : ℕ → ℕ) (p : ℕ → Bool) (empty : p 0 ≡ false) where
@@ -99,3 +130,23 @@ module _ (l : List ℕ) (t : ℕ) (pos : ℕ → ℕ) (p : ℕ → Bool) (empty 
 
   pub counting_all : (x y : ℕ) → x ≡ set_of rooms word_passes → y ≡ station_word l t copies_at → bit_and x y ≡ set_of rooms count_passes
   counting_all x y ex ey = counting rooms x y (omega arith) ex ey (λ k a b. absurd (omega arith))
+
+-- THE ROOMS WHOSE COPIES NAME A CART, and those with an ack list
+pub naming_is : (l : List ℕ) (t c : ℕ) → c < 64 → rooms_meeting l t 18 (with 0 c) ≡ naming_in (stations_of (station_word l)) t c
+naming_is l t c h = ap (set_of rooms) (fun_ext (λ m. meets_one c (counted (station_word l t copies_at) m (column rooms copy_at (station_word l) t m)) h))
+
+pub listing_is : (l : List ℕ) (t : ℕ) → ((i : ℕ) → get_or l i 0 < 2 ^ 64) → rooms_meeting l t 19 (set_of 64 (λ c. true)) ≡ listing_in (stations_of (station_word l)) t
+unfolding column
+listing_is l t fits = ap (set_of rooms) (fun_ext (λ m. meets_any (counted (station_word l t copies_at) m (column rooms acks_at (station_word l) t m)) (small m)))
+  where
+    word_small : (k : ℕ) → station_word l t k < 2 ^ 64
+    word_small k =
+        by_lt k 116
+        (λ h. let z = fits ((1 + t) * 116 + k) in let e = cell_read 116 l (1 + t) k ((1 + t) * 116 + k) h refl in omega arith)
+        (λ h. let e = cell_beyond 116 l (1 + t) k h in omega arith)
+
+    column_small : (m : ℕ) → column rooms acks_at (station_word l) t m < 2 ^ 64
+    column_small m = by_test (ltb m rooms) (λ e. rw e (word_small (acks_at m))) (λ e. rw e (omega arith))
+
+    small : (m : ℕ) → counted (station_word l t copies_at) m (column rooms acks_at (station_word l) t m) < 2 ^ 64
+    small m = by_test (has (station_word l t copies_at) m) (λ e. rw e (column_small m)) (λ e. rw e (omega arith))

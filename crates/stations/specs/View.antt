@@ -1,6 +1,7 @@
 -- THE STATIONS THAT A LENT TABLE HOLDS, and the stations with one entry changed.
 use Rattle.std.specs.Prelude.{◌≡◌, Bool, not, cond, List, ℕ, ◌+◌, ◌*◌, eqb, length}
 use Rattle.protocol.specs.CartSets.{has, with, without, set_of}
+use Rattle.sets.specs.Masks.{disjoint}
 use Rattle.protocol.specs.Folds.{update, update2}
 use Rattle.protocol.specs.Groups.{group_count}
 use Rattle.rows.specs.Rows.{cell, column, RowIn}
@@ -130,16 +131,21 @@ stations_in words = stations_of (station_word words)
 abbrev pub entries_in : List ℕ → ℕ → ℕ
 entries_in words t = set_of rooms (has (station_word words t entries_at))
 
--- does the word of room m at t name cart c, whether it counts or not
-abbrev pub word_names : List ℕ → ℕ → ℕ → ℕ → Bool
-word_names l t c m = has (station_word l t (copy_at m)) c
+-- has a word one of the carts
+abbrev pub meets : ℕ → ℕ → Bool
+meets carts word = not (disjoint 64 word carts)
 
--- is there a cart in a word; and in that of room m's ack list at t, whether it counts or not
+-- has that of room m in a place, whether it counts or not
+abbrev pub word_meets : List ℕ → ℕ → ℕ → ℕ → ℕ → Bool
+word_meets l t place carts m = meets carts (station_word l t (place + 3 * m))
+
+-- the rooms whose words in that place count and have one
+abbrev pub rooms_meeting : List ℕ → ℕ → ℕ → ℕ → ℕ
+rooms_meeting l t place carts = set_of rooms (λ m. meets carts (counted (station_word l t copies_at) m (column rooms (λ k. place + 3 * k) (station_word l) t m)))
+
+-- is there a cart in a word
 abbrev pub some_in : ℕ → Bool
 some_in word = not (eqb word 0)
-
-abbrev pub word_lists : List ℕ → ℕ → ℕ → Bool
-word_lists l t m = some_in (station_word l t (acks_at m))
 
 -- the rooms whose copies at t name cart c
 abbrev pub naming_in : Stations → ℕ → ℕ → ℕ

@@ -1,11 +1,11 @@
 // The stations: everything that a station keeps, and the floor's own mark and counts, in one lent table of words.
 #![tactic(auto)]
 
-ghost use Rattle.std.specs.Prelude.{◌≡◌, ℕ, ◌<◌, ◌≤◌, cond, eqb, length, get_or};
+ghost use Rattle.std.specs.Prelude.{◌≡◌, ℕ, ◌<◌, ◌≤◌, eqb, length, get_or};
 ghost use Rattle.protocol.specs.CartSets.{has, set_of};
 ghost use Rattle.protocol.specs.Folds.{update2};
 ghost use Rattle.protocol.specs.Groups.{group_count};
-ghost use Rattle.stations.specs.View.{width, initiators, rooms, HasHead, HasStation, counted_with, entries_in, word_names, word_lists, naming_in, listing_in, some_in, station_word, head, no_groups, head_in, with_group, groups_without, stations_in, no_stations, with_sent, with_expected, with_local, with_copy, with_acks, with_room, with_queue, Leaves};
+ghost use Rattle.stations.specs.View.{width, initiators, rooms, HasHead, HasStation, counted_with, entries_in, word_meets, rooms_meeting, naming_in, listing_in, station_word, head, no_groups, head_in, with_group, groups_without, stations_in, no_stations, with_sent, with_expected, with_local, with_copy, with_acks, with_room, with_queue, Leaves};
 
 use ids::{CartNumber, Station};
 
@@ -235,70 +235,49 @@ pub fn copy_of(stations: &[u64], m: usize, station: Station) -> u64
     word_of(stations, station, COPY + ROOM * m)
 }
 
-// The first rooms, so many, whose words name the cart, whether these count or not: from the last one down, so that no branch asks.
-fn words_naming(stations: &[u64], station: Station, cart: CartNumber, n: usize) -> u64
-    requires { HasStation stations.now station.0 × (cart.0 < 64) × (n ≤ rooms) }
-    ensures { result ≡ set_of n (word_names stations.now station.0 cart.0) }
+// The first rooms, so many, whose words in that place have one of the carts, whether these count or not: from the last one down, so that no branch asks.
+fn words_with(stations: &[u64], station: Station, place: usize, carts: u64, n: usize) -> u64
+    requires { HasStation stations.now station.0 × (place < 21) × (n ≤ rooms) }
+    ensures { result ≡ set_of n (word_meets stations.now station.0 place carts) }
 {
-    let mut naming: u64 = 0;
-    let mut m = n;
-    while 0 < m {
-        m -= 1;
-        naming = naming * 2 + (word_of(stations, station, COPY + ROOM * m) >> cart.0) % 2;
+    let mut found: u64 = 0;
+    for m in (0..n).rev() {
+        let word = word_of(stations, station, place + ROOM * m);
+        found = found * 2 + u64::from(!sets::is_disjoint(word, carts));
     }
-    naming
+    found
 }
 
-// The rooms whose copies at the station name the cart. Where a copy counts, all are looked at, or the first half where none behind them counts, and
-// those that do not count are left out at the end. Messages take the first free room, so mostly the first half is enough.
-pub fn rooms_naming(stations: &[u64], station: Station, cart: CartNumber) -> u64
-    requires { HasStation stations.now station.0 × (cart.0 < 64) }
-    ensures { result ≡ naming_in (stations_in stations.now) station.0 cart.0 }
+// The rooms whose words in that place count and have one of the carts. Where a copy counts, all are looked at, or the first half where none behind them
+// counts, and those that do not count are left out at the end. Messages take the first free room, so mostly the first half is enough.
+fn rooms_with(stations: &[u64], station: Station, place: usize, carts: u64) -> u64
+    requires { HasStation stations.now station.0 × (place < 21) }
+    ensures { result ≡ rooms_meeting stations.now station.0 place carts }
 {
     let copies = word_of(stations, station, COPIES);
     if copies == 0 {
         return 0;
     }
     if copies < PAST_HALF {
-        return words_naming(stations, station, cart, HALF) & copies;
+        return words_with(stations, station, place, carts, HALF) & copies;
     }
-    words_naming(stations, station, cart, products::ROOMS) & copies
+    words_with(stations, station, place, carts, products::ROOMS) & copies
 }
 
-// 1 where the word is not empty.
-fn one_if_any(word: u64) -> u64
-    ensures { result ≡ cond (some_in word) 1 0 }
+// The rooms whose copies at the station name the cart.
+pub fn rooms_naming(stations: &[u64], station: Station, cart: CartNumber) -> u64
+    requires { HasStation stations.now station.0 × (cart.0 < 64) }
+    ensures { result ≡ naming_in (stations_in stations.now) station.0 cart.0 }
 {
-    if word != 0 { 1 } else { 0 }
+    rooms_with(stations, station, COPY, sets::with_member(0, cart.0))
 }
 
-// The first rooms, so many, whose words for an ack list are not empty, whether these count or not.
-fn words_listing(stations: &[u64], station: Station, n: usize) -> u64
-    requires { HasStation stations.now station.0 × (n ≤ rooms) }
-    ensures { result ≡ set_of n (word_lists stations.now station.0) }
-{
-    let mut listing: u64 = 0;
-    let mut m = n;
-    while 0 < m {
-        m -= 1;
-        listing = listing * 2 + one_if_any(word_of(stations, station, ACKS + ROOM * m));
-    }
-    listing
-}
-
-// The rooms with an ack list at the station, looked for as those are whose copies name a cart.
+// The rooms with an ack list at the station: one of any carts.
 pub fn rooms_listing(stations: &[u64], station: Station) -> u64
     requires { HasStation stations.now station.0 }
     ensures { result ≡ listing_in (stations_in stations.now) station.0 }
 {
-    let counted = word_of(stations, station, COPIES);
-    if counted == 0 {
-        return 0;
-    }
-    if counted < PAST_HALF {
-        return words_listing(stations, station, HALF) & counted;
-    }
-    words_listing(stations, station, products::ROOMS) & counted
+    rooms_with(stations, station, ACKS, sets::all_below(64))
 }
 
 // "the station's ack list for the message" in room m. Whether there is one yet cannot be guessed: its word is read first, and then chosen without a

@@ -1,8 +1,7 @@
 -- `stations::acks_of` meets its contract.
-use mathlib.Core.Path.{ap, ◌∙◌}
+use mathlib.Core.Path.{ap}
 use mathlib.Core.Bool.{not}
 use native.Mathlib.Omega.{arith}
-use borrow.Author.Rules.{rules}
 use Rattle.stations.specs.View.{acks_at, copies_at, stations_in, station_word}
 use Rattle.stations.proofs.TableLaws.{is_counted, is_not_counted}
 use Rattle.stations.proofs.acks_of.Goals as goal

@@ -1,5 +1,4 @@
 -- `stations::cart_count` meets its contract.
-use borrow.Author.Rules.{rules}
 use Rattle.stations.specs.View.{head_in}
 use Rattle.stations.proofs.cart_count.Goals as goal
 

@@ -1,5 +1,4 @@
 -- `stations::clear_stations` meets its contract.
-use borrow.Author.Rules.{rules}
 use Rattle.stations.proofs.TableLaws.{no_stations_lem, no_head}
 use Rattle.stations.proofs.clear_stations.Goals as goal
 

@@ -1,6 +1,5 @@
 -- `stations::copy_of` meets its contract.
 use native.Mathlib.Omega.{arith}
-use borrow.Author.Rules.{rules}
 use Rattle.stations.specs.View.{copy_at, copies_at, stations_in, station_word}
 use Rattle.stations.proofs.TableLaws.{is_counted, is_not_counted}
 use mathlib.Core.Bool.{not}

@@ -1,5 +1,4 @@
 -- `stations::counted_with` meets its contract.
-use borrow.Author.Rules.{rules}
 use borrow.Author.Tests.{eq-eqb, ne_eqb}
 use Rattle.stations.proofs.counted_with.Goals as goal
 

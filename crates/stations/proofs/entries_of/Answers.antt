@@ -1,7 +1,6 @@
 -- `stations::entries_of` meets its contract.
 use mathlib.Core.Path.{◌∙◌, ap}
 use Prim.Native.Nat.{ℕ}
-use borrow.Author.Rules.{rules}
 use Rattle.protocol.specs.CartSets.{has, set_of}
 use Rattle.stations.specs.View.{rooms}
 use Rattle.stations.proofs.entries_of.Goals as goal

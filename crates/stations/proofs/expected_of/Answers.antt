@@ -1,7 +1,6 @@
 -- `stations::expected_of` meets its contract.
 use mathlib.Core.Path.{◌∙◌}
 use native.Mathlib.Omega.{arith}
-use borrow.Author.Rules.{rules}
 use Rattle.rows.proofs.ColumnLaws.{column_read}
 use Rattle.stations.specs.View.{initiators, expected_at, stations_in, station_word}
 use Rattle.stations.proofs.expected_of.Goals as goal

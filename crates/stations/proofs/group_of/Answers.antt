@@ -1,7 +1,6 @@
 -- `stations::group_of` meets its contract.
 use mathlib.Core.Path.{◌∙◌}
 use native.Mathlib.Omega.{arith}
-use borrow.Author.Rules.{rules}
 use Rattle.stations.proofs.TableLaws.{group_read}
 use Rattle.stations.proofs.group_of.Goals as goal
 

@@ -1,11 +1,7 @@
-use mathlib.Core.Path.{◌≡◌, refl, ◌∙◌}
-use Prim.Native.Nat.{◌-◌, ◌≤◌}
+use mathlib.Core.Path.{refl, ◌∙◌}
 use native.Mathlib.Omega.{arith}
-use lib.ListN.{length}
-use borrow.Author.Rules.{rules}
-use Rattle.protocol.specs.Groups.{group_count}
-use Rattle.stations.specs.View.{head_in, stations_in}
-use Rattle.stations.proofs.GroupLaws.{left_to, left_none, left_one, left_all}
+use Rattle.stations.specs.View.{head_in}
+use Rattle.stations.proofs.GroupLaws.{left_none, left_one, left_all}
 use Rattle.stations.proofs.leave_groups.Goals as goal
 
 pub loop-group-init : goal.loop-group-init

@@ -1,12 +1,10 @@
 -- `stations::leave_groups` meets its contract. The invariant: the cart is in none of the groups passed.
-use mathlib.Core.Path.{◌≡◌, refl, ◌∙◌}
-use Prim.Native.Nat.{◌-◌, ◌≤◌}
-use native.Mathlib.Omega.{arith}
+use mathlib.Core.Path.{◌≡◌}
+use Prim.Native.Nat.{◌≤◌}
 use lib.ListN.{length}
-use borrow.Author.Rules.{rules}
 use Rattle.protocol.specs.Groups.{group_count}
 use Rattle.stations.specs.View.{head_in, stations_in}
-use Rattle.stations.proofs.GroupLaws.{left_to, left_none, left_one, left_all}
+use Rattle.stations.proofs.GroupLaws.{left_to}
 use Rattle.stations.proofs.leave_groups.Given as goal
 
 abbrev pub invariant-loop-group : goal.invariant-loop-group

@@ -1,5 +1,4 @@
 -- `stations::local_of` meets its contract.
-use borrow.Author.Rules.{rules}
 use Rattle.stations.specs.View.{stations_in}
 use Rattle.stations.proofs.local_of.Goals as goal
 

@@ -1,5 +1,4 @@
 -- `stations::mark_of` meets its contract.
-use borrow.Author.Rules.{rules}
 use Rattle.stations.specs.View.{head_in}
 use Rattle.stations.proofs.mark_of.Goals as goal
 

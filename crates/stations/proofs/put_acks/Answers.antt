@@ -1,7 +1,6 @@
 -- `stations::put_acks` meets its contract.
 use mathlib.Core.Path.{ap, ◌∙◌}
 use Prim.Native.Nat.{ℕ}
-use borrow.Author.Rules.{rules}
 use Rattle.stations.specs.View.{stations_in, with_room}
 use Rattle.stations.proofs.TableLaws.{copy_stays}
 use Rattle.stations.proofs.put_acks.Goals as goal

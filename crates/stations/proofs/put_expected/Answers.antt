@@ -1,7 +1,6 @@
 -- `stations::put_expected` meets its contract.
 use mathlib.Core.Path.{ap, ◌∙◌}
 use native.Mathlib.Omega.{arith}
-use borrow.Author.Rules.{rules}
 use Rattle.stations.specs.View.{stations_of, stations_in, station_word}
 use Rattle.stations.proofs.TableLaws.{expected_put}
 use Rattle.stations.proofs.put_expected.Goals as goal

@@ -1,6 +1,5 @@
 -- `stations::put_group` meets its contract.
 use native.Mathlib.Omega.{arith}
-use borrow.Author.Rules.{rules}
 use Rattle.stations.specs.View.{group_at}
 use Rattle.stations.proofs.TableLaws.{group_put, stations_kept}
 use Rattle.stations.proofs.put_group.Goals as goal

@@ -1,6 +1,5 @@
 -- `stations::put_head` meets its contract.
 use mathlib.Core.Path.{◌∙◌}
-use borrow.Author.Rules.{rules}
 use Rattle.stations.proofs.TableLaws.{head_put, stations_kept}
 use Rattle.stations.proofs.put_head.Goals as goal
 

@@ -2,7 +2,6 @@
 use mathlib.Core.Path.{ap, ◌∙◌}
 use Prim.Native.Nat.{ℕ}
 use native.Mathlib.Omega.{arith}
-use borrow.Author.Rules.{rules}
 use Rattle.protocol.specs.Folds.{update2}
 use Rattle.stations.specs.View.{queue_at, entries_at, counted_with, stations_of, stations_in, station_word}
 use Rattle.stations.proofs.TableLaws.{queue_put}

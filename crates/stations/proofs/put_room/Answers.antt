@@ -3,7 +3,6 @@ use mathlib.Core.Path.{ap, ◌∙◌}
 use Prim.Native.Nat.{ℕ}
 use native.Mathlib.Omega.{arith}
 use lib.Bits.{bit_or}
-use borrow.Author.Rules.{rules}
 use Rattle.protocol.specs.Folds.{update2}
 use Rattle.stations.specs.View.{copy_at, acks_at, copies_at, counted_with, stations_of, stations_in, station_word}
 use Rattle.stations.proofs.TableLaws.{room_put}

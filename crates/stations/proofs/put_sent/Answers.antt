@@ -1,6 +1,5 @@
 -- `stations::put_sent` meets its contract.
 use mathlib.Core.Path.{ap, ◌∙◌}
-use borrow.Author.Rules.{rules}
 use Rattle.stations.specs.View.{stations_of, stations_in, station_word}
 use Rattle.stations.proofs.TableLaws.{sent_put}
 use Rattle.stations.proofs.put_sent.Goals as goal

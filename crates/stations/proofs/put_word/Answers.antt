@@ -1,5 +1,4 @@
 -- `stations::put_word` meets its contract.
-use borrow.Author.Rules.{rules}
 use Rattle.stations.proofs.TableLaws.{station_put, head_kept}
 use Rattle.stations.proofs.put_word.Goals as goal
 

@@ -1,7 +1,6 @@
 -- `stations::rooms_among` meets its contract.
 use mathlib.Core.Path.{◌∙◌, ap}
 use native.Mathlib.Omega.{arith}
-use borrow.Author.Rules.{rules}
 use Rattle.protocol.specs.CartSets.{minus}
 use Rattle.stations.proofs.TableLaws.{among_rooms}
 use Rattle.stations.proofs.rooms_among.Goals as goal

@@ -1,5 +1,4 @@
 -- `stations::sent_of` meets its contract.
-use borrow.Author.Rules.{rules}
 use Rattle.stations.specs.View.{stations_in}
 use Rattle.stations.proofs.sent_of.Goals as goal
 

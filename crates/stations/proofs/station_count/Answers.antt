@@ -1,5 +1,4 @@
 -- `stations::station_count` meets its contract.
-use borrow.Author.Rules.{rules}
 use Rattle.stations.specs.View.{head_in}
 use Rattle.stations.proofs.station_count.Goals as goal
 
