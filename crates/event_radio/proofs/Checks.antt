@@ -20,8 +20,10 @@ use Rattle.stations.specs.View.{head_in, stations_in}
 use Rattle.carts.specs.View.{carts_in}
 use Rattle.messages.specs.View.{rooms_in}
 use Rattle.queue.specs.Rooms.{room_in}
-use Rattle.queue.proofs.Codes.{room_in_lem, no_room_in}
-use Rattle.event_answers.specs.Answers.{first_applying}
+use Rattle.std.specs.Prelude.{None, Some}
+use Rattle.std.specs.Prelude as code
+use Rattle.refusals.specs.declared.Refusal.{Refusal}
+use Rattle.refusals.specs.Numbers.{number_of}
 use Rattle.event_radio.specs.Checks.{not_at, not_steady, not_here, not_served}
 
 -- WHERE THE CART IS, by the place that the code met
@@ -64,6 +66,18 @@ module _ (C : List ℕ) (c : ℕ) (b : Bool) (met : b ≡ (carts_in C).steady c)
   pub is_drifting : b ≡ false → 25 ≡ not_steady C c
   is_drifting e = rw (sym met ∙ e) refl
 
+-- every refusal has a number
+pub number_some : (r : Refusal) → number_of r ≡ 0 → ⊥
+number_some r z = grind arith
+
+first_stops : (r : Refusal) (b : Bool) (next : ℕ) → number_of r ≡ check 16 b 0 → number_of r ≡ check 16 b next
+first_stops r true next e = e
+first_stops r false next e = absurd (number_some r e)
+
+first_passes : (b : Bool) (next : ℕ) → 0 ≡ check 16 b 0 → next ≡ check 16 b next
+first_passes true next e = absurd (let z : ◌≡◌ {A = ℕ} 0 16 = e in omega arith)
+first_passes false next e = refl
+
 -- THE STATION AND THE CART
 module _ (S C : List ℕ) (t c : ℕ) where
   pub no_station_lem : (head_in S).stations ≤ t → 8 ≡ not_here S C t c
@@ -74,36 +88,37 @@ module _ (S C : List ℕ) (t c : ℕ) where
   unfolding not_here
   no_cart_lem lt l = rw (lt-leb (head_in S).stations t lt, le-leb (head_in S).carts c l) refl
 
-  in_turn : (a b : Bool) → first_applying (check 16 a 0) (check 25 b 0) ≡ check 16 a (check 25 b 0)
-  in_turn true b = refl
-  in_turn false b = refl
+  -- of a cart that is on the floor: "25 not steady, after 16 and before 17"
+  module _ (lt : t < (head_in S).stations) (lc : c < (head_in S).carts) where
+    both : check 16 (not (is_at ((carts_in C).place c) t)) (not_steady C c) ≡ not_here S C t c
+    unfolding not_here
+    both = rw (lt-leb (head_in S).stations t lt, lt-leb (head_in S).carts c lc) refl
 
-  -- "25 not steady, after 16 and before 17"
-  pub both_asked : t < (head_in S).stations → c < (head_in S).carts → (away drifting : ℕ) → away ≡ not_at C t c → drifting ≡ not_steady C c
-      → first_applying away drifting ≡ not_here S C t c
-  unfolding not_here
-  both_asked lt lc away drifting p q =
-      rw (p, q, lt-leb (head_in S).stations t lt, lt-leb (head_in S).carts c lc) (in_turn (not (is_at ((carts_in C).place c) t)) (not ((carts_in C).steady c)))
+    pub is_elsewhere : (r : Refusal) → number_of r ≡ not_at C t c → number_of r ≡ not_here S C t c
+    is_elsewhere r e = first_stops r (not (is_at ((carts_in C).place c) t)) (not_steady C c) e ∙ both
+
+    pub steadiness : 0 ≡ not_at C t c → (r : ℕ) → r ≡ not_steady C c → r ≡ not_here S C t c
+    steadiness e r q = q ∙ first_passes (not (is_at ((carts_in C).place c) t)) (not_steady C c) e ∙ both
 
 -- THE HEAD OF THE QUEUE
-module _ (S M : List ℕ) (t c buffer head : ℕ) where
-  pub no_head : head ≡ 32 → 17 ≡ not_served S M t c buffer (room_in head)
+module _ (S M : List ℕ) (t c buffer : ℕ) (head : code.Option ℕ) where
+  pub no_head : head ≡ None → 17 ≡ not_served S M t c buffer (room_in head)
   unfolding not_served
-  no_head e = rw (no_room_in head (omega arith)) refl
+  no_head e = rw e refl
 
   -- the entry that the code met, and its test of the cart
-  module _ (l : head < 32) (queued : ℕ) (met : queued ≡ (stations_in S).queue head t) (b : Bool) (tested : b ≡ has queued c) where
-    in_entry : has ((stations_in S).queue head t) c ≡ b
+  module _ (m : ℕ) (is : head ≡ Some m) (queued : ℕ) (met : queued ≡ (stations_in S).queue m t) (b : Bool) (tested : b ≡ has queued c) where
+    in_entry : has ((stations_in S).queue m t) c ≡ b
     in_entry = sym (tested ∙ ap (λ (q : ℕ). has q c) met)
 
     pub head_lacks_lem : not b ≡ true → 17 ≡ not_served S M t c buffer (room_in head)
     unfolding not_served
-    head_lacks_lem e = rw (room_in_lem head l, in_entry, e) refl
+    head_lacks_lem e = rw is (rw (in_entry, e) refl)
 
-    pub too_short : not b ≡ false → buffer < (rooms_in M).length head → 21 ≡ not_served S M t c buffer (room_in head)
+    pub too_short : not b ≡ false → buffer < (rooms_in M).length m → 21 ≡ not_served S M t c buffer (room_in head)
     unfolding not_served
-    too_short e short = rw (room_in_lem head l, in_entry, e, lt-ltb buffer ((rooms_in M).length head) short) refl
+    too_short e short = rw is (rw (in_entry, e, lt-ltb buffer ((rooms_in M).length m) short) refl)
 
-    pub is_served : not b ≡ false → (rooms_in M).length head ≤ buffer → 0 ≡ not_served S M t c buffer (room_in head)
+    pub is_served : not b ≡ false → (rooms_in M).length m ≤ buffer → 0 ≡ not_served S M t c buffer (room_in head)
     unfolding not_served
-    is_served e fits = rw (room_in_lem head l, in_entry, e, le-ltb buffer ((rooms_in M).length head) fits) refl
+    is_served e fits = rw is (rw (in_entry, e, le-ltb buffer ((rooms_in M).length m) fits) refl)

@@ -1,5 +1,5 @@
 -- A RADIO STEP MEETS ITS EVENT: what the code asks on the way, and what it leaves.
-use mathlib.Core.Path.{◌≡◌, refl, sym, ap, ◌∙◌}
+use mathlib.Core.Path.{◌≡◌, refl, sym, ap, ◌∙◌, subst}
 use mathlib.Core.Bool.{Bool, true, false, not}
 use mathlib.Core.List.{List}
 use mathlib.Core.Option.{Option, some, none}
@@ -34,7 +34,11 @@ use Rattle.view.specs.View.{Lent, lent, floor_in}
 use Rattle.view.proofs.Standing.{Standing, standing, few_stations, few_carts, held_number}
 use Rattle.queue.specs.Rooms.{tables_floor, room_count, HasRooms, QueueRooms, room_code, room_in}
 use Rattle.queue.specs.Keys.{Keyed}
-use Rattle.queue.proofs.Codes.{Below, room_in_lem, no_room_in, decoded, code_fits}
+use Rattle.queue.proofs.Codes.{Below, code_says, is_room}
+use Rattle.std.specs.Prelude.{None, Some}
+use Rattle.std.specs.Prelude as code
+use Rattle.refusals.specs.declared.Refusal.{Refusal}
+use Rattle.refusals.specs.Numbers.{number_of}
 use Rattle.queue.proofs.HeadLaws.{head_below, head_skips}
 use Rattle.wireless.specs.Handed.{took_from, hold_none, HandedOver}
 use Rattle.wireless.proofs.Asks.{radio_asks}
@@ -43,8 +47,9 @@ use Rattle.reports.specs.declared.Effect.{Effect}
 use Rattle.reports.specs.Effects.{accepted_in}
 use Rattle.event_answers.specs.Answers.{values}
 use Rattle.event_answers.specs.Met.{Met}
-use Rattle.event_answers.proofs.Meets.{refusal_standing, meets_no, meets_done}
+use Rattle.event_answers.proofs.Meets.{refusal_standing, meets_check, meets_done}
 use Rattle.event_radio.specs.Checks.{not_here, not_served}
+use Rattle.event_radio.proofs.Checks.{number_some}
 
 -- THE HEAD OF A QUEUE is that which the stations and the messages say alone
 module _ (L : Lent) (t : ℕ) where
@@ -60,10 +65,9 @@ module _ (L : Lent) (t : ℕ) where
   abbrev G : Floor
   G = tables_floor L.stations L.messages
 
-  pub room_fits : (m : ℕ) → m ≡ room_code (head_among G t 32) → m ≤ 32
-  room_fits m e =
-      let a = code_fits (head_among G t 32) 32 (omega arith) (head_below G t 32) in
-      omega arith
+  -- what the code found says its room
+  pub room_fits : (head : code.Option ℕ) → head ≡ room_code (head_among G t 32) → (m : ℕ) → head ≡ Some m → m < 32
+  room_fits head e m q = subst (Below 32) (is_room (head_among G t 32) m q e) (head_below G t 32)
 
   module _ (X : Standing L) (on : t < (floor_in L).stations) where
     low : t < L.product.stations
@@ -78,17 +82,15 @@ module _ (L : Lent) (t : ℕ) where
     heads = head_skips G t L.product.held 32 L.product.held_fit (λ r l k. (X.laid.few t r low k l).1)
 
     -- the room that the code found is its room
-    pub head_found : (m : ℕ) → m ≡ room_code (head_among G t 32) → queue_head (limits_of L.product) (floor_in L) t ≡ room_in m
+    pub head_found : (head : code.Option ℕ) → head ≡ room_code (head_among G t 32) → queue_head (limits_of L.product) (floor_in L) t ≡ room_in head
     unfolding queue_head
-    head_found m e =
-        same_among L.product.held ∙ sym heads ∙ sym (decoded (head_among G t 32) 32 (omega arith) (head_below G t 32)) ∙ ap room_in (sym e)
+    head_found head e = same_among L.product.held ∙ sym heads ∙ code_says (head_among G t 32) e
 
-    pub room_low : (m : ℕ) → m ≡ room_code (head_among G t 32) → m < 32 → m < L.product.held
-    room_low m e l = by_code (head_among G t L.product.held) (head_below G t L.product.held) (e ∙ ap room_code heads)
-      where
-        by_code : (o : Option ℕ) → Below L.product.held o → m ≡ room_code o → m < L.product.held
-        by_code none b q = absurd (let z : m ≡ 32 = q in omega arith)
-        by_code (some k) b q = let z : m ≡ k = q in omega arith
+    pub head_low : (head : code.Option ℕ) → head ≡ room_code (head_among G t 32) → Below L.product.held (room_in head)
+    head_low head e = subst (Below L.product.held) (sym heads ∙ code_says (head_among G t 32) e) (head_below G t L.product.held)
+
+    pub room_low : (head : code.Option ℕ) → head ≡ room_code (head_among G t 32) → (m : ℕ) → head ≡ Some m → m < L.product.held
+    room_low head e m q = subst (Below L.product.held) (ap room_in q) (head_low head e)
 
     pub queue_rooms : QueueRooms L.stations L.messages t
     queue_rooms m h entry = let a = X.lengths.messages in let b = entry_low m h entry in omega arith
@@ -121,14 +123,14 @@ module _ (P : Product) (S C M W T O : List ℕ) (t c buffer : ℕ) (p : passes_f
   X = standing L p
 
   -- REFUSED BY THE STATION OR THE CART
-  pub meets_elsewhere : (r : ℕ) → r ≡ not_here S C t c → (r ≡ 0 → ⊥) → Met L L (radio t c buffer) (refused r)
+  pub meets_elsewhere : (r : Refusal) → number_of r ≡ not_here S C t c → Met L L (radio t c buffer) (refused (number_of r))
   unfolding refusal_if not_here
-  meets_elsewhere r e n = meets_no L (radio t c buffer) r p (first_four (leb (head_in S).stations t) (leb (head_in S).carts c) (not (is_at ((carts_in C).place c) t)) (not ((carts_in C).steady c)) _ r e n) n
+  meets_elsewhere r e = meets_check L (radio t c buffer) r p (first_four (leb (head_in S).stations t) (leb (head_in S).carts c) (not (is_at ((carts_in C).place c) t)) (not ((carts_in C).steady c)) _ (number_of r) e (number_some r))
 
   -- the cart is at the station, and steady
-  module _ (h : ℕ) (checked : h ≡ not_here S C t c) (none_met : h ≡ 0) where
+  module _ (checked : 0 ≡ not_here S C t c) where
     here : not_here S C t c ≡ 0
-    here = sym checked ∙ none_met
+    here = sym checked
 
     is_here_lem : (t < (head_in S).stations) × (c < (head_in S).carts) × (is_at ((carts_in C).place c) t ≡ true) × ((carts_in C).steady c ≡ true)
     unfolding not_here
@@ -147,12 +149,15 @@ module _ (P : Product) (S C M W T O : List ℕ) (t c buffer : ℕ) (p : passes_f
         (omega arith, queue_rooms L t X is_here_lem.0, keys L t X is_here_lem.0)
 
     -- the room of the head, or none
-    module _ (m : ℕ) (found : m ≡ room_code (head_among (tables_floor S M) t 32)) where
-      pub served_asks : HasStation S t × (m < 32 → HasRoom M m) × (c < 64) × (m ≤ 32)
+    module _ (head : code.Option ℕ) (found : head ≡ room_code (head_among (tables_floor S M) t 32)) where
+      pub served_asks : HasStation S t × ((m : ℕ) → head ≡ Some m → HasRoom M m × (m < 32)) × (c < 64)
       served_asks =
           let h = is_here_lem.1 in
-          let d = few_carts L X in
-          (head_asks.0, λ l. let a = X.lengths.messages in let b = room_low L t X is_here_lem.0 m found l in omega arith, omega arith, room_fits L t m found)
+          let d = few_carts L X in (
+            head_asks.0,
+            λ m q. (let a = X.lengths.messages in let b = room_low L t X is_here_lem.0 head found m q in omega arith, room_fits L t head found m q),
+            omega arith,
+          )
 
       -- the row and the text's part of a room
       parts_there : (k : ℕ) → k < P.held → HasParts M T O k
@@ -172,34 +177,28 @@ module _ (P : Product) (S C M W T O : List ℕ) (t c buffer : ℕ) (p : passes_f
           (λ q. rw (q, held_length M T O k (parts_there k l) (queued_held k q)) refl)
           (λ q. rw q refl)
 
-      below : Below P.held (room_in m)
-      below = by_lt m 32 (λ l. rw (room_in_lem m l) (room_low L t X is_here_lem.0 m found l)) (λ l. rw (no_room_in m l) (omega arith))
-
-      served_is : not_served S M t c buffer (room_in m) ≡ refusal_if (limits_of P) (floor_in L) false (radio t c buffer)
+      served_is : not_served S M t c buffer (room_in head) ≡ refusal_if (limits_of P) (floor_in L) false (radio t c buffer)
       unfolding refusal_if not_served
       served_is =
-          rw (lt-leb (head_in S).stations t is_here_lem.0, lt-leb (head_in S).carts c is_here_lem.1, is_here_lem.2, is_here_lem.3, head_found L t X is_here_lem.0 m found)
-          (same_checks (room_in m) below)
+          rw (lt-leb (head_in S).stations t is_here_lem.0, lt-leb (head_in S).carts c is_here_lem.1, is_here_lem.2, is_here_lem.3, head_found L t X is_here_lem.0 head found)
+          (same_checks (room_in head) (head_low L t X is_here_lem.0 head found))
 
       -- REFUSED BY THE QUEUE OR THE BUFFER
-      pub meets_unserved : (r : ℕ) → r ≡ not_served S M t c buffer (room_in m) → (r ≡ 0 → ⊥) → Met L L (radio t c buffer) (refused r)
-      meets_unserved r e n = meets_no L (radio t c buffer) r p (e ∙ served_is) n
+      pub meets_unserved : (r : Refusal) → number_of r ≡ not_served S M t c buffer (room_in head) → Met L L (radio t c buffer) (refused (number_of r))
+      meets_unserved r e = meets_check L (radio t c buffer) r p (e ∙ served_is)
 
       -- HANDED OVER
-      module _ (u : ℕ) (looked : u ≡ not_served S M t c buffer (room_in m)) (none_either : u ≡ 0) where
-        free : not_served S M t c buffer (room_in m) ≡ 0
-        free = sym looked ∙ none_either
+      module _ (m : ℕ) (is : head ≡ Some m) (looked : 0 ≡ not_served S M t c buffer (room_in head)) where
+        free : not_served S M t c buffer (room_in head) ≡ 0
+        free = sym looked
 
-        is_room : m < 32
-        unfolding not_served
-        is_room =
-            by_lt m 32 (λ l. l)
-            (λ l. let z : not_served S M t c buffer none ≡ 0 = ap (not_served S M t c buffer) (sym (no_room_in m l)) ∙ free in absurd (let y : ◌≡◌ {A = ℕ} 17 0 = z in omega arith))
+        is_low : m < 32
+        is_low = room_fits L t head found m is
 
         is_served : (has ((stations_in S).queue m t) c ≡ true) × ((rooms_in M).length m ≤ buffer)
         unfolding not_served
         is_served =
-            let z : not_served S M t c buffer (some m) ≡ 0 = ap (not_served S M t c buffer) (sym (room_in_lem m is_room)) ∙ free in
+            let z : not_served S M t c buffer (some m) ≡ 0 = ap (λ (o : code.Option ℕ). not_served S M t c buffer (room_in o)) (sym is) ∙ free in
             let a17 = passed_check 17 (not (has ((stations_in S).queue m t) c)) _ (omega arith) z in
             let a21 = passed_check 21 (ltb buffer ((rooms_in M).length m)) _ (omega arith) a17.1 in
             (not-false (has ((stations_in S).queue m t) c) a17.0, ltb-false buffer ((rooms_in M).length m) a21.0)
@@ -211,12 +210,12 @@ module _ (P : Product) (S C M W T O : List ℕ) (t c buffer : ℕ) (p : passes_f
               cart = is_here_lem.1;
               is_at_lem = is_here_lem.2;
               is_steady_lem = is_here_lem.3;
-              is_head = head_found L t X is_here_lem.0 m found ∙ room_in_lem m is_room;
+              is_head = head_found L t X is_here_lem.0 head found ∙ ap room_in is;
               queued = is_served.0;
             }
 
         pub has_room : HasRoom M m
-        has_room = let a = X.lengths.messages in let b = room_low L t X is_here_lem.0 m found is_room in omega arith
+        has_room = let a = X.lengths.messages in let b = room_low L t X is_here_lem.0 head found m is in omega arith
 
         -- its initiator and number, as the code read them
         module _ (s n : ℕ) (es : s ≡ (rooms_in M).initiator m) (en : n ≡ (rooms_in M).number m) where
@@ -229,7 +228,7 @@ module _ (P : Product) (S C M W T O : List ℕ) (t c buffer : ℕ) (p : passes_f
           -- and how many octets its text has
           module _ (size : ℕ) (ez : size ≡ (rooms_in M).length m) where
             in_table : m < P.held
-            in_table = room_low L t X is_here_lem.0 m found is_room
+            in_table = room_low L t X is_here_lem.0 head found m is
 
             -- where its text lies
             pub text_lies : (size ≤ 512) × (size ≤ buffer) × HasParts M T O m × ((rooms_in M).waiting m ≡ 0 → ⊥) × (size ≡ (rooms_in M).length m)
@@ -241,7 +240,7 @@ module _ (P : Product) (S C M W T O : List ℕ) (t c buffer : ℕ) (p : passes_f
                 (omega arith, omega arith, parts_there m in_table, held, ez)
 
             pub in_a_room : m < 32
-            in_a_room = is_room
+            in_a_room = is_low
 
             pub meets_radio : (S' C' W' : List ℕ) (f : Effect) → HandedOver S S' C C' M W W' m s n t c f.passed f.records f.place
                 → Met L (lent P S' C' M W' T O) (radio t c buffer) (accepted_in (values 4 s n f) (take size (text_of T O (rooms_in M) m)))
