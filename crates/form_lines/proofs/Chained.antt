@@ -9,9 +9,11 @@ use Rattle.lines.specs.Bits.{bit_at}
 use Rattle.lines.specs.Lines.{rows_of}
 use Rattle.lines.specs.Form.{count, line_ok, form}
 use Rattle.lines.specs.Parts.{Walked, Surveyed}
-use Rattle.lines.proofs.Sums.{false_true, every_none, sum_none}
+use Rattle.lines.proofs.Sums.{every_none, sum_none}
 use Rattle.lines.proofs.Formed.{count_lines_lem}
 use Rattle.lines.proofs.Test.{survey_fails, survey_more, survey_end}
+use Rattle.std.specs.Prelude.{Option, None}
+use Rattle.form_lines.specs.declared.Way.{Way}
 use Rattle.form_lines.specs.Pass.{Noted}
 use Rattle.form_lines.specs.Ways.{Whole, Checked}
 
@@ -40,13 +42,9 @@ module _ (l s s' : List ℕ) (a j : ℕ) (r : Bool) (h : a + j < 256) (w : Whole
 pub whole_end : (l s : List ℕ) → Whole l 256 s → Surveyed l s true
 whole_end l s w = survey_end l s 256 (omega arith) (omega arith) w.right (λ x. w.marks x ∙ count_lines_lem l x 256)
 
--- WHAT THE WALK ANSWERS
-module _ (l : List ℕ) (k : ℕ) (s : List ℕ) (met due : Noted) where
-  pub checked : Whole l k s → met ≡ due → Checked l k s true met due
-  checked w e = record { good = λ _. (w, e); bad = λ q. absurd (false_true (sym q)) }
-
-  pub broken : (form l ≡ true → ⊥) → Checked l k s false met due
-  broken h = record { good = λ q. absurd (false_true q); bad = λ _. h }
+-- nothing was met where the pool is not well-formed
+pub unmet : (l : List ℕ) (k : ℕ) (s masks : List ℕ) (r : Option Way) (due : Noted) → r ≡ None → (form l ≡ true → ⊥) → Checked l k s r masks due
+unmet l k s masks r due e h = rw e h
 
 -- THE WHOLE TEST: no where the pool is not well-formed, and else the pass
 pub unformed : (l : List ℕ) (p : Bool) → (form l ≡ true → ⊥) → false ≡ (form l && p)

@@ -1,5 +1,5 @@
 -- WHAT HAS BEEN MET, in words: the numbers of the way, and the masks of the rooms beside it.
-use Rattle.std.specs.Prelude.{◌≡◌, Bool, true, false, cond, List, ℕ, ◌*◌, ◌<◌, ◌≤◌, length}
+use Rattle.std.specs.Prelude.{◌≡◌, Bool, true, false, cond, Option, None, Some, List, ℕ, ◌*◌, ◌<◌, ◌≤◌, length}
 use Rattle.protocol.specs.Folds.{every}
 use Rattle.lines.specs.Bits.{bit_at}
 use Rattle.lines.specs.Form.{count, rows_on_lines, line_ok, form}
@@ -34,7 +34,17 @@ pub record Whole (l : List ℕ) (k : ℕ) (s : List ℕ) : Type 0 where
   pub right : every k (line_ok l) ≡ true
   pub marks : (x : ℕ) → bit_at s x ≡ count x (rows_on_lines l k)
 
+-- was the walk of a line whole
+abbrev pub is_whole : Option Way → Bool
+is_whole None = false
+is_whole (Some w) = true
+
+-- what was met on it is then what is due
+abbrev pub Met : Option Way → List ℕ → Noted → Type 0
+Met None masks due = Unit {0}
+Met (Some w) masks due = met_of w masks ≡ due
+
 -- a walk up to line k: the lines are whole, and what was met is what it should be; or the pool is not well-formed
-pub record Checked (l : List ℕ) (k : ℕ) (s : List ℕ) (whole : Bool) (met due : Noted) : Type 0 where
-  pub good : whole ≡ true → Whole l k s × (met ≡ due)
-  pub bad : whole ≡ false → form l ≡ true → ⊥
+abbrev pub Checked : List ℕ → ℕ → List ℕ → Option Way → List ℕ → Noted → Type 0
+Checked l k s None masks due = form l ≡ true → ⊥
+Checked l k s (Some w) masks due = Whole l k s × (met_of w masks ≡ due)

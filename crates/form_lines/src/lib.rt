@@ -20,7 +20,7 @@ ghost use Rattle.lines.specs.Lines.{registers_in};
 ghost use Rattle.lines.specs.Parts.{Walked};
 ghost use Rattle.form_lines.specs.Said.{a_multicast, an_ack_list, a_delete, a_deregister, said, said_on};
 ghost use Rattle.form_lines.specs.Pass.{is_leaving, is_travelling, same_numbers, right, provided, fresh, meet, along, on_line, from_station, from_each, gathered, apart, is_taken, passed, ended, movers, passes, lines_pass};
-ghost use Rattle.form_lines.specs.Ways.{met_of, outcome, Inside, WholeRooms, Whole, Checked};
+ghost use Rattle.form_lines.specs.Ways.{met_of, outcome, Inside, WholeRooms, Whole, is_whole, Met, Checked};
 
 use carts::Place;
 use ids::{CartNumber, Station};
@@ -274,14 +274,8 @@ fn meet(
     take(masks, way, open & right, r)
 }
 
-// A walk, so far: its rows are rows of the pool, each met once, and the tails are right; and what was met on it.
-#[derive(Clone, Copy)]
-struct Walk {
-    whole: bool,
-    met: Way,
-}
-
-// The records of the line from i to j, one after the other, with a mark for each row that they lie in.
+// The records of the line from i to j, one after the other, with a mark for each row that they lie in: what was met, or None where a row is none
+// of the pool's, is met twice, or the tail is another.
 fn along(
     masks: &mut [u64],
     seen: &mut [u64],
@@ -293,10 +287,10 @@ fn along(
     i: u64,
     j: u64,
     way: Way,
-) -> Walk
+) -> Option<Way>
     requires { (length masks.old ≡ 32) × (length seen.old ≡ 49) × WholeRooms messages.now × (k * 19 ≤ length carts.now) × (sized lines.now ≡ true) × (k ≤ 64) × (i < 16) × (j < 16) }
-    ensures walked { Walked lines.now (i * 16 + j) seen.old seen.new result.whole }
-    ensures masks_after { (result.whole ≡ true → met_of result.met masks.new ≡ along n k (carts_in carts.now) (rooms_in messages.now) (registers_in lines.now) (met_of way masks.old) i j (said_on lines.now i j)) × ((length masks.new ≡ length masks.old) × (length seen.new ≡ length seen.old)) }
+    ensures walked { Walked lines.now (i * 16 + j) seen.old seen.new (is_whole result) }
+    ensures masks_after { Met result masks.new (along n k (carts_in carts.now) (rooms_in messages.now) (registers_in lines.now) (met_of way masks.old) i j (said_on lines.now i j)) × ((length masks.new ≡ length masks.old) × (length seen.new ≡ length seen.old)) }
 {
     let line = (i * 16 + j) as usize;
     let rows = lines::row_count(lines);
@@ -306,10 +300,10 @@ fn along(
     let mut met = way;
     while 0 < left {
         if rows <= row {
-            return Walk { whole: false, met };
+            return None;
         }
         if lines::is_marked(seen, row) {
-            return Walk { whole: false, met };
+            return None;
         }
         lines::mark(seen, row);
         let r = lines::record_of(lines, row);
@@ -318,8 +312,11 @@ fn along(
         row = lines::next_of(lines, row);
         left -= 1;
     }
-    let whole = last == lines::tail_of(lines, line);
-    Walk { whole, met }
+    if last == lines::tail_of(lines, line) {
+        Some(met)
+    } else {
+        None
+    }
 }
 
 // ---- All lines.
@@ -338,10 +335,10 @@ fn on_line(
     i: u64,
     j: u64,
     way: Way,
-) -> Walk
+) -> Option<Way>
     requires { (length masks.old ≡ 32) × (length seen.old ≡ 49) × (length stations.now ≡ 116 + rows * 116) × WholeRooms messages.now × (k * 19 ≤ length carts.now) × (sized lines.now ≡ true) × (k ≤ 64) × (i < 16) × (j < 16) }
-    ensures walked { Walked lines.now (i * 16 + j) seen.old seen.new result.whole }
-    ensures masks_after { result.whole ≡ true → met_of result.met masks.new ≡ on_line n k (carts_in carts.now) (rooms_in messages.now) (stations_in stations.now) lines.now (met_of way masks.old) i j }
+    ensures walked { Walked lines.now (i * 16 + j) seen.old seen.new (is_whole result) }
+    ensures masks_after { Met result masks.new (on_line n k (carts_in carts.now) (rooms_in messages.now) (stations_in stations.now) lines.now (met_of way masks.old) i j) }
     ensures masks_len_unchanged { (length masks.new ≡ length masks.old) × (length seen.new ≡ length seen.old) }
 {
     let expected = form_tables::expected_by(stations, rows, j, i);
@@ -351,13 +348,9 @@ fn on_line(
         gone: 0,
         ..way
     };
-    let walk = along(masks, seen, messages, carts, lines, n, k, i, j, begin);
-    let met = walk.met;
+    let met = along(masks, seen, messages, carts, lines, n, k, i, j, begin)?;
     let ok = met.ok & ((n <= j) | (met.next == sent));
-    Walk {
-        whole: walk.whole,
-        met: Way { ok, ..met },
-    }
+    Some(Way { ok, ..met })
 }
 
 // The lines from station i, once those of the stations before it are whole.
@@ -373,21 +366,17 @@ fn from_station(
     k: u64,
     i: u64,
     way: Way,
-) -> Walk
+) -> Option<Way>
     requires { (length masks.old ≡ 32) × (length seen.old ≡ 49) × (length stations.now ≡ 116 + rows * 116) × WholeRooms messages.now × (k * 19 ≤ length carts.now) × (sized lines.now ≡ true) × (k ≤ 64) × (i < 16) × Whole lines.now (i * 16) seen.old }
-    ensures { Checked lines.now (i * 16 + 16) seen.new result.whole (met_of result.met masks.new) (from_station n k (carts_in carts.now) (rooms_in messages.now) (stations_in stations.now) lines.now (met_of way masks.old) i 16) × ((length masks.new ≡ length masks.old) × (length seen.new ≡ length seen.old)) }
+    ensures { Checked lines.now (i * 16 + 16) seen.new result masks.new (from_station n k (carts_in carts.now) (rooms_in messages.now) (stations_in stations.now) lines.now (met_of way masks.old) i 16) × ((length masks.new ≡ length masks.old) × (length seen.new ≡ length seen.old)) }
 {
     let mut met = way;
     for j in 0..16 {
-        let walk = on_line(
+        met = on_line(
             masks, seen, stations, messages, carts, lines, rows, n, k, i, j, met,
-        );
-        met = walk.met;
-        if !walk.whole {
-            return Walk { whole: false, met };
-        }
+        )?;
     }
-    Walk { whole: true, met }
+    Some(met)
 }
 
 // The lines from each station, where no row is marked yet.
@@ -402,22 +391,18 @@ fn from_each(
     n: u64,
     k: u64,
     way: Way,
-) -> Walk
+) -> Option<Way>
     requires { (length masks.old ≡ 32) × (length seen.old ≡ 49) × (length stations.now ≡ 116 + rows * 116) × WholeRooms messages.now × (k * 19 ≤ length carts.now) × (sized lines.now ≡ true) × (k ≤ 64) × Whole lines.now 0 seen.old }
-    ensures checked { Checked lines.now 256 seen.new result.whole (met_of result.met masks.new) (from_each n k (carts_in carts.now) (rooms_in messages.now) (stations_in stations.now) lines.now (met_of way masks.old) 16) }
+    ensures checked { Checked lines.now 256 seen.new result masks.new (from_each n k (carts_in carts.now) (rooms_in messages.now) (stations_in stations.now) lines.now (met_of way masks.old) 16) }
     ensures masks_len_unchanged { (length masks.new ≡ length masks.old) × (length seen.new ≡ length seen.old) }
 {
     let mut met = way;
     for i in 0..16 {
-        let walk = from_station(
+        met = from_station(
             masks, seen, stations, messages, carts, lines, rows, n, k, i, met,
-        );
-        met = walk.met;
-        if !walk.whole {
-            return Walk { whole: false, met };
-        }
+        )?;
     }
-    Walk { whole: true, met }
+    Some(met)
 }
 
 // ---- Before the lines.
@@ -555,16 +540,14 @@ fn passes(
         gone: 0,
         found: 0,
     };
-    let walk = from_each(
+    let Some(met) = from_each(
         &mut masks, &mut seen, stations, messages, carts, lines, rows, n, k, way,
-    );
-    if !walk.whole {
+    ) else {
         return false;
-    }
+    };
     if !lines::rest_ok(lines, &seen) {
         return false;
     }
-    let met = walk.met;
     let ends = all_ended(&masks, messages, carts, k);
     let set = movers(carts, k);
     met.ok & ((met.found == set) & ends)

@@ -1,11 +1,13 @@
-use mathlib.Core.Path.{sym, ◌∙◌}
+use mathlib.Core.Path.{sym, subst, ◌∙◌}
+use mathlib.Core.Bool.{Bool}
+use borrow.Author.Tests.{eq-eqb, ne_eqb}
+use Rattle.lines.specs.Parts.{Walked}
 use mathlib.Core.List.{List}
 use Prim.Native.Nat.{ℕ, ◌+◌, ◌*◌}
 use native.Mathlib.Omega.{arith}
 use Rattle.carts.specs.View.{carts_in}
 use Rattle.messages.specs.View.{rooms_in}
 use Rattle.lines.specs.Lines.{registers_in}
-use Rattle.lines.proofs.Sums.{false_true}
 use Rattle.lines.proofs.Formed.{sized_of}
 use Rattle.lines.proofs.Test as chains
 use Rattle.form_lines.specs.Said.{said_on}
@@ -52,50 +54,11 @@ loop-left-init c =
       steps.walk_start c.args.n c.args.k (carts_in c.args.carts.now) (rooms_in c.args.messages.now) (registers_in w) c.args.i c.args.j w m.result h.result (met_of c.args.way c.args.masks.now) m.ensures h.ensures,
     )
 
-pub shape_of-masks-then-rows-row : goal.shape_of-masks-then-rows-row
-shape_of-masks-then-rows-row c =
-    let a = c.loop-left in
-    a.invariant.0 ∙ sym c.requires.0
-
-pub shape_of-seen-then-rows-row : goal.shape_of-seen-then-rows-row
-shape_of-seen-then-rows-row c =
-    let a = c.loop-left in
-    a.invariant.1.marks ∙ sym c.requires.1
-
-pub returns-then-rows-row : goal.returns-then-rows-row
-returns-then-rows-row c =
-    let w : List ℕ = c.args.lines.now in
-    let a = c.loop-left in
-    record {
-      walked = chains.walk_high w (c.args.i * 16 + c.args.j) c.args.seen.now c.row_count-rows.result a.seen a.left a.row a.last a.invariant.1 (omega arith) (omega arith);
-      masks_after = ((λ q. absurd (false_true q)), (a.invariant.0 ∙ sym c.requires.0, a.invariant.1.marks ∙ sym c.requires.1));
-    }
-
 pub is_marked-requires : goal.is_marked-requires
 is_marked-requires c =
     let w : List ℕ = c.args.lines.now in
     let a = c.loop-left in
     omega (arith, a.invariant.1.marks, a.invariant.1.all, (sized_of w c.requires.4).1)
-
-pub shape_of-masks-then-is_marked : goal.shape_of-masks-then-is_marked
-shape_of-masks-then-is_marked c =
-    let a = c.loop-left in
-    a.invariant.0 ∙ sym c.requires.0
-
-pub shape_of-seen-then-is_marked : goal.shape_of-seen-then-is_marked
-shape_of-seen-then-is_marked c =
-    let a = c.loop-left in
-    a.invariant.1.marks ∙ sym c.requires.1
-
-pub returns-then-is_marked : goal.returns-then-is_marked
-returns-then-is_marked c =
-    let w : List ℕ = c.args.lines.now in
-    let a = c.loop-left in
-    let m = c.is_marked in
-    record {
-      walked = chains.walk_twice w (c.args.i * 16 + c.args.j) c.args.seen.now c.row_count-rows.result a.seen a.left a.row a.last a.invariant.1 (omega arith) m.result m.ensures c.if-is_marked.true (omega arith);
-      masks_after = ((λ q. absurd (false_true q)), (a.invariant.0 ∙ sym c.requires.0, a.invariant.1.marks ∙ sym c.requires.1));
-    }
 
 pub mark-requires : goal.mark-requires
 mark-requires c =
@@ -146,25 +109,39 @@ tail_of-requires c =
     let w : List ℕ = c.args.lines.now in
     omega (arith, (sized_of w c.requires.4).0)
 
-pub shape_of-masks : goal.shape_of-masks
-shape_of-masks c =
+pub returns-then-rows-row-clause-walked : goal.returns-then-rows-row-clause-walked
+returns-then-rows-row-clause-walked c =
+    let w : List ℕ = c.args.lines.now in
     let a = c.loop-left in
-    a.invariant.0 ∙ sym c.requires.0
+    chains.walk_high w (c.args.i * 16 + c.args.j) c.args.seen.now c.row_count-rows.result a.seen a.left a.row a.last a.invariant.1 (omega arith) (omega arith)
 
-pub shape_of-seen : goal.shape_of-seen
-shape_of-seen c =
+pub returns-then-is_marked-clause-walked : goal.returns-then-is_marked-clause-walked
+returns-then-is_marked-clause-walked c =
+    let w : List ℕ = c.args.lines.now in
     let a = c.loop-left in
-    a.invariant.1.marks ∙ sym c.requires.1
+    let m = c.is_marked in
+    chains.walk_twice w (c.args.i * 16 + c.args.j) c.args.seen.now c.row_count-rows.result a.seen a.left a.row a.last a.invariant.1 (omega arith) m.result m.ensures c.if-is_marked.true (omega arith)
 
-pub returns : goal.returns
-returns c =
+pub returns-then-last-tail_of-clause-walked : goal.returns-then-last-tail_of-clause-walked
+returns-then-last-tail_of-clause-walked c =
     let w : List ℕ = c.args.lines.now in
     let a = c.loop-left in
     let t = c.tail_of in
-    record {
-      walked = chains.walk_end w (c.args.i * 16 + c.args.j) c.args.seen.now c.row_count-rows.result a.seen a.left a.row a.last a.invariant.1 t.result t.ensures (omega arith);
-      masks_after = (
-        (λ q. steps.walk_end c.args.n c.args.k (carts_in c.args.carts.now) (rooms_in c.args.messages.now) (registers_in w) c.args.i c.args.j w a.row a.left (met_of a.met a.masks) (along c.args.n c.args.k (carts_in c.args.carts.now) (rooms_in c.args.messages.now) (registers_in w) (met_of c.args.way c.args.masks.now) c.args.i c.args.j (said_on w c.args.i c.args.j)) (omega arith) a.invariant.2),
-        (a.invariant.0 ∙ sym c.requires.0, a.invariant.1.marks ∙ sym c.requires.1),
-      );
-    }
+    subst (λ (r : Bool). Walked w (c.args.i * 16 + c.args.j) c.args.seen.now a.seen r) (eq-eqb a.last t.result c.if-last-tail_of.true)
+    (chains.walk_end w (c.args.i * 16 + c.args.j) c.args.seen.now c.row_count-rows.result a.seen a.left a.row a.last a.invariant.1 t.result t.ensures (omega arith))
+
+pub returns-else-last-tail_of-clause-walked : goal.returns-else-last-tail_of-clause-walked
+returns-else-last-tail_of-clause-walked c =
+    let w : List ℕ = c.args.lines.now in
+    let a = c.loop-left in
+    let t = c.tail_of in
+    subst (λ (r : Bool). Walked w (c.args.i * 16 + c.args.j) c.args.seen.now a.seen r) (ne_eqb a.last t.result c.if-last-tail_of.false)
+    (chains.walk_end w (c.args.i * 16 + c.args.j) c.args.seen.now c.row_count-rows.result a.seen a.left a.row a.last a.invariant.1 t.result t.ensures (omega arith))
+
+pub returns-then-last-tail_of-clause-masks_after : goal.returns-then-last-tail_of-clause-masks_after
+returns-then-last-tail_of-clause-masks_after c =
+    let w : List ℕ = c.args.lines.now in
+    let a = c.loop-left in (
+      steps.walk_end c.args.n c.args.k (carts_in c.args.carts.now) (rooms_in c.args.messages.now) (registers_in w) c.args.i c.args.j w a.row a.left (met_of a.met a.masks) (along c.args.n c.args.k (carts_in c.args.carts.now) (rooms_in c.args.messages.now) (registers_in w) (met_of c.args.way c.args.masks.now) c.args.i c.args.j (said_on w c.args.i c.args.j)) (omega arith) a.invariant.2,
+      (a.invariant.0 ∙ sym c.requires.0, a.invariant.1.marks ∙ sym c.requires.1),
+    )

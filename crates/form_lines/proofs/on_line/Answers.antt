@@ -7,13 +7,9 @@ use Rattle.form_lines.specs.Ways.{met_of}
 use Rattle.form_lines.proofs.PassLaws.{lined}
 use Rattle.form_lines.proofs.on_line.Goals as goal
 
-pub returns : goal.returns
-returns c =
+pub returns-clause-masks_after : goal.returns-clause-masks_after
+returns-clause-masks_after c =
     let e = c.expected_by-expected in
     let t = c.sent_by-sent in
-    let a = c.along-walk in
-    record {
-      walked = a.ensures.walked;
-      masks_after = (λ q. lined c.args.n c.args.k (carts_in c.args.carts.now) (rooms_in c.args.messages.now) (stations_in c.args.stations.now) c.args.lines.now (met_of c.args.way c.args.masks.now) c.args.i c.args.j e.result t.result a.result.met a.new.masks _ _ e.ensures t.ensures (a.ensures.masks_after.0 q) refl refl);
-      masks_len_unchanged = a.ensures.masks_after.1;
-    }
+    let o = c.in_ok-met in
+    lined c.args.n c.args.k (carts_in c.args.carts.now) (rooms_in c.args.messages.now) (stations_in c.args.stations.now) c.args.lines.now (met_of c.args.way c.args.masks.now) c.args.i c.args.j e.result t.result o.met c.along.new.masks _ _ e.ensures t.ensures o.ensures.masks_after.0 refl refl
