@@ -5,7 +5,8 @@ ghost use Rattle.std.specs.Prelude.{◌≡◌, true, ◌+◌, ◌*◌, ◌<◌, 
 ghost use Rattle.lines.specs.Form.{form, sized};
 ghost use Rattle.lines.specs.Lines.{used};
 ghost use Rattle.lines.specs.Words.{capacity};
-ghost use Rattle.messages.specs.View.{HasRoom};
+ghost use Rattle.protocol.specs.CartSets.{set_of};
+ghost use Rattle.messages.specs.View.{HasRoom, rooms_in, with_message};
 ghost use Rattle.messages.specs.Texts.{HasText};
 ghost use Rattle.reports.specs.Effects.{putting};
 ghost use Rattle.stations.specs.View.{rooms, HasHead, HasStation, stations_in, Leaves};
@@ -78,11 +79,12 @@ pub struct NewMessage {
     pub set: u64,
 }
 
-// The message and its text, into its room: "The initiator keeps the set as sent"; nobody has acknowledged it, and none of n stations has handled
-// its delete. A text in its room's part has no place in the store.
-fn keep_message(messages: &mut [u64], texts: &mut [u8], n: u64, message: NewMessage, text: &[u8])
-    requires { HasRoom messages.old message.room × HasText texts.old message.room × (length text.now ≤ 32) × (n ≤ 16) }
-    ensures { Kept messages.old messages.new texts.old texts.new message.room message.initiator.0 n message.number.0 message.set text.now }
+// The message's row, in its room: "The initiator keeps the set as sent"; nobody has acknowledged it, and none of n stations has handled its delete. It
+// says how many octets the text has, and where in the store they lie.
+fn put_row(messages: &mut [u64], n: u64, message: NewMessage, octets: usize, place: usize)
+    requires { HasRoom messages.old message.room × (n ≤ 16) }
+    ensures messages_after { rooms_in messages.new ≡ with_message (rooms_in messages.old) message.room message.initiator.0 message.number.0 message.set (set_of n (λ _. true)) octets place }
+    ensures messages_len_unchanged { length messages.new ≡ length messages.old }
 {
     messages::put_message(
         messages,
@@ -91,9 +93,17 @@ fn keep_message(messages: &mut [u64], texts: &mut [u8], n: u64, message: NewMess
         message.number,
         message.set,
         sets::all_below(n),
-        text.len() as u64,
-        0,
+        octets as u64,
+        place as u64,
     );
+}
+
+// The message and its text, into its room. A text in its room's part has no place in the store.
+fn keep_message(messages: &mut [u64], texts: &mut [u8], n: u64, message: NewMessage, text: &[u8])
+    requires { HasRoom messages.old message.room × HasText texts.old message.room × (length text.now ≤ 32) × (n ≤ 16) }
+    ensures { Kept messages.old messages.new texts.old texts.new message.room message.initiator.0 n message.number.0 message.set text.now }
+{
+    put_row(messages, n, message, text.len(), 0);
     messages::put_text(texts, message.room, text);
 }
 
@@ -113,25 +123,23 @@ fn keep_long_message(
     let octets = text.len();
     let place = store::make_room(messages, store, held, octets);
     store::put_text(store, place, text);
-    messages::put_message(
-        messages,
-        message.room,
-        message.initiator,
-        message.number,
-        message.set,
-        sets::all_below(n),
-        octets as u64,
-        place as u64,
-    );
+    put_row(messages, n, message, octets, place);
 }
 
 // "the message takes the station's number; a multicast goes on the line to every station", on a floor of n stations in a table that has rows for as
-// many or more. No station has a copy of it yet.
-fn announce(stations: &mut [u64], lines: &mut [u64], rows: u64, n: u64, message: NewMessage)
+// many or more. No station has a copy of it yet. A record goes to each station.
+fn announce(
+    stations: &mut [u64],
+    lines: &mut [u64],
+    rows: u64,
+    n: u64,
+    message: NewMessage,
+) -> Effect
     requires stations_len { (length stations.old ≡ 116 + rows * 116) × (rows ≤ 16) × HasStation stations.old message.initiator.0 }
     requires room_lt_rooms { (message.room < rooms) × (message.initiator.0 < 16) × (n ≤ 16) × (message.number.0 < 4294967296) }
     requires lines_value { (form lines.old ≡ true) × (used lines.old + n ≤ capacity lines.old) }
-    ensures { Announced stations.old stations.new lines.old lines.new message.room message.initiator.0 n message.number.0 }
+    ensures announced { Announced stations.old stations.new lines.old lines.new message.room message.initiator.0 n message.number.0 }
+    ensures value { result ≡ putting n }
 {
     let m = message.room;
     let s = message.initiator;
@@ -139,6 +147,7 @@ fn announce(stations: &mut [u64], lines: &mut [u64], rows: u64, n: u64, message:
     clear_copies(stations, rows, m);
     stations::put_sent(stations, s, number.next().0);
     wired_lines::push_to_every(lines, s, n, view::multicast(m, number));
+    reports::putting(n)
 }
 
 // "Send (station, set, text)", of a text that its room has a part for.
@@ -160,11 +169,11 @@ pub fn on_send(
     ensures value { result ≡ putting n }
 {
     keep_message(messages, texts, n, message, text);
-    announce(stations, lines, rows, n, message);
-    reports::putting(n)
+    announce(stations, lines, rows, n, message)
 }
 
 // "Kind 9 is a send whose text has 33 to 512 octets": the same step, with the text in the store. Its rows and rooms are those of the product.
+// It stays beside `on_send`: what is lent for the text, and what is asked and promised of that, differs in each clause; what they share is in `announce`.
 pub fn on_send_long(
     stations: &mut [u64],
     messages: &mut [u64],
@@ -183,6 +192,5 @@ pub fn on_send_long(
     ensures value { result ≡ putting n }
 {
     keep_long_message(messages, store, bounds.held, n, message, text);
-    announce(stations, lines, bounds.stations, n, message);
-    reports::putting(n)
+    announce(stations, lines, bounds.stations, n, message)
 }

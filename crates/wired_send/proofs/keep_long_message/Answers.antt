@@ -1,9 +1,6 @@
 -- `wired_send::keep_long_message` meets its contract.
-use mathlib.Core.Path.{◌≡◌, subst}
-use Prim.Native.Nat.{ℕ}
 use native.Mathlib.Omega.{arith}
 use lib.ListN.{length}
-use Rattle.messages.specs.View.{rooms_in, with_message}
 use Rattle.store.proofs.Room.{room_made}
 use Rattle.wired_send.proofs.keep_long_message.Goals as goal
 
@@ -18,7 +15,7 @@ pub returns : goal.returns
 returns c =
     let a = c.args in
     let t = c.put_text.ensures in
-    let p = c.put_message.ensures in
+    let p = c.put_row.ensures in
     let made = c.make_room-place in
     record {
       messages = made.new.messages;
@@ -26,6 +23,6 @@ returns c =
       place = made.result;
       made = made.ensures;
       put = t.store_after;
-      rooms = subst (λ (w : ℕ). rooms_in c.put_message.new.messages ≡ with_message (rooms_in made.new.messages) a.message.room a.message.initiator.0 a.message.number.0 a.message.set w (length a.text.now) made.result) c.all_below.ensures p.messages_after;
+      rooms = p.messages_after;
       words = p.messages_len_unchanged;
     }

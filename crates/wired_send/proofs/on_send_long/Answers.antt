@@ -5,6 +5,6 @@ pub returns : goal.returns
 returns c =
     record {
       kept_long = c.keep_long_message.ensures;
-      announced = c.announce.ensures;
-      value = c.putting.ensures;
+      announced = c.announce.ensures.announced;
+      value = c.announce.ensures.value;
     }
