@@ -11,7 +11,7 @@ use ids::{CartNumber, MessageNumber, Station};
 
 // "A cart is outside, at a station, leaving (it has greeted a new station, the old one has not heard), or travelling (its register is on
 // a line)": leaving the first for the second, travelling from the first to the second.
-#[derive(Clone, Copy)]
+#[derive(Clone, Copy, Debug, PartialEq, Eq)]
 pub enum Place {
     Outside,
     At(Station),
@@ -33,14 +33,10 @@ impl Cart {
     pub fn greet(self, to: Station) -> Cart
         ensures { result ≡ greeted self to }
     {
-        let place = self.place;
-        let next = self.next;
-        let steady = self.steady;
-        match place {
+        match self.place {
             Place::At(from) => Cart {
                 place: Place::Leaving(from, to),
-                next,
-                steady,
+                ..self
             },
             _ => self,
         }
@@ -50,14 +46,10 @@ impl Cart {
     pub fn depart(self) -> Cart
         ensures { result ≡ departed self }
     {
-        let place = self.place;
-        let next = self.next;
-        let steady = self.steady;
-        match place {
+        match self.place {
             Place::Leaving(from, to) => Cart {
                 place: Place::Travelling(from, to),
-                next,
-                steady,
+                ..self
             },
             _ => self,
         }
@@ -70,7 +62,7 @@ impl Cart {
         Cart {
             place: Place::At(station),
             next: row,
-            steady: self.steady,
+            ..self
         }
     }
 
@@ -86,23 +78,20 @@ impl Cart {
     }
 
     // The cart is told steady, or not.
-    pub fn told(mut self, steady: bool) -> Cart
+    pub fn told(self, steady: bool) -> Cart
         ensures { result ≡ told self steady }
     {
-        self.steady = steady;
-        self
+        Cart { steady, ..self }
     }
 
     // The cart goes back to the factory: it is outside, with all next numbers 0.
     pub fn retire(self) -> Cart
         ensures { result ≡ retired self }
     {
-        let next = [0u64; 16];
-        let steady = self.steady;
         Cart {
             place: Place::Outside,
-            next,
-            steady,
+            next: [0; 16],
+            ..self
         }
     }
 }
@@ -111,11 +100,7 @@ impl Cart {
 fn number_after(n: MessageNumber) -> u64
     ensures { result ≡ number_after n.0 }
 {
-    if n.0 < 18446744073709551615 {
-        n.0 + 1
-    } else {
-        n.0
-    }
+    n.0.saturating_add(1)
 }
 
 // A row of the lent table has this many words: three of the place, and sixteen next numbers, which begin at NEXT.
@@ -177,11 +162,7 @@ fn are_canonical(kind: u64, s: u64, t: u64) -> bool
 fn first_canonical(first: u64, s: u64, t: u64) -> bool
     ensures { result ≡ canonical_first first s t }
 {
-    if first < 2 * UNSTEADY {
-        are_canonical(first % UNSTEADY, s, t)
-    } else {
-        false
-    }
+    first < 2 * UNSTEADY && are_canonical(first % UNSTEADY, s, t)
 }
 
 // Where the cart is.
@@ -272,13 +253,10 @@ pub fn cart_at(carts: &[u64], number: CartNumber) -> Cart
     requires { HasRow carts.now number.0 }
     ensures { IsCart (carts_in carts.now) number.0 result }
 {
-    let place = place_of(carts, number);
-    let next = row_of(carts, number);
-    let steady = is_steady(carts, number);
     Cart {
-        place,
-        next,
-        steady,
+        place: place_of(carts, number),
+        next: row_of(carts, number),
+        steady: is_steady(carts, number),
     }
 }
 
@@ -289,11 +267,8 @@ pub fn put_cart(carts: &mut [u64], number: CartNumber, cart: Cart)
     ensures carts_after_2 { canonical_in carts.new ≡ update (canonical_in carts.old) number.0 true }
     ensures carts_len_unchanged { length carts.new ≡ length carts.old }
 {
-    let place = cart.place;
-    let next = cart.next;
-    let steady = cart.steady;
-    put_place(carts, number, place, steady);
-    put_row(carts, number, next);
+    put_place(carts, number, cart.place, cart.steady);
+    put_row(carts, number, cart.next);
 }
 
 // "it writes all the rest afresh": every cart is outside and steady, its next numbers are 0.

@@ -1,10 +1,12 @@
 -- `carts::number_after` meets its contract.
 use borrow.Author.Tests.{lt-ltb, le-ltb}
-use borrow.Author.Rules.{rules}
+use native.Mathlib.Omega.{arith}
+use Rattle.protocol.proofs.Tests.{by_lt}
 use Rattle.carts.proofs.number_after.Goals as goal
 
-pub returns-then-n-lt18446744073709551615 : goal.returns-then-n-lt18446744073709551615
-returns-then-n-lt18446744073709551615 c = rw (lt-ltb c.args.n.0 18446744073709551615 c.if-n-lt18446744073709551615.true)
-
-pub returns-else-n-lt18446744073709551615 : goal.returns-else-n-lt18446744073709551615
-returns-else-n-lt18446744073709551615 c = rw (le-ltb c.args.n.0 18446744073709551615 c.if-n-lt18446744073709551615.false)
+pub returns : goal.returns
+returns c =
+    let n = c.args.n.0 in
+    by_lt n 18446744073709551615
+    (λ l. rw (lt-ltb n 18446744073709551615 l) (omega (arith, c.saturating_add.ensures)))
+    (λ l. rw (le-ltb n 18446744073709551615 l) (omega (arith, c.saturating_add.ensures)))
