@@ -115,27 +115,32 @@ const UNSTEADY: u64 = 4;
 #[derive(Clone, Copy)]
 struct PlaceWords(u64, u64, u64);
 
-// The place that three words say.
-fn place_in(kind: u64, s: u64, t: u64) -> Place
-    ensures { seen result ≡ place_in kind s t }
-{
-    match kind {
-        1 => Place::At(Station(s)),
-        2 => Place::Leaving(Station(s), Station(t)),
-        3 => Place::Travelling(Station(s), Station(t)),
-        _ => Place::Outside,
+// The place that they say.
+impl From<PlaceWords> for Place {
+    ghost from_gives = { λ words place. seen place ≡ place_in words.0 words.1 words.2 };
+
+    fn from(words: PlaceWords) -> Place {
+        let PlaceWords(kind, s, t) = words;
+        match kind {
+            1 => Place::At(Station(s)),
+            2 => Place::Leaving(Station(s), Station(t)),
+            3 => Place::Travelling(Station(s), Station(t)),
+            _ => Place::Outside,
+        }
     }
 }
 
 // The words that a place is written in.
-fn words_of(place: Place) -> PlaceWords
-    ensures { (place_in result.0 result.1 result.2 ≡ seen place) × (canonical result.0 result.1 result.2 ≡ true) × (result.0 < 4) }
-{
-    match place {
-        Place::Outside => PlaceWords(0, 0, 0),
-        Place::At(s) => PlaceWords(1, s.0, 0),
-        Place::Leaving(s, t) => PlaceWords(2, s.0, t.0),
-        Place::Travelling(s, t) => PlaceWords(3, s.0, t.0),
+impl From<Place> for PlaceWords {
+    ghost from_gives = { λ place words. (place_in words.0 words.1 words.2 ≡ seen place) × (canonical words.0 words.1 words.2 ≡ true) × (words.0 < 4) };
+
+    fn from(place: Place) -> PlaceWords {
+        match place {
+            Place::Outside => PlaceWords(0, 0, 0),
+            Place::At(s) => PlaceWords(1, s.0, 0),
+            Place::Leaving(s, t) => PlaceWords(2, s.0, t.0),
+            Place::Travelling(s, t) => PlaceWords(3, s.0, t.0),
+        }
     }
 }
 
@@ -171,7 +176,7 @@ pub fn place_of(carts: &[u64], number: CartNumber) -> Place
     ensures { seen result ≡ (carts_in carts.now).place number.0 }
 {
     let at = (number.0 as usize) * WIDTH;
-    place_in(carts[at] % UNSTEADY, carts[at + 1], carts[at + 2])
+    Place::from(PlaceWords(carts[at] % UNSTEADY, carts[at + 1], carts[at + 2]))
 }
 
 // Is the cart steady?
@@ -199,7 +204,7 @@ fn put_place(carts: &mut [u64], number: CartNumber, place: Place, steady: bool)
     ensures carts_len_unchanged { length carts.new ≡ length carts.old }
 {
     let at = (number.0 as usize) * WIDTH;
-    let words = words_of(place);
+    let words = PlaceWords::from(place);
     carts[at] = first_word(words.0, steady);
     carts[at + 1] = words.1;
     carts[at + 2] = words.2;

@@ -1,5 +1,4 @@
 -- `carts::clear_carts` meets its contract.
-use borrow.Author.Rules.{rules}
 use Rattle.carts.proofs.TableLaws.{no_carts_lem, no_carts_canonical}
 use Rattle.carts.proofs.clear_carts.Goals as goal
 

@@ -1,6 +1,4 @@
 -- `carts::first_word` meets its contract.
-use native.Mathlib.Omega.{arith}
-use borrow.Author.Rules.{rules}
 use Rattle.carts.proofs.TableLaws.{word_steady, word_not_steady}
 use Rattle.carts.proofs.first_word.Goals as goal
 

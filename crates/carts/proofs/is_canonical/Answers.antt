@@ -1,6 +1,5 @@
 -- `carts::is_canonical` meets its contract.
 use mathlib.Core.Path.{◌∙◌}
-use borrow.Author.Rules.{rules}
 use Rattle.carts.proofs.TableLaws.{canonical_read}
 use Rattle.carts.proofs.is_canonical.Goals as goal
 

@@ -1,5 +1,4 @@
 -- `carts::is_steady` meets its contract.
-use borrow.Author.Rules.{rules}
 use Rattle.carts.proofs.TableLaws.{steady_read}
 use Rattle.carts.proofs.is_steady.Goals as goal
 

@@ -1,7 +1,6 @@
 -- `carts::next_of` meets its contract.
 use mathlib.Core.Path.{refl}
 use native.Mathlib.Omega.{arith}
-use borrow.Author.Rules.{rules}
 use Rattle.carts.proofs.TableLaws.{next_read}
 use Rattle.carts.proofs.next_of.Goals as goal
 

@@ -1,6 +1,5 @@
 -- `carts::put_cart` meets its contract.
 use mathlib.Core.Path.{ap, ◌∙◌}
-use borrow.Author.Rules.{rules}
 use Rattle.carts.specs.View.{with_row}
 use Rattle.carts.proofs.put_cart.Goals as goal
 

@@ -2,7 +2,6 @@
 use mathlib.Core.Path.{refl}
 use native.Mathlib.Omega.{arith}
 use lib.ListN.{length-set}
-use borrow.Author.Rules.{rules}
 use Rattle.carts.proofs.TableLaws.{next_put, next_put_canonical}
 use Rattle.carts.proofs.put_next.Goals as goal
 

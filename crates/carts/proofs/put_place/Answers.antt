@@ -3,7 +3,6 @@ use mathlib.Core.Path.{ap, ◌∙◌}
 use Prim.Native.Nat.{ℕ}
 use native.Mathlib.Omega.{arith}
 use lib.ListN.{length-set}
-use borrow.Author.Rules.{rules}
 use Rattle.protocol.specs.Folds.{update}
 use Rattle.carts.specs.Words.{canonical_first}
 use Rattle.carts.specs.Records.{seen}
@@ -20,8 +19,8 @@ bounds-carts-at-3 c = simp length-set (omega arith)
 pub returns : goal.returns
 returns c =
     let a = c.args in
-    let w = c.words_of-words.result in
-    let kind = c.words_of-words.ensures in
+    let w = c.from-words.result in
+    let kind = c.from-words.ensures in
     let first = c.first_word in
     let C = a.carts.now in
     let n = a.number.0 in

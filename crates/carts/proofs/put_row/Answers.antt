@@ -1,10 +1,8 @@
-use mathlib.Core.Path.{◌≡◌, refl, ap, ◌∙◌}
-use Prim.Native.Nat.{◌≤◌, ◌-◌}
+use mathlib.Core.Path.{refl, ap, ◌∙◌}
 use native.Mathlib.Omega.{arith}
-use lib.ListN.{length, get_or}
-use borrow.Author.Rules.{rules}
-use Rattle.carts.specs.View.{carts_in, canonical_in, with_next}
-use Rattle.carts.proofs.TableLaws.{written_to, write_none, write_one, write_all, next_beyond}
+use lib.ListN.{get_or}
+use Rattle.carts.specs.View.{carts_in, with_next}
+use Rattle.carts.proofs.TableLaws.{write_none, write_one, write_all, next_beyond}
 use Rattle.carts.proofs.put_row.Goals as goal
 
 pub loop-i-init : goal.loop-i-init

@@ -1,11 +1,9 @@
 -- `carts::put_row` meets its contract.
-use mathlib.Core.Path.{◌≡◌, refl, ap, ◌∙◌}
-use Prim.Native.Nat.{◌≤◌, ◌-◌}
-use native.Mathlib.Omega.{arith}
-use lib.ListN.{length, get_or}
-use borrow.Author.Rules.{rules}
-use Rattle.carts.specs.View.{carts_in, canonical_in, with_next}
-use Rattle.carts.proofs.TableLaws.{written_to, write_none, write_one, write_all, next_beyond}
+use mathlib.Core.Path.{◌≡◌}
+use Prim.Native.Nat.{◌≤◌}
+use lib.ListN.{length}
+use Rattle.carts.specs.View.{carts_in, canonical_in}
+use Rattle.carts.proofs.TableLaws.{written_to}
 use Rattle.carts.proofs.put_row.Given as goal
 
 abbrev pub invariant-loop-i : goal.invariant-loop-i

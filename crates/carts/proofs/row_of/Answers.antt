@@ -1,10 +1,8 @@
-use mathlib.Core.Path.{◌≡◌, refl}
-use Prim.Native.Nat.{◌≤◌, ◌-◌}
+use mathlib.Core.Path.{refl}
 use native.Mathlib.Omega.{arith}
-use lib.ListN.{length, length-set}
-use borrow.Author.Rules.{rules}
+use lib.ListN.{length-set}
 use Rattle.carts.specs.View.{carts_in}
-use Rattle.rows.proofs.WordByWord.{ReadTo, read_one, read_all}
+use Rattle.rows.proofs.WordByWord.{read_one, read_all}
 use Rattle.carts.proofs.row_of.Goals as goal
 
 pub loop-i-init : goal.loop-i-init

@@ -1,11 +1,9 @@
 -- `carts::row_of` meets its contract.
-use mathlib.Core.Path.{◌≡◌, refl}
-use Prim.Native.Nat.{◌≤◌, ◌-◌}
-use native.Mathlib.Omega.{arith}
-use lib.ListN.{length, length-set}
-use borrow.Author.Rules.{rules}
+use mathlib.Core.Path.{◌≡◌}
+use Prim.Native.Nat.{◌≤◌}
+use lib.ListN.{length}
 use Rattle.carts.specs.View.{carts_in}
-use Rattle.rows.proofs.WordByWord.{ReadTo, read_one, read_all}
+use Rattle.rows.proofs.WordByWord.{ReadTo}
 use Rattle.carts.proofs.row_of.Given as goal
 
 abbrev pub invariant-loop-i : goal.invariant-loop-i
