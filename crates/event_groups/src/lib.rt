@@ -8,26 +8,30 @@ ghost use Rattle.protocol.specs.Events as events;
 ghost use Rattle.protocol.specs.Refusals.{check, no_group, refusal_if};
 ghost use Rattle.stations.specs.View.{HasHead, head_in};
 ghost use Rattle.view.specs.View.{lent, floor_in};
+ghost use Rattle.refusals.specs.Numbers.{refusal_in};
 ghost use Rattle.event_answers.specs.Answers.{answer_in};
 ghost use Rattle.event_answers.specs.Met.{ReadyBySome, MetByEach};
 
-use event_answers::{Answer, Outcome};
+use event_answers::{Accepted, Answer, Outcome};
+use refusals::Refusal;
 
-// "26 for a library group above 15", or 0.
-fn number_refusal(group: u64) -> u64
-    ensures { result ≡ check 26 (no_group group) 0 }
+// "26 for a library group above 15".
+fn check_number(group: u64) -> Result<(), Refusal>
+    ensures { refusal_in result ≡ check 26 (no_group group) 0 }
 {
-    if stations::GROUPS <= group { 26 } else { 0 }
+    if stations::GROUPS <= group {
+        return Err(Refusal::NoSuchGroup);
+    }
+    Ok(())
 }
 
-// The refusal of a group, 9, "12 after 9, then 26", or 0.
-fn group_refusal(stations: &[u64], carts: &[u64], group: u64, set: u64) -> u64
+// The checks of a group, 9, "12 after 9, then 26".
+fn check_group(stations: &[u64], carts: &[u64], group: u64, set: u64) -> Result<(), Refusal>
     requires { HasHead stations.now × ((head_in stations.now).carts * 19 ≤ length carts.now) × ((head_in stations.now).carts ≤ 64) }
-    ensures { (P : Product) (M W T O : List ℕ) → result ≡ refusal_if (limits_of P) (floor_in (lent P stations.now carts.now M W T O)) false (events.group group set) }
+    ensures { (P : Product) (M W T O : List ℕ) → refusal_in result ≡ refusal_if (limits_of P) (floor_in (lent P stations.now carts.now M W T O)) false (events.group group set) }
 {
-    let of_set = event_send::named_refusal(stations, carts, set);
-    let of_number = number_refusal(group);
-    event_answers::first_of(of_set, of_number)
+    let of_set = event_send::check_named(stations, carts, set);
+    of_set.and(check_number(group))
 }
 
 // The group has these members from now on, and answers how many they are. Messages that were sent to it keep the set as sent.
@@ -45,13 +49,13 @@ pub fn define_group(
     ensures { MetByEach (λ P. lent P stations.old carts.now messages.now lines.now texts.now store.now) (λ P. lent P stations.new carts.now messages.now lines.now texts.now store.now) (events.group group set) (answer_in result []) }
 {
     if !stations::is_started(stations) {
-        return Answer::Refused(5);
+        return Err(Refusal::NotReady);
     }
-    let refusal = group_refusal(stations, carts, group, set);
-    if refusal != 0 {
-        return Answer::Refused(refusal);
-    }
+    check_group(stations, carts, group, set)?;
     stations::put_group(stations, group, set);
     let members = sets::count(set);
-    Answer::Accepted(Outcome::Grouped(group, members), reports::nothing())
+    Ok(Accepted {
+        outcome: Outcome::Grouped(group, members),
+        effect: reports::nothing(),
+    })
 }
