@@ -28,6 +28,8 @@ use Rattle.frames.specs.contracts.Event.{the_type as event_type}
 use Rattle.frames.specs.Decoded.{event_in, size_of, TextFits}
 use Rattle.frame_lines.specs.Lines.{Wrote, longest_line, longest_refusal}
 use Rattle.frame_run.specs.declared.Progress.{Progress}
+use Rattle.frame_run.specs.declared.Stop.TheVariants.{Full}
+use Rattle.frame_run.specs.Stops.{stop_number}
 use Rattle.frame_run.specs.Went.{TookOn, WentOn}
 use Rattle.tested_run.specs.Stuck.{Stuck, ByTest, stuck_number, AnyLent, RanAny}
 
@@ -108,7 +110,7 @@ module _ (lengths : Bool) (L : Lent) (s : Stuck lengths L) where
   -- its event was taken, and its line is that of the refusal
   pub stuck_took : (index : ℕ) (input out out' : List ℕ) (p r : Progress) (e : Event) (number size : ℕ) → number ≡ stuck_number lengths e → size ≡ size_of e → TextFits e
       → p.read + size_of e ≤ length input → Wrote longest_refusal (line_of index (refused number)) out out' p.written r.written
-      → (r.read ≡ p.read + size) × (r.frames ≡ p.frames + 1) × (r.state ≡ 0)
+      → (r.read ≡ p.read + size) × (r.frames ≡ p.frames + 1) × (r.state ≡ Full)
       → TookOn (Stuck lengths) index L L out out' p r (event_in (drop p.read input) e) (size_of e)
   stuck_took index input out out' p r e number size is size_is fits inside wrote said =
       record {
@@ -119,7 +121,7 @@ module _ (lengths : Bool) (L : Lent) (s : Stuck lengths L) where
             (record { octets = wrote.octets; behind = wrote.behind; few = let a = wrote.few in omega arith; kept = wrote.kept });
         read = said.0 ∙ ap (λ (k : ℕ). p.read + k) size_is;
         frames = said.1;
-        state = said.2;
+        state = ap stop_number said.2;
       }
     where
       met : Met L L (event_in (drop p.read input) e) (refused (stuck_number lengths e))

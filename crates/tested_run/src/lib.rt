@@ -8,43 +8,55 @@ ghost use Rattle.protocol.specs.Events.{refused};
 ghost use Rattle.protocol.specs.Printed.{line_of};
 ghost use Rattle.products.specs.Numbers.{Fits, NumbersOf};
 ghost use Rattle.view.specs.View.{Lent, lent, lengths_in};
+ghost use Rattle.refusals.specs.Numbers.{number_of};
 ghost use Rattle.frame_lines.specs.Lines.{Tabled, Wrote, longest_refusal, line_room};
+ghost use Rattle.frame_run.specs.declared.Stop.TheVariants.{Full};
 ghost use Rattle.frame_run.specs.CanRun.{CanRun, ByEach};
 ghost use Rattle.frame_run.specs.Went.{TurnedOn, WentOn, Went};
 ghost use Rattle.tested_run.specs.Stuck.{Stuck, ByTest, stuck_number, RanAny};
 
-use frame_run::Progress;
-use frames::{Event, Reading};
+use frame_run::{Progress, Stop};
+use frames::Event;
 use products::Bounds;
+use refusals::Refusal;
 
 // "5 (form rule and lent lengths)".
-const BROKEN: u64 = 5;
-
-// "already started".
-const STARTED: u64 = 6;
+const BROKEN: Refusal = Refusal::NotReady;
 
 // What an event is refused with on a floor that none can go on with.
-fn number_of(e: Event, lengths: bool) -> u64
-    ensures { result ≡ stuck_number lengths e }
+fn refusal_of(e: Event, lengths: bool) -> Refusal
+    ensures { number_of result ≡ stuck_number lengths e }
 {
     match e {
-        Event::Start(_, _) => { if lengths { STARTED } else { BROKEN } }
+        Event::Start(_, _) => {
+            if lengths {
+                Refusal::AlreadyStarted
+            } else {
+                BROKEN
+            }
+        }
         _ => BROKEN,
     }
 }
 
 // The line of an event that is refused so. The run goes on behind it.
-fn refuse_event(output: &mut [u8], index: u64, p: Progress, number: u64, size: usize) -> Progress
+fn refuse_event(
+    output: &mut [u8],
+    index: u64,
+    p: Progress,
+    refusal: Refusal,
+    size: usize,
+) -> Progress
     requires { (p.written + line_room ≤ length output.old) × (p.read + size < 18446744073709551616) × (p.frames + 1 < 18446744073709551616) }
-    ensures wrote { Wrote longest_refusal (line_of index (refused number)) output.old output.new p.written result.written }
-    ensures read_value { (result.read ≡ p.read + size) × (result.frames ≡ p.frames + 1) × (result.state ≡ 0) }
+    ensures wrote { Wrote longest_refusal (line_of index (refused (number_of refusal))) output.old output.new p.written result.written }
+    ensures read_value { (result.read ≡ p.read + size) × (result.frames ≡ p.frames + 1) × (result.state ≡ Full) }
 {
-    let written = frame_lines::put_refusal(output, p.written, index, number);
+    let written = frame_lines::put_refusal(output, p.written, index, refusal.number());
     Progress {
         read: p.read + size,
         written,
         frames: p.frames + 1,
-        state: frame_run::FULL,
+        state: Stop::Full,
     }
 }
 
@@ -57,21 +69,24 @@ fn refuse_frame(
     p: Progress,
     last: bool,
 ) -> Progress
-    requires state_value { (p.state ≡ 0) × (p.read ≤ length input.now) × (p.written + line_room ≤ length output.old) }
+    requires state_value { (p.state ≡ Full) × (p.read ≤ length input.now) × (p.written + line_room ≤ length output.old) }
     requires frames_le_read { (p.frames ≤ p.read) × (length input.now + 1 < 18446744073709551616) }
     ensures turned_on { (L : Lent) → Stuck lengths L → TurnedOn (Stuck lengths) input.now index last L L output.old output.new p result }
     ensures output_len_unchanged { length output.new ≡ length output.old }
 {
-    let reading = frames::frame_at(input, p.read);
-    let Reading::Taken(e) = reading else {
-        let number = frames::refusal(reading);
-        if frame_run::none_whole(number, last) {
-            return frame_run::waiting(p);
+    match frames::frame_at(input, p.read) {
+        Ok(Some(e)) => {
+            let size = frames::size_of(e);
+            refuse_event(output, index, p, refusal_of(e, lengths), size)
         }
-        return frame_run::refuse(output, index, p, number);
-    };
-    let size = frames::size_of(e);
-    refuse_event(output, index, p, number_of(e, lengths), size)
+        Ok(None) => frame_run::waiting(p),
+        Err(refusal) => {
+            if frame_run::none_whole(refusal, last) {
+                return frame_run::waiting(p);
+            }
+            frame_run::refuse(output, index, p, refusal)
+        }
+    }
 }
 
 // THE RUN OVER A FLOOR THAT NO EVENT CAN GO ON WITH: nothing of the floor is looked at.
@@ -84,8 +99,9 @@ fn refuse_frames(input: &[u8], output: &mut [u8], lengths: bool, index: u64, las
         read: 0,
         written: 0,
         frames: 0,
-        state: frame_run::FULL,
+        state: Stop::Full,
     };
+    // No range to go over, as in `frame_run::take_frames`.
     while frame_run::goes_on(output, p) {
         p = refuse_frame(input, output, lengths, index + p.frames, p, last);
     }
@@ -115,15 +131,6 @@ fn is_stuck(
     !form_test::passes(stations, carts, messages, lines, texts, store, bounds)
 }
 
-// The table of numbers, by which lines are written.
-fn all_numbers() -> [u64; 10000]
-    ensures { Tabled result }
-{
-    let mut numbers = [0u64; 10000];
-    frame_lines::spell_all(&mut numbers);
-    numbers
-}
-
 // The run of the frames over a floor that events can go on with. The table of numbers is made for each call: it costs as much as about a thousand frames.
 fn take_ready(
     input: &[u8],
@@ -142,7 +149,7 @@ fn take_ready(
     requires input_bound { index + length input.now + 1 < 18446744073709551616 }
     ensures { ByEach bounds (λ P. lent P stations.old carts.old messages.old lines.old texts.old store.old) (λ P. lent P stations.new carts.new messages.new lines.new texts.new store.new) (λ L L'. Went input.now index last L L' output.old output.new result) }
 {
-    let numbers = all_numbers();
+    let numbers = frame_run::all_numbers();
     frame_run::take_frames(
         input, output, stations, carts, messages, lines, texts, store, bounds, &numbers, index,
         last,

@@ -1,5 +1,7 @@
+use mathlib.Core.Path.{ap}
 use native.Mathlib.Omega.{arith}
 use Rattle.view.specs.View.{Lent}
+use Rattle.frame_run.specs.Stops.{stop_number}
 use Rattle.frame_run.proofs.Loop.{Going, left, going_first, going_next, going_less, goes, stops}
 use Rattle.tested_run.specs.Stuck.{Stuck}
 use Rattle.tested_run.proofs.refuse_frames.Goals as goal
@@ -20,7 +22,7 @@ overflow_add-index c =
     let w = c.requires.0 in
     let g = c.loop-output.invariant w.0 w.1 in
     let t = goes (Stuck a.lengths) a.input.now a.index a.last w.0 a.output.now _ _ _ g _ c.goes_on.ensures c.loop-output-test.true in
-    omega (arith, g.few t.0, g.inside, c.requires.1)
+    omega (arith, g.few (ap stop_number t.0), g.inside, c.requires.1)
 
 pub refuse_frame-p-requires : goal.refuse_frame-p-requires
 refuse_frame-p-requires c =
@@ -30,7 +32,7 @@ refuse_frame-p-requires c =
     let t = goes (Stuck a.lengths) a.input.now a.index a.last w.0 a.output.now _ _ _ g _ c.goes_on.ensures c.loop-output-test.true in
     record {
       state_value = (t.0, g.inside, t.1);
-      frames_le_read = (g.few t.0, omega (arith, c.requires.1));
+      frames_le_read = (g.few (ap stop_number t.0), omega (arith, c.requires.1));
     }
 
 pub loop-output-smaller : goal.loop-output-smaller
