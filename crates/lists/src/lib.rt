@@ -73,16 +73,7 @@ pub fn lengths_ok(counts: &[u64], sends: &[u64], octets: &[u8]) -> bool
 pub fn wrong_size(n: u64, k: u64) -> bool
     ensures { result ≡ wrong_size limits n k }
 {
-    if n == 0 {
-        return true;
-    }
-    if MOST_STATIONS < n {
-        return true;
-    }
-    if k == 0 {
-        return true;
-    }
-    MOST_CARTS < k
+    n == 0 || MOST_STATIONS < n || k == 0 || MOST_CARTS < k
 }
 
 // "A start sets them up empty, checked as the floor's": the lengths of the lent parts, 5, the mark, 6, and the two numbers, 7.
