@@ -108,6 +108,7 @@ pub fn put_offset(messages: &mut [u64], m: usize, offset: u64)
 }
 
 // A new message is in room m, and no cart is known to have it.
+// Its words are parameters: one caller hands them on, from places of its own, and a struct would be made only to be taken apart here.
 pub fn put_message(
     messages: &mut [u64],
     m: usize,

@@ -10,7 +10,7 @@ use lib.ListN.{length, get_or, set, get_or-eq_default}
 use lib.Seq.{get_or-set_same, get_or-set_other}
 use borrow.Author.Tests.{lt-ltb, le-ltb, ne_eqb}
 use Rattle.protocol.specs.Folds.{update2}
-use Rattle.protocol.proofs.Tests.{by_test, by_lt, by_eq, and_second_false, both_equal, not_both_equal}
+use Rattle.protocol.proofs.Tests.{by_test, by_lt, and_second_false, both_equal, not_both_equal}
 use Rattle.rows.specs.Rows.{cell}
 
 -- a row ends before the next begins
@@ -68,19 +68,6 @@ module _ (w : ℕ) (l : List ℕ) (r k i v : ℕ) (inside : k < w) (there : i < 
 -- another column of a table with one entry changed
 pub update2_column : (f : ℕ → ℕ → ℕ) (r k v s j : ℕ) → (j ≡ k → ⊥) → update2 f r k v s j ≡ f s j
 update2_column f r k v s j h = ap (λ (b : Bool). cond b v (f s j)) (and_second_false (eqb s r) (eqb j k) (ne_eqb j k h))
-
--- the first i words are 0
-abbrev pub ZeroTo : List ℕ → ℕ → Type 0
-ZeroTo l i = (k : ℕ) → k < i → get_or l k 0 ≡ 0
-
-pub zero_one : (l : List ℕ) (i : ℕ) → i < length l → ZeroTo l i → ZeroTo (set l i 0) (i + 1)
-zero_one l i h before k m =
-    by_eq k i
-    (λ q. ap (λ (n : ℕ). get_or (set l i 0) n 0) q ∙ get_or-set_same l i 0 0 h)
-    (λ q. get_or-set_other l i k 0 0 q ∙ before k (omega arith))
-
-pub zero_all : (l : List ℕ) (i : ℕ) → length l ≤ i → ZeroTo l i → (k : ℕ) → get_or l k 0 ≡ 0
-zero_all l i h z k = by_lt k i (λ m. z k m) (λ m. get_or-eq_default l 0 (omega arith))
 
 -- a table of nothing but 0
 pub cell_zero : (w : ℕ) (l : List ℕ) → ((k : ℕ) → get_or l k 0 ≡ 0) → cell w l ≡ (λ r k. 0)

@@ -28,7 +28,5 @@ pub fn clear(words: &mut [u64])
     ensures by_index { (k : ℕ) → get_or words.new k 0 ≡ 0 }
     ensures words_len_unchanged { length words.new ≡ length words.old }
 {
-    for i in 0..words.len() {
-        words[i] = 0;
-    }
+    words.fill(0);
 }

@@ -1,23 +1,20 @@
-use mathlib.Core.Path.{◌≡◌, refl}
-use Prim.Native.Nat.{◌≤◌, ◌-◌}
+-- `rows::clear` meets its contract.
+use mathlib.Core.Path.{◌≡◌, ap, ◌∙◌}
+use mathlib.Core.List.{List}
+use Prim.Native.Nat.{ℕ}
 use native.Mathlib.Omega.{arith}
-use lib.ListN.{length, length-set}
-use borrow.Author.Rules.{rules}
-use Rattle.rows.proofs.RowLaws.{ZeroTo, zero_one, zero_all}
+use lib.ListN.{length, get_or, replicate, get_or-eq_default}
+use Rattle.std.proofs.lemmas.List.{get_or-replicate}
+use Rattle.protocol.proofs.Tests.{by_lt}
 use Rattle.rows.proofs.clear.Goals as goal
-
-pub loop-i-init : goal.loop-i-init
-loop-i-init c = (omega arith, refl, λ k l. absurd (omega arith))
-
-pub loop-i-preserved : goal.loop-i-preserved
-loop-i-preserved c =
-    let l = c.loop-i in
-    (simp length-set (omega arith), simp length-set l.invariant.1, zero_one l.words l.i (omega arith) l.invariant.2)
 
 pub returns : goal.returns
 returns c =
-    let l = c.loop-i in
+    let n = length c.args.words.now in
+    let all : c.fill.new.self ≡ replicate n 0 = c.fill.ensures.after (λ y e. e) in
     record {
-      by_index = zero_all l.words l.i (omega arith) l.invariant.2;
-      words_len_unchanged = l.invariant.1;
+      by_index = λ k. by_lt k n
+          (λ l. ap (λ (ws : List ℕ). get_or ws k 0) all ∙ get_or-replicate n k 0 0 l)
+          (λ l. get_or-eq_default c.fill.new.self 0 (omega (arith, l, c.fill.ensures.len)));
+      words_len_unchanged = c.fill.ensures.len;
     }

@@ -2,7 +2,6 @@
 use mathlib.Core.Path.{refl}
 use native.Mathlib.Omega.{arith}
 use lib.ListN.{length-set}
-use borrow.Author.Rules.{rules}
 use Rattle.rows.proofs.RowLaws.{cell_put}
 use Rattle.rows.proofs.put_word.Goals as goal
 

@@ -1,7 +1,6 @@
 -- `rows::word_at` meets its contract.
 use mathlib.Core.Path.{refl}
 use native.Mathlib.Omega.{arith}
-use borrow.Author.Rules.{rules}
 use Rattle.rows.proofs.RowLaws.{cell_read}
 use Rattle.rows.proofs.word_at.Goals as goal
 
