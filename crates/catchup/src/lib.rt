@@ -37,7 +37,7 @@ fn would_stop(
     if waiting == 0 {
         return false;
     }
-    if messages::initiator_of(messages, m).0 != initiator.0 {
+    if messages::initiator_of(messages, m) != initiator {
         return false;
     }
     // It is buffered here while its number is below the expected one and its delete is not handled.
@@ -74,7 +74,7 @@ fn nearer(
     let Some(k) = nearest else {
         return Some(m);
     };
-    if messages::number_of(messages, m).0 < messages::number_of(messages, k).0 {
+    if messages::number_of(messages, m) < messages::number_of(messages, k) {
         Some(m)
     } else {
         nearest

@@ -1,4 +1,5 @@
 -- `catchup::would_stop` meets its contract.
+use Rattle.std.proofs.Common.{rules, tests}
 use borrow.Author.Tests.{not-true, not-false}
 use Rattle.queue.specs.Rooms.{tables_floor}
 use Rattle.catchup.proofs.StopLaws.{not_held, not_from, not_waiting, not_handled, not_in_copy, by_number}
@@ -13,12 +14,12 @@ returns-then-waiting-eq0 c =
     not_held F a.station.0 a.cart.0 a.initiator.0 a.next a.m c.waiting_of-waiting.result c.waiting_of-waiting.ensures
     c.if-waiting-eq0.true
 
-pub returns-then-initiator_of-initiator : goal.returns-then-initiator_of-initiator
-returns-then-initiator_of-initiator c =
+pub returns-then-ne : goal.returns-then-ne
+returns-then-ne c =
     let a = c.args in
     let F = tables_floor a.stations.now a.messages.now in
     not_from F a.station.0 a.cart.0 a.initiator.0 a.next a.m c.initiator_of.result.0
-    c.initiator_of.ensures c.if-initiator_of-initiator.true
+    c.initiator_of.ensures (search (rules, tests))
 
 pub returns-then-not-has : goal.returns-then-not-has
 returns-then-not-has c =
@@ -57,5 +58,5 @@ returns c =
     c.number_of-number.ensures c.expected_of.ensures
     c.copy_of.ensures c.has.ensures c.has-2.ensures
     c.if-waiting-eq0.false
-    c.if-initiator_of-initiator.false
+    (search (rules, tests))
     (not-false _ (ap not c.if-not-has.false)) c.if-expected_of-number.false (not-false _ (ap not c.if-not-has-2.false))
