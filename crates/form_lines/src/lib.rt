@@ -252,25 +252,32 @@ fn take(masks: &mut [u64], way: Way, right: bool, r: Record) -> Way
     }
 }
 
-// The next record of the line from i to j, on a floor of n stations and k carts.
+// The stations that there are rows for, and how many stations and carts the floor has.
+#[derive(Clone, Copy)]
+struct Size {
+    rows: u64,
+    stations: u64,
+    carts: u64,
+}
+
+// The next record of the line from i to j, on a floor of that size.
 fn meet(
     masks: &mut [u64],
     messages: &[u64],
     carts: &[u64],
     lines: &[u64],
-    n: u64,
-    k: u64,
+    size: Size,
     i: u64,
     j: u64,
     way: Way,
     r: Record,
 ) -> Way
-    requires { (length masks.old ≡ 32) × WholeRooms messages.now × (k * 19 ≤ length carts.now) × (rows_at ≤ length lines.now) × (k ≤ 64) × (j < 16) }
-    ensures masks_after { met_of result masks.new ≡ meet n k (carts_in carts.now) (rooms_in messages.now) (registers_in lines.now) (met_of way masks.old) i j (said r) }
+    requires { (length masks.old ≡ 32) × WholeRooms messages.now × (size.carts * 19 ≤ length carts.now) × (rows_at ≤ length lines.now) × (size.carts ≤ 64) × (j < 16) }
+    ensures masks_after { met_of result masks.new ≡ meet size.stations size.carts (carts_in carts.now) (rooms_in messages.now) (registers_in lines.now) (met_of way masks.old) i j (said r) }
     ensures masks_len_unchanged { length masks.new ≡ length masks.old }
 {
-    let right = is_right(messages, carts, lines, k, i, j, r);
-    let open = way.ok & ((i < n) & (j < n));
+    let right = is_right(messages, carts, lines, size.carts, i, j, r);
+    let open = way.ok & ((i < size.stations) & (j < size.stations));
     take(masks, way, open & right, r)
 }
 
@@ -282,15 +289,14 @@ fn along(
     messages: &[u64],
     carts: &[u64],
     lines: &[u64],
-    n: u64,
-    k: u64,
+    size: Size,
     i: u64,
     j: u64,
     way: Way,
 ) -> Option<Way>
-    requires { (length masks.old ≡ 32) × (length seen.old ≡ 49) × WholeRooms messages.now × (k * 19 ≤ length carts.now) × (sized lines.now ≡ true) × (k ≤ 64) × (i < 16) × (j < 16) }
+    requires { (length masks.old ≡ 32) × (length seen.old ≡ 49) × WholeRooms messages.now × (size.carts * 19 ≤ length carts.now) × (sized lines.now ≡ true) × (size.carts ≤ 64) × (i < 16) × (j < 16) }
     ensures walked { Walked lines.now (i * 16 + j) seen.old seen.new (is_whole result) }
-    ensures masks_after { Met result masks.new (along n k (carts_in carts.now) (rooms_in messages.now) (registers_in lines.now) (met_of way masks.old) i j (said_on lines.now i j)) × ((length masks.new ≡ length masks.old) × (length seen.new ≡ length seen.old)) }
+    ensures masks_after { Met result masks.new (along size.stations size.carts (carts_in carts.now) (rooms_in messages.now) (registers_in lines.now) (met_of way masks.old) i j (said_on lines.now i j)) × ((length masks.new ≡ length masks.old) × (length seen.new ≡ length seen.old)) }
 {
     let line = (i * 16 + j) as usize;
     let rows = lines::row_count(lines);
@@ -307,7 +313,7 @@ fn along(
         }
         lines::mark(seen, row);
         let r = lines::record_of(lines, row);
-        met = meet(masks, messages, carts, lines, n, k, i, j, met, r);
+        met = meet(masks, messages, carts, lines, size, i, j, met, r);
         last = row;
         row = lines::next_of(lines, row);
         left -= 1;
@@ -329,27 +335,25 @@ fn on_line(
     messages: &[u64],
     carts: &[u64],
     lines: &[u64],
-    rows: u64,
-    n: u64,
-    k: u64,
+    size: Size,
     i: u64,
     j: u64,
     way: Way,
 ) -> Option<Way>
-    requires { (length masks.old ≡ 32) × (length seen.old ≡ 49) × (length stations.now ≡ 116 + rows * 116) × WholeRooms messages.now × (k * 19 ≤ length carts.now) × (sized lines.now ≡ true) × (k ≤ 64) × (i < 16) × (j < 16) }
+    requires { (length masks.old ≡ 32) × (length seen.old ≡ 49) × (length stations.now ≡ 116 + size.rows * 116) × WholeRooms messages.now × (size.carts * 19 ≤ length carts.now) × (sized lines.now ≡ true) × (size.carts ≤ 64) × (i < 16) × (j < 16) }
     ensures walked { Walked lines.now (i * 16 + j) seen.old seen.new (is_whole result) }
-    ensures masks_after { Met result masks.new (on_line n k (carts_in carts.now) (rooms_in messages.now) (stations_in stations.now) lines.now (met_of way masks.old) i j) }
+    ensures masks_after { Met result masks.new (on_line size.stations size.carts (carts_in carts.now) (rooms_in messages.now) (stations_in stations.now) lines.now (met_of way masks.old) i j) }
     ensures masks_len_unchanged { (length masks.new ≡ length masks.old) × (length seen.new ≡ length seen.old) }
 {
-    let expected = form_tables::expected_by(stations, rows, j, i);
-    let sent = form_tables::sent_by(stations, rows, i);
+    let expected = form_tables::expected_by(stations, size.rows, j, i);
+    let sent = form_tables::sent_by(stations, size.rows, i);
     let begin = Way {
         next: expected,
         gone: 0,
         ..way
     };
-    let met = along(masks, seen, messages, carts, lines, n, k, i, j, begin)?;
-    let ok = met.ok & ((n <= j) | (met.next == sent));
+    let met = along(masks, seen, messages, carts, lines, size, i, j, begin)?;
+    let ok = met.ok & ((size.stations <= j) | (met.next == sent));
     Some(Way { ok, ..met })
 }
 
@@ -361,19 +365,17 @@ fn from_station(
     messages: &[u64],
     carts: &[u64],
     lines: &[u64],
-    rows: u64,
-    n: u64,
-    k: u64,
+    size: Size,
     i: u64,
     way: Way,
 ) -> Option<Way>
-    requires { (length masks.old ≡ 32) × (length seen.old ≡ 49) × (length stations.now ≡ 116 + rows * 116) × WholeRooms messages.now × (k * 19 ≤ length carts.now) × (sized lines.now ≡ true) × (k ≤ 64) × (i < 16) × Whole lines.now (i * 16) seen.old }
-    ensures { Checked lines.now (i * 16 + 16) seen.new result masks.new (from_station n k (carts_in carts.now) (rooms_in messages.now) (stations_in stations.now) lines.now (met_of way masks.old) i 16) × ((length masks.new ≡ length masks.old) × (length seen.new ≡ length seen.old)) }
+    requires { (length masks.old ≡ 32) × (length seen.old ≡ 49) × (length stations.now ≡ 116 + size.rows * 116) × WholeRooms messages.now × (size.carts * 19 ≤ length carts.now) × (sized lines.now ≡ true) × (size.carts ≤ 64) × (i < 16) × Whole lines.now (i * 16) seen.old }
+    ensures { Checked lines.now (i * 16 + 16) seen.new result masks.new (from_station size.stations size.carts (carts_in carts.now) (rooms_in messages.now) (stations_in stations.now) lines.now (met_of way masks.old) i 16) × ((length masks.new ≡ length masks.old) × (length seen.new ≡ length seen.old)) }
 {
     let mut met = way;
     for j in 0..16 {
         met = on_line(
-            masks, seen, stations, messages, carts, lines, rows, n, k, i, j, met,
+            masks, seen, stations, messages, carts, lines, size, i, j, met,
         )?;
     }
     Some(met)
@@ -387,20 +389,16 @@ fn from_each(
     messages: &[u64],
     carts: &[u64],
     lines: &[u64],
-    rows: u64,
-    n: u64,
-    k: u64,
+    size: Size,
     way: Way,
 ) -> Option<Way>
-    requires { (length masks.old ≡ 32) × (length seen.old ≡ 49) × (length stations.now ≡ 116 + rows * 116) × WholeRooms messages.now × (k * 19 ≤ length carts.now) × (sized lines.now ≡ true) × (k ≤ 64) × Whole lines.now 0 seen.old }
-    ensures checked { Checked lines.now 256 seen.new result masks.new (from_each n k (carts_in carts.now) (rooms_in messages.now) (stations_in stations.now) lines.now (met_of way masks.old) 16) }
+    requires { (length masks.old ≡ 32) × (length seen.old ≡ 49) × (length stations.now ≡ 116 + size.rows * 116) × WholeRooms messages.now × (size.carts * 19 ≤ length carts.now) × (sized lines.now ≡ true) × (size.carts ≤ 64) × Whole lines.now 0 seen.old }
+    ensures checked { Checked lines.now 256 seen.new result masks.new (from_each size.stations size.carts (carts_in carts.now) (rooms_in messages.now) (stations_in stations.now) lines.now (met_of way masks.old) 16) }
     ensures masks_len_unchanged { (length masks.new ≡ length masks.old) × (length seen.new ≡ length seen.old) }
 {
     let mut met = way;
     for i in 0..16 {
-        met = from_station(
-            masks, seen, stations, messages, carts, lines, rows, n, k, i, met,
-        )?;
+        met = from_station(masks, seen, stations, messages, carts, lines, size, i, met)?;
     }
     Some(met)
 }
@@ -518,22 +516,14 @@ fn movers(carts: &[u64], k: u64) -> u64
     set
 }
 
-// ---- THE PASS, on a floor of n stations and k carts. It walks each line once, for its chain of rows and for its records.
-fn passes(
-    stations: &[u64],
-    carts: &[u64],
-    messages: &[u64],
-    lines: &[u64],
-    rows: u64,
-    n: u64,
-    k: u64,
-) -> bool
-    requires { (length stations.now ≡ 116 + rows * 116) × (k * 19 ≤ length carts.now) × WholeRooms messages.now × (sized lines.now ≡ true) × (n ≤ 16) × (k ≤ 64) × (n ≤ rows) }
-    ensures { result ≡ (form lines.now && passes n k (stations_in stations.now) (carts_in carts.now) (rooms_in messages.now) lines.now) }
+// ---- THE PASS, on a floor of that size. It walks each line once, for its chain of rows and for its records.
+fn passes(stations: &[u64], carts: &[u64], messages: &[u64], lines: &[u64], size: Size) -> bool
+    requires { (length stations.now ≡ 116 + size.rows * 116) × (size.carts * 19 ≤ length carts.now) × WholeRooms messages.now × (sized lines.now ≡ true) × (size.stations ≤ 16) × (size.carts ≤ 64) × (size.stations ≤ size.rows) }
+    ensures { result ≡ (form lines.now && passes size.stations size.carts (stations_in stations.now) (carts_in carts.now) (rooms_in messages.now) lines.now) }
 {
     let mut masks = [0u64; 32];
     let mut seen = [0u64; 49];
-    let ok = begin(&mut masks, stations, messages, n);
+    let ok = begin(&mut masks, stations, messages, size.stations);
     let way = Way {
         ok,
         next: 0,
@@ -541,15 +531,15 @@ fn passes(
         found: 0,
     };
     let Some(met) = from_each(
-        &mut masks, &mut seen, stations, messages, carts, lines, rows, n, k, way,
+        &mut masks, &mut seen, stations, messages, carts, lines, size, way,
     ) else {
         return false;
     };
     if !lines::rest_ok(lines, &seen) {
         return false;
     }
-    let ends = all_ended(&masks, messages, carts, k);
-    let set = movers(carts, k);
+    let ends = all_ended(&masks, messages, carts, size.carts);
+    let set = movers(carts, size.carts);
     met.ok & ((met.found == set) & ends)
 }
 
@@ -564,7 +554,10 @@ pub fn lines_pass(
     requires { (length stations.now ≡ 116 + rows * 116) × (rows ≤ 16) × ((head_in stations.now).stations ≤ rows) × ((head_in stations.now).carts ≤ 64) × ((head_in stations.now).carts * 19 ≤ length carts.now) × WholeRooms messages.now × (sized lines.now ≡ true) }
     ensures { (P : Product) (texts store : List ℕ) → result ≡ (form lines.now && lines_pass (lent P stations.now carts.now messages.now lines.now texts store)) }
 {
-    let n = stations::station_count(stations);
-    let k = stations::cart_count(stations);
-    passes(stations, carts, messages, lines, rows, n, k)
+    let size = Size {
+        rows,
+        stations: stations::station_count(stations),
+        carts: stations::cart_count(stations),
+    };
+    passes(stations, carts, messages, lines, size)
 }

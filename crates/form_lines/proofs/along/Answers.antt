@@ -51,7 +51,7 @@ loop-left-init c =
     let t = c.tail_of-last in (
       c.requires.0,
       chains.walk_start w (c.args.i * 16 + c.args.j) c.args.seen.now rows.result m.result h.result t.result rows.ensures c.requires.1 m.ensures h.ensures t.ensures,
-      steps.walk_start c.args.n c.args.k (carts_in c.args.carts.now) (rooms_in c.args.messages.now) (registers_in w) c.args.i c.args.j w m.result h.result (met_of c.args.way c.args.masks.now) m.ensures h.ensures,
+      steps.walk_start c.args.size.stations c.args.size.carts (carts_in c.args.carts.now) (rooms_in c.args.messages.now) (registers_in w) c.args.i c.args.j w m.result h.result (met_of c.args.way c.args.masks.now) m.ensures h.ensures,
     )
 
 pub is_marked-requires : goal.is_marked-requires
@@ -101,7 +101,7 @@ loop-left-preserved c =
     let x = c.next_of-row in (
       e.ensures.masks_len_unchanged ∙ a.invariant.0,
       chains.walk_on w (c.args.i * 16 + c.args.j) c.args.seen.now c.row_count-rows.result a.seen a.left a.row a.last a.invariant.1 c.loop-left-test.true o.new.seen m.result x.result m.ensures c.if-is_marked.false c.if-rows-row.false o.ensures o.auto.seen x.ensures,
-      steps.walk_step c.args.n c.args.k (carts_in c.args.carts.now) (rooms_in c.args.messages.now) (registers_in w) c.args.i c.args.j w a.row a.left (met_of a.met a.masks) (met_of e.result e.new.masks) r.result x.result c.loop-left-test.true r.ensures x.ensures e.ensures.masks_after ∙ a.invariant.2,
+      steps.walk_step c.args.size.stations c.args.size.carts (carts_in c.args.carts.now) (rooms_in c.args.messages.now) (registers_in w) c.args.i c.args.j w a.row a.left (met_of a.met a.masks) (met_of e.result e.new.masks) r.result x.result c.loop-left-test.true r.ensures x.ensures e.ensures.masks_after ∙ a.invariant.2,
     )
 
 pub tail_of-requires : goal.tail_of-requires
@@ -142,6 +142,6 @@ pub returns-then-last-tail_of-clause-masks_after : goal.returns-then-last-tail_o
 returns-then-last-tail_of-clause-masks_after c =
     let w : List ℕ = c.args.lines.now in
     let a = c.loop-left in (
-      steps.walk_end c.args.n c.args.k (carts_in c.args.carts.now) (rooms_in c.args.messages.now) (registers_in w) c.args.i c.args.j w a.row a.left (met_of a.met a.masks) (along c.args.n c.args.k (carts_in c.args.carts.now) (rooms_in c.args.messages.now) (registers_in w) (met_of c.args.way c.args.masks.now) c.args.i c.args.j (said_on w c.args.i c.args.j)) (omega arith) a.invariant.2,
+      steps.walk_end c.args.size.stations c.args.size.carts (carts_in c.args.carts.now) (rooms_in c.args.messages.now) (registers_in w) c.args.i c.args.j w a.row a.left (met_of a.met a.masks) (along c.args.size.stations c.args.size.carts (carts_in c.args.carts.now) (rooms_in c.args.messages.now) (registers_in w) (met_of c.args.way c.args.masks.now) c.args.i c.args.j (said_on w c.args.i c.args.j)) (omega arith) a.invariant.2,
       (a.invariant.0 ∙ sym c.requires.0, a.invariant.1.marks ∙ sym c.requires.1),
     )

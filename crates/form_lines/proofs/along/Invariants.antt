@@ -17,7 +17,7 @@ abbrev pub invariant-loop-left : goal.invariant-loop-left
 invariant-loop-left l =
     (length l.masks ≡ 32)
     × chains.Walk l.lines (l.i * 16 + l.j) l.initial.seen l.rows l.seen l.left l.row l.last
-    × (along l.n l.k (carts_in l.carts) (rooms_in l.messages) (registers_in l.lines) (met_of l.met l.masks) l.i l.j (map said (records_from l.lines l.row l.left)) ≡ along l.n l.k (carts_in l.carts) (rooms_in l.messages) (registers_in l.lines) (met_of l.initial.met l.initial.masks) l.i l.j (said_on l.lines l.i l.j))
+    × (along l.size.stations l.size.carts (carts_in l.carts) (rooms_in l.messages) (registers_in l.lines) (met_of l.met l.masks) l.i l.j (map said (records_from l.lines l.row l.left)) ≡ along l.size.stations l.size.carts (carts_in l.carts) (rooms_in l.messages) (registers_in l.lines) (met_of l.initial.met l.initial.masks) l.i l.j (said_on l.lines l.i l.j))
 
 abbrev pub decreases-loop-left : goal.decreases-loop-left
 decreases-loop-left l = l.left

@@ -10,7 +10,7 @@ use Rattle.form_lines.proofs.Chained.{whole_at}
 use Rattle.form_lines.proofs.from_each.Goals as goal
 
 pub loop-i-init : goal.loop-i-init
-loop-i-init c = (omega arith, c.requires.0, c.requires.1, whole_at c.args.lines.now c.args.seen.now (0) (0 * 16) (omega arith) c.requires.7, each_none c.args.n c.args.k (carts_in c.args.carts.now) (rooms_in c.args.messages.now) (stations_in c.args.stations.now) c.args.lines.now (met_of c.args.way c.args.masks.now))
+loop-i-init c = (omega arith, c.requires.0, c.requires.1, whole_at c.args.lines.now c.args.seen.now (0) (0 * 16) (omega arith) c.requires.7, each_none c.args.size.stations c.args.size.carts (carts_in c.args.carts.now) (rooms_in c.args.messages.now) (stations_in c.args.stations.now) c.args.lines.now (met_of c.args.way c.args.masks.now))
 
 pub loop-i-preserved : goal.loop-i-preserved
 loop-i-preserved c =
@@ -21,5 +21,5 @@ loop-i-preserved c =
       o.ensures.1.0 ∙ a.invariant.1,
       o.ensures.1.1 ∙ a.invariant.2,
       whole_at c.args.lines.now o.new.seen (a.i * 16 + 16) ((a.i + 1) * 16) (omega arith) m.ensures.0.0,
-      each_next c.args.n c.args.k (carts_in c.args.carts.now) (rooms_in c.args.messages.now) (stations_in c.args.stations.now) c.args.lines.now (met_of c.args.way c.args.masks.now) (met_of a.met a.masks) (met_of m.met o.new.masks) a.i a.invariant.4 m.ensures.0.1,
+      each_next c.args.size.stations c.args.size.carts (carts_in c.args.carts.now) (rooms_in c.args.messages.now) (stations_in c.args.stations.now) c.args.lines.now (met_of c.args.way c.args.masks.now) (met_of a.met a.masks) (met_of m.met o.new.masks) a.i a.invariant.4 m.ensures.0.1,
     )

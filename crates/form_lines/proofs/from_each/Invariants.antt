@@ -15,4 +15,4 @@ invariant-loop-i l =
     × (length l.masks ≡ 32)
     × (length l.seen ≡ 49)
     × Whole l.lines (l.i * 16) l.seen
-    × (met_of l.met l.masks ≡ from_each l.n l.k (carts_in l.carts) (rooms_in l.messages) (stations_in l.stations) l.lines (met_of l.initial.met l.initial.masks) l.i)
+    × (met_of l.met l.masks ≡ from_each l.size.stations l.size.carts (carts_in l.carts) (rooms_in l.messages) (stations_in l.stations) l.lines (met_of l.initial.met l.initial.masks) l.i)

@@ -15,4 +15,4 @@ invariant-loop-j l =
     × (length l.masks ≡ 32)
     × (length l.seen ≡ 49)
     × Whole l.lines (l.i * 16 + l.j) l.seen
-    × (met_of l.met l.masks ≡ from_station l.n l.k (carts_in l.carts) (rooms_in l.messages) (stations_in l.stations) l.lines (met_of l.initial.met l.initial.masks) l.i l.j)
+    × (met_of l.met l.masks ≡ from_station l.size.stations l.size.carts (carts_in l.carts) (rooms_in l.messages) (stations_in l.stations) l.lines (met_of l.initial.met l.initial.masks) l.i l.j)

@@ -10,25 +10,25 @@ use Rattle.form_lines.proofs.PassLaws.{lent_passes}
 use Rattle.form_lines.proofs.Chained.{passed}
 use Rattle.form_lines.proofs.lines_pass.Goals as goal
 
-pub station_count-n-requires : goal.station_count-n-requires
-station_count-n-requires c = let p = c.requires in omega (arith, p.0)
+pub station_count-requires : goal.station_count-requires
+station_count-requires c = let p = c.requires in omega (arith, p.0)
 
-pub cart_count-k-requires : goal.cart_count-k-requires
-cart_count-k-requires c = let p = c.requires in omega (arith, p.0)
+pub cart_count-requires : goal.cart_count-requires
+cart_count-requires c = let p = c.requires in omega (arith, p.0)
 
 pub passes-requires : goal.passes-requires
 passes-requires c =
     let p = c.requires in
-    let n = c.station_count-n.ensures in
-    let k = c.cart_count-k.ensures in
+    let n = c.station_count.ensures in
+    let k = c.cart_count.ensures in
     (p.0, omega (arith, p.4, k), p.5, p.6, omega (arith, p.1, p.2, n), omega (arith, p.3, k), omega (arith, p.2, n))
 
 pub returns : goal.returns
 returns c =
     let a = c.args in
     let p = c.requires in
-    let n = c.station_count-n in
-    let k = c.cart_count-k in
+    let n = c.station_count in
+    let k = c.cart_count in
     let S = stations_in a.stations.now in
     let C = carts_in a.carts.now in
     let R = rooms_in a.messages.now in

@@ -14,8 +14,8 @@ take-requires c =
     let a = c.args in
     let r = c.is_right-right in (
       c.requires.0,
-      λ t. right_inside a.n a.k (carts_in a.carts.now) (rooms_in a.messages.now) (registers_in a.lines.now) a.i a.j (said a.r) c.requires.4
-          (sym (r.ensures a.n) ∙ and_right _ r.result t),
+      λ t. right_inside a.size.stations a.size.carts (carts_in a.carts.now) (rooms_in a.messages.now) (registers_in a.lines.now) a.i a.j (said a.r) c.requires.4
+          (sym (r.ensures a.size.stations) ∙ and_right _ r.result t),
     )
 
 pub returns : goal.returns
@@ -24,7 +24,7 @@ returns c =
     let r = c.is_right-right in
     let t = c.take in
     record {
-      masks_after = meets a.n a.k (carts_in a.carts.now) (rooms_in a.messages.now) (registers_in a.lines.now) a.i a.j (met_of a.way a.masks.now) (met_of t.result t.new.masks) (said a.r)
-          _ _ r.result _ refl refl (r.ensures a.n) refl t.ensures.masks_after;
+      masks_after = meets a.size.stations a.size.carts (carts_in a.carts.now) (rooms_in a.messages.now) (registers_in a.lines.now) a.i a.j (met_of a.way a.masks.now) (met_of t.result t.new.masks) (said a.r)
+          _ _ r.result _ refl refl (r.ensures a.size.stations) refl t.ensures.masks_after;
       masks_len_unchanged = t.ensures.masks_len_unchanged;
     }

@@ -30,5 +30,5 @@ returns c =
     let e = c.all_ended-ends in
     let m = c.movers-set in
     let w = c.in-Some in
-    formed c.args.lines.now _ (passes c.args.n c.args.k (stations_in c.args.stations.now) (carts_in c.args.carts.now) (rooms_in c.args.messages.now) c.args.lines.now) (sym r.ensures ∙ not-false _ (ap not c.if-not-rest_ok.false))
-    (passing c.args.n c.args.k (carts_in c.args.carts.now) (rooms_in c.args.messages.now) (stations_in c.args.stations.now) c.args.lines.now b.result e.result _ _ m.result w.met b.new.masks f.new.masks b.ensures.value b.ensures.masks_after w.ensures.checked.1 e.ensures m.ensures refl refl)
+    formed c.args.lines.now _ (passes c.args.size.stations c.args.size.carts (stations_in c.args.stations.now) (carts_in c.args.carts.now) (rooms_in c.args.messages.now) c.args.lines.now) (sym r.ensures ∙ not-false _ (ap not c.if-not-rest_ok.false))
+    (passing c.args.size.stations c.args.size.carts (carts_in c.args.carts.now) (rooms_in c.args.messages.now) (stations_in c.args.stations.now) c.args.lines.now b.result e.result _ _ m.result w.met b.new.masks f.new.masks b.ensures.value b.ensures.masks_after w.ensures.checked.1 e.ensures m.ensures refl refl)
