@@ -26,22 +26,15 @@ pub fn lengths_ok(
     let n = bounds.stations as usize;
     let k = bounds.carts as usize;
     let held = bounds.held;
-    if stations.len() != 116 + n * 116 {
-        return false;
-    }
-    if carts.len() != k * 19 {
-        return false;
-    }
-    if messages.len() != held * 7 {
-        return false;
-    }
     // a held message has at most n multicasts, n deletes and k carts in ack lists on the lines, and a cart one record of its hand-off
     let each = n + n + k;
     let records = held * each + k;
-    if lines.len() != 1842 + records * 3 {
-        return false;
-    }
-    if texts.len() != held * 32 {
+    if stations.len() != 116 + n * 116
+        || carts.len() != k * 19
+        || messages.len() != held * 7
+        || lines.len() != 1842 + records * 3
+        || texts.len() != held * 32
+    {
         return false;
     }
     store.len() == products::STORE
@@ -61,6 +54,7 @@ pub fn passes(
     requires { Fits bounds }
     ensures { (P : Product) → NumbersOf P bounds → result ≡ passes_form (limits_of P) (floor_in (lent P stations.now carts.now messages.now lines.now texts.now store.now)) }
 {
+    // each returns by itself: in a chain of `&&` the proof would have to name flags that the source does not have
     if !lengths_ok(stations, carts, messages, lines, texts, store, bounds) {
         return false;
     }

@@ -3,6 +3,7 @@ use native.Mathlib.Omega.{arith}
 use Rattle.view.specs.View.{lent}
 use Rattle.form_test.proofs.Lengths.{few_records, most_is, wrong_length_lem, rests_on_store}
 use Rattle.form_test.proofs.lengths_ok.Goals as goal
+use Rattle.form_test.proofs.lengths_ok.Goals.{then-stations-n-via-then-stations-n, then-stations-n-via-else-stations-n+then-carts-k, then-stations-n-via-else-stations-n+else-carts-k+then-messages-held, then-stations-n-via-else-stations-n+else-carts-k+else-messages-held+then-lines-records, then-stations-n-via-else-stations-n+else-carts-k+else-messages-held+else-lines-records+then-texts-held}
 
 pub overflow_mul-n : goal.overflow_mul-n
 overflow_mul-n c = omega arith
@@ -10,29 +11,11 @@ overflow_mul-n c = omega arith
 pub overflow_add-n : goal.overflow_add-n
 overflow_add-n c = omega arith
 
-pub returns-then-stations-n : goal.returns-then-stations-n
-returns-then-stations-n c =
-    let a = c.args in
-    λ P e. wrong_length_lem (lent P a.stations.now a.carts.now a.messages.now a.lines.now a.texts.now a.store.now)
-    (λ h. let z = h.stations in let n = e.stations_are in let k = e.carts_are in let m = e.held_is in omega arith)
-
 pub overflow_mul-k : goal.overflow_mul-k
 overflow_mul-k c = omega arith
 
-pub returns-then-carts-k : goal.returns-then-carts-k
-returns-then-carts-k c =
-    let a = c.args in
-    λ P e. wrong_length_lem (lent P a.stations.now a.carts.now a.messages.now a.lines.now a.texts.now a.store.now)
-    (λ h. let z = h.carts in let n = e.stations_are in let k = e.carts_are in let m = e.held_is in omega arith)
-
 pub overflow_mul-held : goal.overflow_mul-held
 overflow_mul-held c = omega arith
-
-pub returns-then-messages-held : goal.returns-then-messages-held
-returns-then-messages-held c =
-    let a = c.args in
-    λ P e. wrong_length_lem (lent P a.stations.now a.carts.now a.messages.now a.lines.now a.texts.now a.store.now)
-    (λ h. let z = h.messages in let n = e.stations_are in let k = e.carts_are in let m = e.held_is in omega arith)
 
 pub overflow_add-each : goal.overflow_add-each
 overflow_add-each c = omega arith
@@ -46,26 +29,29 @@ overflow_mul-records c = let w = few_records c.args.bounds c.requires in omega a
 pub overflow_add-records : goal.overflow_add-records
 overflow_add-records c = let w = few_records c.args.bounds c.requires in omega arith
 
-pub overflow_mul-records-2 : goal.overflow_mul-records-2
-overflow_mul-records-2 c = let w = few_records c.args.bounds c.requires in omega arith
+pub overflow_mul-records-else-messages-held : goal.overflow_mul-records-else-messages-held
+overflow_mul-records-else-messages-held c = let w = few_records c.args.bounds c.requires in omega arith
 
-pub overflow_add-records-2 : goal.overflow_add-records-2
-overflow_add-records-2 c = let w = few_records c.args.bounds c.requires in omega arith
+pub overflow_add-records-else-messages-held : goal.overflow_add-records-else-messages-held
+overflow_add-records-else-messages-held c = let w = few_records c.args.bounds c.requires in omega arith
 
-pub returns-then-lines-records : goal.returns-then-lines-records
-returns-then-lines-records c =
+pub overflow_mul-held-else-lines-records : goal.overflow_mul-held-else-lines-records
+overflow_mul-held-else-lines-records c = omega arith
+
+pub returns-then-stations-n : goal.returns-then-stations-n
+returns-then-stations-n c =
     let a = c.args in
-    λ P e. wrong_length_lem (lent P a.stations.now a.carts.now a.messages.now a.lines.now a.texts.now a.store.now)
-    (λ h. let z = h.lines in let n = e.stations_are in let k = e.carts_are in let m = e.held_is in let w = most_is P a.bounds e in omega arith)
-
-pub overflow_mul-held-2 : goal.overflow_mul-held-2
-overflow_mul-held-2 c = omega arith
-
-pub returns-then-texts-held : goal.returns-then-texts-held
-returns-then-texts-held c =
-    let a = c.args in
-    λ P e. wrong_length_lem (lent P a.stations.now a.carts.now a.messages.now a.lines.now a.texts.now a.store.now)
-    (λ h. let z = h.texts in let m = e.held_is in omega arith)
+    λ P e. let n = e.stations_are in
+    let k = e.carts_are in
+    let m = e.held_is in
+    wrong_length_lem (lent P a.stations.now a.carts.now a.messages.now a.lines.now a.texts.now a.store.now)
+    (λ h. elim c.then-stations-n.branch [
+      | then-stations-n-via-then-stations-n w ↦ let z = h.stations in w.if-stations-n.true (omega arith)
+      | then-stations-n-via-else-stations-n+then-carts-k w ↦ let z = h.carts in w.if-carts-k.true (omega arith)
+      | then-stations-n-via-else-stations-n+else-carts-k+then-messages-held w ↦ let z = h.messages in w.if-messages-held.true (omega arith)
+      | then-stations-n-via-else-stations-n+else-carts-k+else-messages-held+then-lines-records w ↦ let z = h.lines in let most = most_is P a.bounds e in w.if-lines-records.true (omega arith)
+      | then-stations-n-via-else-stations-n+else-carts-k+else-messages-held+else-lines-records+then-texts-held w ↦ let z = h.texts in w.if-texts-held.true (omega arith)
+    ])
 
 pub returns : goal.returns
 returns c =
