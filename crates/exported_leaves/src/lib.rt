@@ -14,7 +14,7 @@ ghost use Rattle.carts.specs.View.{carts_in};
 ghost use Rattle.carts.specs.Words.{HasRow};
 ghost use Rattle.protocol.specs.Folds.{list_of};
 ghost use Rattle.exported_leaves.specs.Passed.{passed_by};
-ghost use Rattle.queue.specs.Rooms.{tables_floor, room_count, HasRooms, QueueRooms, room_code};
+ghost use Rattle.queue.specs.Rooms.{tables_floor, room_count, HasRooms, QueueRooms, room_word};
 ghost use Rattle.queue.specs.Keys.{Keyed};
 ghost use Rattle.lines.specs.Form.{form, sized};
 ghost use Rattle.lines.specs.Lines.{records_on, used};
@@ -55,9 +55,9 @@ pub extern "C" fn mekhturia_pop(pool: &mut [u64], i: usize, j: usize)
 #[unsafe(no_mangle)]
 pub extern "C" fn mekhturia_head(stations: &[u64], messages: &[u64], t: u64) -> usize
     requires { HasStation stations.now t × QueueRooms stations.now messages.now t × Keyed (tables_floor stations.now messages.now) t }
-    ensures { result ≡ room_code (head_among (tables_floor stations.now messages.now) t 32) }
+    ensures { result ≡ room_word (head_among (tables_floor stations.now messages.now) t 32) }
 {
-    queue::head(stations, messages, Station(t))
+    queue::head(stations, messages, Station(t)).unwrap_or(32)
 }
 
 // "every local cart in the copy is in the ack list"
