@@ -154,6 +154,7 @@ fn is_right(
 
 // What was met on the way: nothing was wrong; on this line the number of its next multicast and the rooms whose delete was met; the carts
 // whose hand-off was met. The carts whose acknowledgement was met stand in a word for each room, beside it.
+// `ok` makes no Option of the rest: what was met is promised past a wrong record too.
 #[derive(Clone, Copy)]
 struct Way {
     ok: bool,
@@ -277,6 +278,7 @@ fn meet(
     ensures masks_len_unchanged { length masks.new ≡ length masks.old }
 {
     let right = is_right(messages, carts, lines, size.carts, i, j, r);
+    // all are at hand, so that `&` has nothing to guess
     let open = way.ok & ((i < size.stations) & (j < size.stations));
     take(masks, way, open & right, r)
 }
@@ -304,6 +306,7 @@ fn along(
     let mut row = lines::head_of(lines, line);
     let mut last = lines::tail_of(lines, line);
     let mut met = way;
+    // what is left is counted down, not up: the laws of a chain speak of its rest
     while 0 < left {
         if rows <= row {
             return None;
@@ -406,6 +409,7 @@ fn from_each(
 // ---- Before the lines.
 
 // The stations that wait for the delete of the message in room m, and the carts known to have it: none, where the table has no such room.
+// The two differ in the word that they read alone: one function that is passed what to read would be no plainer.
 fn waiting_by(messages: &[u64], m: usize) -> u64
     requires { WholeRooms messages.now × (m < rooms) }
     ensures { result ≡ (rooms_in messages.now).waiting m }
@@ -429,6 +433,7 @@ fn acked_by(messages: &[u64], m: usize) -> u64
 }
 
 // The acknowledgements at the initiator and in the ack lists: they stand in one place, and whose they are.
+// `apart` makes no Option of the carts: those of a free room are asked for, wherever they stand.
 #[derive(Clone, Copy)]
 struct Acked {
     apart: bool,
