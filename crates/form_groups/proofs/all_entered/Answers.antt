@@ -1,14 +1,7 @@
-use mathlib.Core.Path.{◌∙◌}
-use native.Mathlib.Omega.{arith}
 use Rattle.carts.specs.View.{carts_in}
-use Rattle.form_tables.proofs.Walks.{walk_start, walk_end, walk_member, walk_below, walk_no, walk_on}
+use Rattle.form_tables.proofs.Walks.{walk_end, walk_member, walk_below, walk_no, walk_on}
 use Rattle.form_groups.proofs.Entered.{has_entered, stays_out, came_in}
 use Rattle.form_groups.proofs.all_entered.Goals as goal
-
-pub loop-number-init : goal.loop-number-init
-loop-number-init c =
-    let a = c.args in
-    walk_start 64 a.set (has_entered (carts_in a.carts.now).place) (c.into_iter-number-iterator.ensures.into_iter_gives ∙ c.members_of-number-items.ensures) (omega arith)
 
 pub is_outside-requires : goal.is_outside-requires
 is_outside-requires c =

@@ -1,17 +1,10 @@
-use mathlib.Core.Path.{◌≡◌, subst}
-use Prim.Native.Nat.{ℕ}
 use native.Mathlib.Omega.{arith}
-use Rattle.protocol.specs.Groups.{group_count}
 use Rattle.stations.specs.View.{head_in}
-use Rattle.form_tables.specs.Parts.{Collects}
 use Rattle.form_tables.proofs.Sets.{collect_none, collect_more}
 use Rattle.form_groups.proofs.grouped_carts.Goals as goal
 
 pub loop-group-init : goal.loop-group-init
 loop-group-init c = (omega arith, collect_none (head_in c.args.stations.now).groups)
-
-pub group_of-requires : goal.group_of-requires
-group_of-requires c = omega arith
 
 pub loop-group-preserved : goal.loop-group-preserved
 loop-group-preserved c =
@@ -21,10 +14,3 @@ loop-group-preserved c =
       omega (arith, c.loop-group-test.true),
       collect_more (head_in a.stations.now).groups l.group l.grouped members.result c.union-grouped.result l.invariant.1 members.ensures c.union-grouped.ensures,
     )
-
-pub returns : goal.returns
-returns c =
-    let a = c.args in
-    let l = c.loop-group in
-    let e : l.group ≡ group_count = omega arith in
-    subst (λ (g : ℕ). Collects (head_in a.stations.now).groups g l.grouped) e l.invariant.1

@@ -1,13 +1,7 @@
 use mathlib.Core.Path.{sym, ◌∙◌}
-use native.Mathlib.Omega.{arith}
 use Rattle.carts.specs.View.{carts_in}
-use Rattle.form_tables.proofs.Walks.{next_is, walk_start, walk_end, walk_below, walk_member, walk_no, walk_on}
+use Rattle.form_tables.proofs.Walks.{next_is, walk_end, walk_below, walk_member, walk_no, walk_on}
 use Rattle.form_tables.proofs.all_next.Goals as goal
-
-pub loop-number-init : goal.loop-number-init
-loop-number-init c =
-    let a = c.args in
-    walk_start 64 a.set (next_is (carts_in a.carts.now).next a.s a.n) (c.into_iter-number-iterator.ensures.into_iter_gives ∙ c.members_of-number-items.ensures) (omega arith)
 
 pub next_by-requires : goal.next_by-requires
 next_by-requires c =

@@ -9,12 +9,6 @@ use mathlib.Core.Bool.{not}
 use mathlib.Core.Path.{ap}
 use Rattle.form_tables.proofs.carts_ok.Goals as goal
 
-pub loop-number-init : goal.loop-number-init
-loop-number-init c = (omega arith, λ k l. absurd (omega arith))
-
-pub cart_ok-requires : goal.cart_ok-requires
-cart_ok-requires c = (omega arith, omega arith, omega arith)
-
 pub returns-then-not-cart_ok : goal.returns-then-not-cart_ok
 returns-then-not-cart_ok c =
     let f = cart_rule limits (tables c.args.stations.now c.args.carts.now []) in

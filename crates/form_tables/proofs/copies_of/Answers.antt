@@ -10,24 +10,15 @@ use mathlib.Core.Bool.{not}
 use mathlib.Core.Path.{ap}
 use Rattle.form_tables.proofs.copies_of.Goals as goal
 
-pub waiting_of-requires : goal.waiting_of-requires
-waiting_of-requires c = omega arith
-
 pub returns-then-waiting_of-eq0 : goal.returns-then-waiting_of-eq0
 returns-then-waiting_of-eq0 c =
     let a = c.args in
     copies_free (tables a.stations.now a.carts.now a.messages.now) a.m (sym c.waiting_of.ensures ∙ c.if-waiting_of-eq0.true)
 
-pub stations_of-end-requires : goal.stations_of-end-requires
-stations_of-end-requires c = omega arith
-
 pub loop-t-init : goal.loop-t-init
 loop-t-init c =
     let a = c.args in
     (omega arith, missing_start (tables a.stations.now a.carts.now a.messages.now) a.m)
-
-pub copy_named-requires : goal.copy_named-requires
-copy_named-requires c = let p = c.requires in (omega (arith, p.0.whole, p.0.stations, c.stations_of-end.ensures.floor), p.1, p.2)
 
 pub returns-then-not-copy_named : goal.returns-then-not-copy_named
 returns-then-not-copy_named c =
@@ -38,9 +29,6 @@ returns-then-not-copy_named c =
     let last = c.stations_of-end.ensures.floor in
     copies_no F a.m (held_of F a.m (λ z. c.if-waiting_of-eq0.false (c.waiting_of.ensures ∙ z))) l.t (omega arith)
     (refused (copy_named F a.m l.t) r.result r.ensures (not-true _ (ap not c.if-not-copy_named.true)))
-
-pub missing_at-requires : goal.missing_at-requires
-missing_at-requires c = let p = c.requires in (omega (arith, p.0.whole, p.0.stations, c.stations_of-end.ensures.floor), p.1, p.2, p.3)
 
 pub loop-t-preserved : goal.loop-t-preserved
 loop-t-preserved c =
@@ -53,18 +41,6 @@ loop-t-preserved c =
       missing_more F a.m l.t l.missing x.result c.union-missing.result l.invariant.1
           (passed (copy_named F a.m l.t) r.result r.ensures (not-false _ (ap not c.if-not-copy_named.false))) x.ensures c.union-missing.ensures,
     )
-
-pub initiator_of-s-requires : goal.initiator_of-s-requires
-initiator_of-s-requires c = omega arith
-
-pub number_of-n-requires : goal.number_of-n-requires
-number_of-n-requires c = omega arith
-
-pub cart_count-requires : goal.cart_count-requires
-cart_count-requires c = omega arith
-
-pub all_past-requires : goal.all_past-requires
-all_past-requires c = omega arith
 
 pub returns : goal.returns
 returns c =

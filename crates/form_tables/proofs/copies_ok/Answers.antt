@@ -6,12 +6,6 @@ use mathlib.Core.Bool.{not}
 use mathlib.Core.Path.{ap}
 use Rattle.form_tables.proofs.copies_ok.Goals as goal
 
-pub loop-m-init : goal.loop-m-init
-loop-m-init c = (omega arith, λ k l. absurd (omega arith))
-
-pub copies_of-requires : goal.copies_of-requires
-copies_of-requires c = (c.requires.0, omega arith, omega arith, c.requires.1)
-
 pub returns-then-not-copies_of : goal.returns-then-not-copies_of
 returns-then-not-copies_of c =
     let s = c.args in

@@ -6,12 +6,6 @@ use mathlib.Core.Bool.{not}
 use mathlib.Core.Path.{ap}
 use Rattle.form_tables.proofs.ends_ok.Goals as goal
 
-pub loop-t-init : goal.loop-t-init
-loop-t-init c = (omega arith, λ k l. absurd (omega arith))
-
-pub rooms_end-requires : goal.rooms_end-requires
-rooms_end-requires c = (omega arith, omega arith)
-
 pub returns-then-not-rooms_end : goal.returns-then-not-rooms_end
 returns-then-not-rooms_end c =
     let s = c.args in

@@ -11,9 +11,6 @@ use mathlib.Core.Path.{ap}
 use Rattle.form_tables.proofs.entries_of.Goals as goal
 use Rattle.form_tables.proofs.entries_of.Goals.{then-most-met-via-then-most-met, then-most-met-via-else-most-met+then-met-gt0}
 
-pub gather_entries-met-requires : goal.gather_entries-met-requires
-gather_entries-met-requires c = let p = c.requires in (p.5, p.1, p.6)
-
 pub returns-then-most-met : goal.returns-then-most-met
 returns-then-most-met c =
     let a = c.args in

@@ -1,4 +1,4 @@
-use mathlib.Core.Path.{ap, ◌∙◌}
+use mathlib.Core.Path.{ap}
 use Prim.Native.Nat.{ℕ}
 use native.Mathlib.Omega.{arith}
 use borrow.Author.Tests.{not-true, not-false}
@@ -7,18 +7,8 @@ use Rattle.protocol.specs.Claims.{Claim, all}
 use Rattle.protocol.specs.Form.{entry_rule}
 use Rattle.protocol.proofs.Answers.{passed, refused, one_more, all_yes, all_no}
 use Rattle.form_tables.specs.Tables.{tables}
-use Rattle.form_tables.specs.Parts.{most_of}
 use mathlib.Core.Bool.{not}
 use Rattle.form_tables.proofs.entries_ok.Goals as goal
-
-pub cart_count-requires : goal.cart_count-requires
-cart_count-requires c = omega arith
-
-pub loop-m-init : goal.loop-m-init
-loop-m-init c = (omega arith, λ k l. absurd (omega arith))
-
-pub entries_of-requires : goal.entries_of-requires
-entries_of-requires c = (c.requires.0, omega arith, c.requires.1, c.most_of-most.ensures ∙ ap most_of c.cart_count.ensures, omega arith, c.requires.2, c.requires.3)
 
 pub returns-then-not-entries_of : goal.returns-then-not-entries_of
 returns-then-not-entries_of c =

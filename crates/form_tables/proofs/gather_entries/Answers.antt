@@ -1,25 +1,10 @@
-use Prim.Native.Nat.{ℕ}
 use native.Mathlib.Omega.{arith}
-use mathlib.Core.Path.{◌≡◌, subst}
 use Rattle.stations.specs.View.{stations_in}
-use Rattle.form_tables.specs.Parts.{Entries}
 use Rattle.form_tables.proofs.Queues.{entries_none, entries_more}
 use Rattle.form_tables.proofs.gather_entries.Goals as goal
 
 pub loop-t-init : goal.loop-t-init
 loop-t-init c = (omega arith, entries_none (stations_in c.args.stations.now) c.args.m)
-
-pub copy_of-copy-requires : goal.copy_of-copy-requires
-copy_of-copy-requires c = omega arith
-
-pub acks_of-acks-requires : goal.acks_of-acks-requires
-acks_of-acks-requires c = omega arith
-
-pub queue_of-queue-requires : goal.queue_of-queue-requires
-queue_of-queue-requires c = omega arith
-
-pub local_of-local-requires : goal.local_of-local-requires
-local_of-local-requires c = omega arith
 
 pub loop-t-preserved : goal.loop-t-preserved
 loop-t-preserved c =
@@ -38,9 +23,3 @@ loop-t-preserved c =
       entries_more (stations_in c.args.stations.now) c.args.m a.t a.sets a.queued a.strays copy.result acks.result queue.result local.result u.result v.result x.result y.result z.result d.result a.invariant.1
           copy.ensures acks.ensures queue.ensures local.ensures u.ensures v.ensures x.ensures y.ensures d.ensures z.ensures,
     )
-
-pub returns : goal.returns
-returns c =
-    let a = c.loop-t in
-    let e : a.t ≡ c.args.n = omega arith in
-    subst (λ (t : ℕ). Entries (stations_in c.args.stations.now) c.args.m t a.sets a.queued a.strays) e a.invariant.1

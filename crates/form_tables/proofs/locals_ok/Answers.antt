@@ -7,18 +7,6 @@ use Rattle.form_tables.proofs.Locals.{mask_right}
 use Rattle.protocol.proofs.Answers.{one_more, all_yes, all_no}
 use Rattle.form_tables.proofs.locals_ok.Goals as goal
 
-pub loop-t-init : goal.loop-t-init
-loop-t-init c = (omega arith, λ k l. absurd (omega arith))
-
-pub local_of-requires : goal.local_of-requires
-local_of-requires c = omega arith
-
-pub offset_bounds-locals-t : goal.offset_bounds-locals-t
-offset_bounds-locals-t c = omega arith
-
-pub bounds-locals-t : goal.bounds-locals-t
-bounds-locals-t c = omega arith
-
 pub returns-then-local_of-locals : goal.returns-then-local_of-locals
 returns-then-local_of-locals c =
     let s = c.args in

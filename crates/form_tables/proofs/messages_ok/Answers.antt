@@ -10,12 +10,6 @@ use mathlib.Core.Bool.{not}
 use mathlib.Core.Path.{ap}
 use Rattle.form_tables.proofs.messages_ok.Goals as goal
 
-pub loop-m-init : goal.loop-m-init
-loop-m-init c = (omega arith, λ k l. absurd (omega arith))
-
-pub held_ok-requires : goal.held_ok-requires
-held_ok-requires c = (omega arith, omega arith)
-
 pub returns-then-not-held_ok : goal.returns-then-not-held_ok
 returns-then-not-held_ok c =
     let F = tables c.args.stations.now [] c.args.messages.now in

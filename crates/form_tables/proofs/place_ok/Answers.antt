@@ -1,7 +1,7 @@
 -- `form_tables::place_ok` meets its contract.
 use mathlib.Core.Path.{ap}
 use Rattle.carts.specs.Records.{seen}
-use Rattle.form_tables.proofs.Places.{inside_outside, inside_at, inside_leaving, inside_travelling}
+use Rattle.form_tables.proofs.Places.{inside_outside, inside_at}
 use Rattle.form_tables.proofs.place_ok.Goals as goal
 
 pub returns-in-Outside : goal.returns-in-Outside
@@ -9,9 +9,3 @@ returns-in-Outside c = λ F e. inside_outside F _ (ap seen c.in-Outside.is)
 
 pub returns-in-At : goal.returns-in-At
 returns-in-At c = λ F e. inside_at F _ _ c.args.n e (ap seen c.in-At.is)
-
-pub returns-in-Leaving : goal.returns-in-Leaving
-returns-in-Leaving c = λ F e. inside_leaving F _ _ _ c.args.n e (ap seen c.in-Leaving.is) c.are_below.result c.are_below.ensures
-
-pub returns-in-Travelling : goal.returns-in-Travelling
-returns-in-Travelling c = λ F e. inside_travelling F _ _ _ c.args.n e (ap seen c.in-Travelling.is) c.are_below-in-Travelling.result c.are_below-in-Travelling.ensures

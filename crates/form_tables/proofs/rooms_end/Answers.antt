@@ -1,17 +1,11 @@
-use mathlib.Core.Path.{sym, ◌∙◌}
+use mathlib.Core.Path.{◌∙◌}
 use Prim.Native.Nat.{ℕ}
 use native.Mathlib.Omega.{arith}
 use Rattle.protocol.specs.Claims.{Claim, when, le, eq, both}
 use Rattle.stations.specs.View.{stations_in}
-use Rattle.protocol.proofs.Answers.{one_more, all_yes, all_no}
+use Rattle.protocol.proofs.Answers.{all_yes, all_no}
 use Rattle.form_tables.proofs.rooms_end.Goals as goal
 use Rattle.form_tables.proofs.rooms_end.Goals.{then-copy_of-ne0-via-then-copy_of-ne0, then-copy_of-ne0-via-else-copy_of-ne0+then-queue_of-ne0}
-
-pub loop-m-init : goal.loop-m-init
-loop-m-init c = (omega arith, omega arith, λ k l h. absurd (omega arith))
-
-pub copy_of-requires : goal.copy_of-requires
-copy_of-requires c = (omega arith, omega arith)
 
 pub returns-then-copy_of-ne0 : goal.returns-then-copy_of-ne0
 returns-then-copy_of-ne0 c =
@@ -22,16 +16,6 @@ returns-then-copy_of-ne0 c =
       | then-copy_of-ne0-via-then-copy_of-ne0 w ↦ w.if-copy_of-ne0.true (c.copy_of.ensures ∙ (h a.invariant.0).0)
       | then-copy_of-ne0-via-else-copy_of-ne0+then-queue_of-ne0 w ↦ w.if-queue_of-ne0.true (w.queue_of.ensures ∙ (h a.invariant.0).1)
     ])
-
-pub queue_of-requires : goal.queue_of-requires
-queue_of-requires c = (omega arith, omega arith)
-
-pub loop-m-preserved : goal.loop-m-preserved
-loop-m-preserved c =
-    let s = c.args in
-    let f : ℕ → Claim = λ k. when (le s.held k) (both (eq ((stations_in s.stations.now).copy k s.t.0) 0) (eq ((stations_in s.stations.now).queue k s.t.0) 0)) in
-    let a = c.loop-m in
-    (omega arith, omega arith, one_more f a.m a.invariant.2 (λ l. (sym c.copy_of.ensures ∙ c.if-copy_of-ne0.false, sym c.queue_of.ensures ∙ c.if-queue_of-ne0.false)))
 
 pub returns : goal.returns
 returns c =

@@ -7,12 +7,6 @@ use mathlib.Core.Bool.{not}
 use mathlib.Core.Path.{ap}
 use Rattle.form_tables.proofs.rooms_ok.Goals as goal
 
-pub loop-m-init : goal.loop-m-init
-loop-m-init c = (omega arith, λ k l. absurd (omega arith))
-
-pub room_ok-requires : goal.room_ok-requires
-room_ok-requires c = (omega arith, omega arith)
-
 pub returns-then-not-room_ok : goal.returns-then-not-room_ok
 returns-then-not-room_ok c =
     let f = room_sets (tables c.args.stations.now [] c.args.messages.now) in

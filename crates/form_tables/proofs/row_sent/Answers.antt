@@ -5,27 +5,14 @@ use Rattle.stations.proofs.TableLaws.{sent_past}
 use Rattle.protocol.specs.Claims.{all, le, when, eq}
 use Rattle.stations.specs.View.{stations_in}
 use Rattle.carts.specs.View.{carts_in}
-use Rattle.protocol.proofs.Answers.{one_more, all_no, same_answer}
+use Rattle.protocol.proofs.Answers.{all_no, same_answer}
 use Rattle.form_tables.proofs.row_sent.Goals as goal
-
-pub loop-s-init : goal.loop-s-init
-loop-s-init c = (omega arith, λ k l. absurd (omega arith))
-
-pub sent_of-requires : goal.sent_of-requires
-sent_of-requires c = omega arith
 
 pub returns-then-sent_of-next_of : goal.returns-then-sent_of-next_of
 returns-then-sent_of-next_of c =
     let next = (carts_in c.args.carts.now).next c.args.number.0 in
     let sent = (stations_in c.args.stations.now).sent in
     all_no 16 (λ k. le (next k) (sent k)) c.loop-s.s (omega arith) (λ h. omega arith)
-
-pub loop-s-preserved : goal.loop-s-preserved
-loop-s-preserved c =
-    let next = (carts_in c.args.carts.now).next c.args.number.0 in
-    let sent = (stations_in c.args.stations.now).sent in
-    let a = c.loop-s in
-    (omega arith, one_more (λ k. le (next k) (sent k)) a.s a.invariant.1 (omega arith))
 
 -- the stations from n on have sent nothing, having no row
 pub returns : goal.returns

@@ -8,12 +8,6 @@ use mathlib.Core.Bool.{not}
 use mathlib.Core.Path.{ap}
 use Rattle.form_tables.proofs.stations_ok.Goals as goal
 
-pub loop-s-init : goal.loop-s-init
-loop-s-init c = (omega arith, λ M e k l. absurd (omega arith))
-
-pub station_ok-requires : goal.station_ok-requires
-station_ok-requires c = (omega arith, omega arith, omega arith)
-
 pub returns-then-not-station_ok : goal.returns-then-not-station_ok
 returns-then-not-station_ok c =
     λ M e. let f = station_rule M (tables c.args.stations.now [] []) in

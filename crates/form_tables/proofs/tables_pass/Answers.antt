@@ -16,12 +16,6 @@ use mathlib.Core.Bool.{not}
 use mathlib.Core.Path.{ap}
 use Rattle.form_tables.proofs.tables_pass.Goals as goal
 
-pub counts_ok-requires : goal.counts_ok-requires
-counts_ok-requires c =
-    let f = c.requires.0 in
-    let p = c.requires.1 in
-    omega (arith, p.stations)
-
 pub returns-then-not-counts_ok : goal.returns-then-not-counts_ok
 returns-then-not-counts_ok c =
     let a = c.args in
@@ -33,12 +27,6 @@ returns-then-not-counts_ok c =
     let h = a.bounds.held in
     let t = c.counts_ok in
     λ N e. no (tables_rule N n k h S C M) (λ z. refused (counts_rule n k (tables S [] [])) t.result t.ensures (not-true _ (ap not c.if-not-counts_ok.true)) z.0)
-
-pub stations_ok-requires : goal.stations_ok-requires
-stations_ok-requires c =
-    let f = c.requires.0 in
-    let p = c.requires.1 in
-    (p.stations, f.few_stations, f.low_last)
 
 pub returns-then-not-stations_ok : goal.returns-then-not-stations_ok
 returns-then-not-stations_ok c =
@@ -52,12 +40,6 @@ returns-then-not-stations_ok c =
     let t = c.stations_ok in
     λ N e. no (tables_rule N n k h S C M) (λ z. refused (all n (station_rule N (tables S [] []))) t.result (t.ensures N e) (not-true _ (ap not c.if-not-stations_ok.true)) z.1.0)
 
-pub places_ok-requires : goal.places_ok-requires
-places_ok-requires c =
-    let f = c.requires.0 in
-    let p = c.requires.1 in
-    (p.carts, f.few_carts)
-
 pub returns-then-not-places_ok : goal.returns-then-not-places_ok
 returns-then-not-places_ok c =
     let a = c.args in
@@ -69,11 +51,6 @@ returns-then-not-places_ok c =
     let h = a.bounds.held in
     let t = c.places_ok in
     λ N e. no (tables_rule N n k h S C M) (λ z. refused (all k (λ j. is (canonical_in C j))) t.result t.ensures (not-true _ (ap not c.if-not-places_ok.true)) z.1.1.0)
-
-pub texts_lie_right-requires : goal.texts_lie_right-requires
-texts_lie_right-requires c =
-    let p = c.requires.1 in
-    p.messages
 
 pub returns-then-not-texts_lie_right : goal.returns-then-not-texts_lie_right
 returns-then-not-texts_lie_right c =
@@ -87,12 +64,6 @@ returns-then-not-texts_lie_right c =
     let t = c.texts_lie_right in
     λ N e. no (tables_rule N n k h S C M) (λ z. refused (layout_rule h (rooms_in M)) t.result t.ensures (not-true _ (ap not c.if-not-texts_lie_right.true)) z.1.1.1.0)
 
-pub locals_ok-requires : goal.locals_ok-requires
-locals_ok-requires c =
-    let f = c.requires.0 in
-    let p = c.requires.1 in
-    (p.stations, f.few_stations, p.carts, f.few_carts)
-
 pub returns-then-not-locals_ok : goal.returns-then-not-locals_ok
 returns-then-not-locals_ok c =
     let a = c.args in
@@ -104,12 +75,6 @@ returns-then-not-locals_ok c =
     let h = a.bounds.held in
     let t = c.locals_ok in
     λ N e. no (tables_rule N n k h S C M) (λ z. refused (all n (λ t. is (local_right (lent whole_floor S C [] [] [] []) t))) t.result t.ensures (not-true _ (ap not c.if-not-locals_ok.true)) z.1.1.1.1.0)
-
-pub carts_ok-requires : goal.carts_ok-requires
-carts_ok-requires c =
-    let f = c.requires.0 in
-    let p = c.requires.1 in
-    (p.stations, f.few_stations, p.carts, f.few_carts)
 
 pub returns-then-not-carts_ok : goal.returns-then-not-carts_ok
 returns-then-not-carts_ok c =
@@ -123,12 +88,6 @@ returns-then-not-carts_ok c =
     let t = c.carts_ok in
     λ N e. no (tables_rule N n k h S C M) (λ z. refused (all k (cart_rule limits (tables S C []))) t.result t.ensures (not-true _ (ap not c.if-not-carts_ok.true)) z.1.1.1.1.1.0)
 
-pub rooms_ok-requires : goal.rooms_ok-requires
-rooms_ok-requires c =
-    let f = c.requires.0 in
-    let p = c.requires.1 in
-    (omega (arith, p.stations), p.messages, f.few_held)
-
 pub returns-then-not-rooms_ok : goal.returns-then-not-rooms_ok
 returns-then-not-rooms_ok c =
     let a = c.args in
@@ -140,12 +99,6 @@ returns-then-not-rooms_ok c =
     let h = a.bounds.held in
     let t = c.rooms_ok in
     λ N e. no (tables_rule N n k h S C M) (λ z. refused (all h (room_sets (tables S [] M))) t.result t.ensures (not-true _ (ap not c.if-not-rooms_ok.true)) z.1.1.1.1.1.1.0)
-
-pub messages_ok-requires : goal.messages_ok-requires
-messages_ok-requires c =
-    let f = c.requires.0 in
-    let p = c.requires.1 in
-    (p.stations, p.messages, f.few_held)
 
 pub returns-then-not-messages_ok : goal.returns-then-not-messages_ok
 returns-then-not-messages_ok c =
@@ -201,12 +154,6 @@ returns-then-not-copies_ok c =
     let h = a.bounds.held in
     let t = c.copies_ok in
     λ N e. no (tables_rule N n k h S C M) (λ z. refused (all h (copies_rule (tables S C M))) t.result t.ensures (not-true _ (ap not c.if-not-copies_ok.true)) z.1.1.1.1.1.1.1.1.1.0)
-
-pub ends_ok-requires : goal.ends_ok-requires
-ends_ok-requires c =
-    let f = c.requires.0 in
-    let p = c.requires.1 in
-    (p.stations, f.few_stations, f.few_held)
 
 pub returns : goal.returns
 returns c =

@@ -24,9 +24,6 @@ as_of : (P : Product) (b : Bounds) (S C M : List ℕ) → NumbersOf P b
     → test (tables_rule (limits_of P) b.stations b.carts b.held S C M) ≡ test (tables_rule (limits_of P) P.stations P.carts P.held S C M)
 as_of P b S C M e = λ i. test (tables_rule (limits_of P) (sym e.stations_are i) (sym e.carts_are i) (sym e.held_is i) S C M)
 
-pub lengths_ok-requires : goal.lengths_ok-requires
-lengths_ok-requires c = c.requires
-
 pub returns-then-not-lengths_ok : goal.returns-then-not-lengths_ok
 returns-then-not-lengths_ok c =
     let a = c.args in

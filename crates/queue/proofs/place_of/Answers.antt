@@ -23,9 +23,6 @@ loop-k-init c =
     let e = c.into_iter-k-iterator.ensures.into_iter_gives ∙ c.members_of-k-items.ensures ∙ ap (λ (x : ℕ). record { left = x }) (c.without_member-others.ensures ∙ ap (λ (x : ℕ). without x a.m) c.entries_of.ensures) in
     (0, walk_start 32 (without (entries_in S t) a.m) e (others_word S t a.m) (others_inside S t a.m), refl)
 
-pub without_member-others-requires : goal.without_member-others-requires
-without_member-others-requires c = let p = c.requires in omega (arith, p.1, p.2)
-
 pub is_ahead-requires : goal.is_ahead-requires
 is_ahead-requires c =
     let a = c.args in
