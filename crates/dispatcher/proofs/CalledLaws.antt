@@ -10,25 +10,28 @@ use Rattle.protocol.specs.Form.{passes_form}
 use Rattle.protocol.specs.Quiet.{quiet_refusal, quiet_after}
 use Rattle.protocol.proofs.QuietCall.{broken_is_5, short_is_21, else_runs, call_refused, refused_call_keeps, call_runs}
 use Rattle.view.specs.View.{Lent, floor_in}
-use Rattle.dispatcher.specs.declared.Quiet.TheVariants.{Refused, After}
+use Rattle.std.specs.Prelude.{Ok, Err}
+use Rattle.refusals.specs.declared.Refusal.{Refusal}
+use Rattle.refusals.specs.declared.Refusal.TheVariants.{NotReady, ShortBuffer}
+use Rattle.refusals.specs.Numbers.{number_of}
 use Rattle.dispatcher.specs.Quieted.{Quieted}
 use Rattle.dispatcher.specs.Called.{QuietMet}
 
 module _ (L : Lent) (buffer : List ℕ) where
-  refused : (r : ℕ) → 0 < r → quiet_refusal (limits_of L.product) (floor_in L) (length buffer) ≡ r → QuietMet L L buffer buffer (Refused r)
+  refused : (r : Refusal) → 0 < number_of r → quiet_refusal (limits_of L.product) (floor_in L) (length buffer) ≡ number_of r → QuietMet L L buffer buffer (Err r)
   refused r pos e =
-      let a = call_refused (limits_of L.product) (floor_in L) buffer r pos e in
-      let k = refused_call_keeps (limits_of L.product) (floor_in L) buffer r a in
+      let a = call_refused (limits_of L.product) (floor_in L) buffer (number_of r) pos e in
+      let k = refused_call_keeps (limits_of L.product) (floor_in L) buffer (number_of r) a in
       record { product = refl; answers = sym a; floor = sym k.0; octets = sym k.1; untouched = λ s q. refl }
 
-  pub quiet_broken : passes_form (limits_of L.product) (floor_in L) ≡ false → QuietMet L L buffer buffer (Refused 5)
-  quiet_broken h = refused 5 (omega arith) (broken_is_5 (limits_of L.product) (floor_in L) (length buffer) h)
+  pub quiet_broken : passes_form (limits_of L.product) (floor_in L) ≡ false → QuietMet L L buffer buffer (Err NotReady)
+  quiet_broken h = refused NotReady (omega arith) (broken_is_5 (limits_of L.product) (floor_in L) (length buffer) h)
 
   module _ (h : passes_form (limits_of L.product) (floor_in L) ≡ true) where
-    pub quiet_short : length buffer < 512 → QuietMet L L buffer buffer (Refused 21)
-    quiet_short l = refused 21 (omega arith) (short_is_21 (limits_of L.product) (floor_in L) (length buffer) h l)
+    pub quiet_short : length buffer < 512 → QuietMet L L buffer buffer (Err ShortBuffer)
+    quiet_short l = refused ShortBuffer (omega arith) (short_is_21 (limits_of L.product) (floor_in L) (length buffer) h l)
 
-    pub quiet_ran : (L' : Lent) (buffer' : List ℕ) (steps : ℕ) → 512 ≤ length buffer → Quieted L L' buffer buffer' steps → QuietMet L L' buffer buffer' (After steps)
+    pub quiet_ran : (L' : Lent) (buffer' : List ℕ) (steps : ℕ) → 512 ≤ length buffer → Quieted L L' buffer buffer' steps → QuietMet L L' buffer buffer' (Ok steps)
     quiet_ran L' buffer' steps l q =
         let a = call_runs (limits_of L.product) (floor_in L) buffer (else_runs (limits_of L.product) (floor_in L) (length buffer) h l) in
         record {

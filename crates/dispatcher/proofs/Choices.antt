@@ -22,7 +22,7 @@ use Rattle.protocol.proofs.FormFacts.{past, some_history}
 use Rattle.protocol.proofs.Dispatch.{all_empty_radio}
 use Rattle.sets.specs.Masks.{least}
 use Rattle.sets.proofs.MaskLaws.{Lowest, least_lowest}
-use Rattle.sets.proofs.Walk.{Ahead, Turn, ahead_member, ahead_inside, ahead_skips, ahead_end}
+use Rattle.sets.proofs.Walk.{Turn}
 use Rattle.stations.specs.View.{HasHead, HasStation, head_in, stations_in}
 use Rattle.carts.specs.Words.{HasRow}
 use Rattle.carts.specs.View.{carts_in}
@@ -31,12 +31,13 @@ use Rattle.view.specs.View.{Lent, lent, floor_in}
 use Rattle.view.proofs.LinesView.{line_beyond}
 use Rattle.view.proofs.Standing.{Standing, standing, few_carts, no_line_from, no_line_to}
 use Rattle.queue.specs.Rooms.{tables_floor, QueueRooms, room_code, room_in}
+use Rattle.std.specs.Prelude.{None, Some}
+use Rattle.std.specs.Prelude as code
 use Rattle.queue.specs.Keys.{Keyed}
-use Rattle.queue.proofs.Codes.{room_in_lem, no_room_in}
 use Rattle.event_radio.proofs.RadioMeets.{room_fits, head_found, room_low, queue_rooms, keys}
 use Rattle.dispatcher.specs.Busy.{Busy, busy_row, IsBusy}
 use Rattle.dispatcher.specs.Queues.{QueuedIn}
-use Rattle.dispatcher.specs.Choice.{cart_code, lowest_steady, AllEmpty}
+use Rattle.dispatcher.specs.Choice.{lowest_steady, AllEmpty}
 use Rattle.dispatcher.proofs.BusyLaws.{in_row, beyond_row, row_word}
 
 -- THE LOWEST STEADY CART of a set
@@ -52,30 +53,27 @@ module _ (C : List ℕ) (set left k : ℕ) where
   not_in : (d : ℕ) → has set d ≡ false → served d ≡ false
   not_in d e = rw e refl
 
-  -- the cart that the walk came to is steady
-  pub found_steady : (m : ℕ) → Ahead 64 set left k → 0 < left → least 64 left ≡ some m → ((d : ℕ) → d < k → served d ≡ false) → (b : Bool) → b ≡ (carts_in C).steady m → b ≡ true
-      → m ≡ cart_code (lowest_steady C set)
-  unfolding lowest_steady
-  found_steady m A pos e before b s t =
-      let low = first_is 64 served m (ahead_inside 64 set left k m A pos e) (and_intro (has set m) ((carts_in C).steady m) (ahead_member 64 set left k m A pos e) (sym s ∙ t))
-      (λ d l. by_lt d k (λ h. before d h) (λ h. not_in d (ahead_skips 64 set left k m A pos e d h l))) in
-      ap cart_code (sym low)
+  module _ (before : (d : ℕ) → d < k → served d ≡ false) where
+    -- the cart that the walk came to is steady
+    pub found_steady : (m left' : ℕ) → Turn 64 set left k m left' → (b : Bool) → b ≡ (carts_in C).steady m → b ≡ true → some m ≡ lowest_steady C set
+    unfolding lowest_steady
+    found_steady m left' turn b s t =
+        sym (first_is 64 served m turn.inside (and_intro (has set m) ((carts_in C).steady m) turn.member (sym s ∙ t))
+        (λ d l. by_lt d k (λ h. before d h) (λ h. not_in d (turn.skips d h l))))
 
-  -- or is not
-  pub not_steady_on : (m left' : ℕ) → Turn 64 set left k m left' → ((d : ℕ) → d < k → served d ≡ false) → (b : Bool) → b ≡ (carts_in C).steady m → b ≡ false
-      → (d : ℕ) → d < m + 1 → served d ≡ false
-  not_steady_on m left' turn before b s t d l =
-      by_lt d k (before d)
-      (λ h. by_eq d m
-      (λ z. rw z (and_second_false (has set m) ((carts_in C).steady m) (sym s ∙ t)))
-      (λ z. not_in d (turn.skips d h (omega arith))))
+    -- or is not
+    pub not_steady_on : (m left' : ℕ) → Turn 64 set left k m left' → (b : Bool) → b ≡ (carts_in C).steady m → b ≡ false
+        → (d : ℕ) → d < m + 1 → served d ≡ false
+    not_steady_on m left' turn b s t d l =
+        by_lt d k (before d)
+        (λ h. by_eq d m
+        (λ z. rw z (and_second_false (has set m) ((carts_in C).steady m) (sym s ∙ t)))
+        (λ z. not_in d (turn.skips d h (omega arith))))
 
-  -- the walk is over
-  pub none_steady : left ≡ 0 → Ahead 64 set left k → ((d : ℕ) → d < k → served d ≡ false) → 64 ≡ cart_code (lowest_steady C set)
-  unfolding lowest_steady
-  none_steady z A before =
-      let A₀ : Ahead 64 set 0 k = rw z at A in
-      ap cart_code (sym (first_nowhere 64 served (λ d l. by_lt d k (before d) (λ h. not_in d (ahead_end 64 set k A₀ d h)))))
+    -- the walk is over
+    pub none_steady : ((c : ℕ) → k ≤ c → has set c ≡ false) → none ≡ lowest_steady C set
+    unfolding lowest_steady
+    none_steady gone = sym (first_nowhere 64 served (λ d l. by_lt d k (before d) (λ h. not_in d (gone d h))))
 
 -- the least of fewer, where none of the others passes
 first_narrow : (n k : ℕ) (f g : ℕ → Bool) → n ≤ k → ((c : ℕ) → c < n → f c ≡ g c) → ((c : ℕ) → n ≤ c → g c ≡ false) → first k g ≡ first n f
@@ -85,15 +83,6 @@ first_narrow n k f g l same beyond =
     (λ m e. let a = first_some k g m e in
     let low : m < n = by_lt m n (λ h. h) (λ h. clash (g m) a.1 (beyond m h)) in
     e ∙ sym (first_is n f m low (same m low ∙ a.1) (λ c h. same c (omega arith) ∙ first_least k g m e c h)))
-
--- what a word says of a cart
-pub code_some : (o : Option ℕ) (c : ℕ) → c ≡ cart_code o → c < 64 → o ≡ some c
-code_some none c e l = absurd (let z : c ≡ 64 = e in omega arith)
-code_some (some k) c e l = ap some (sym e)
-
-pub code_none : (o : Option ℕ) (c : ℕ) → ((k : ℕ) → o ≡ some k → k < 64) → c ≡ cart_code o → 64 ≤ c → o ≡ none
-code_none none c low e l = refl
-code_none (some k) c low e l = absurd (let z : c ≡ k = e in let y = low k refl in omega arith)
 
 -- A FLOOR THAT PASSES
 module _ (P : Product) (S C M W T O : List ℕ) (p : passes_form (limits_of P) (floor_in (lent P S C M W T O)) ≡ true) where
@@ -120,51 +109,43 @@ module _ (P : Product) (S C M W T O : List ℕ) (p : passes_form (limits_of P) (
         let d = X.sized.counts.stations in
         (omega arith, queue_rooms L t X on, keys L t X on)
 
-    -- no cart beyond those of the floor
-    pub cart_low : (c : ℕ) → first_cart N F t ≡ some c → c < 64
-    unfolding first_cart
-    cart_low c e = let a = (first_some F.carts (would_receive N F t) c e).0 in let d = few_carts L X in omega arith
-
     -- the room of the queue's head, or none
-    module _ (m : ℕ) (found : m ≡ room_code (head_among (tables_floor S M) t 32)) where
-      is_room : (m ≡ 32 → ⊥) → m < 32
-      is_room n = let a = room_fits L t m found in omega (arith, n)
-
-      pub entry_asks : (m ≡ 32 → ⊥) → HasStation S t × (m < 32)
-      entry_asks n = (head_asks.0, is_room n)
-
-      -- a cart that is queued is one of the floor's
-      queued_low : (m ≡ 32 → ⊥) → (c : ℕ) → has ((stations_in S).queue m t) c ≡ true → c < F.carts
-      queued_low n c e =
-          let d = X.sized.counts.stations in
-          member_below F.carts (F.queue m t) c (X.sized.copies.queue m t (room_low L t X on m found (is_room n)) (omega arith)) e
-
-      pub carts_asks : (m ≡ 32 → ⊥) → (q : ℕ) → q ≡ (stations_in S).queue m t → (c : ℕ) → has q c ≡ true → HasRow C c
-      carts_asks n q e c h =
-          let a = X.lengths.carts in
-          let d = X.sized.counts.carts in
-          let l = queued_low n c (rw e at h) in
-          omega arith
-
+    module _ (head : code.Option ℕ) (found : head ≡ room_code (head_among (tables_floor S M) t 32)) where
       -- WITH ALL LINES EMPTY
-      module _ (empty : AllEmpty F) where
-        would : (c : ℕ) → c < F.carts → would_receive N F t c ≡ by_option (room_in m) false (λ r. has (F.queue r t) c && F.steady c)
-        would c lc =
-            all_empty_radio N F (past N F X.facts) (some_history N F X.facts) X.sized p (λ i j li lj. empty i j) t c on lc
-            ∙ ap (λ (o : Option ℕ). by_option o false (λ r. has (F.queue r t) c && F.steady c)) (head_found L t X on m found)
+      would : AllEmpty F → (c : ℕ) → c < F.carts → would_receive N F t c ≡ by_option (room_in head) false (λ r. has (F.queue r t) c && F.steady c)
+      would empty c lc =
+          all_empty_radio N F (past N F X.facts) (some_history N F X.facts) X.sized p (λ i j li lj. empty i j) t c on lc
+          ∙ ap (λ (o : Option ℕ). by_option o false (λ r. has (F.queue r t) c && F.steady c)) (head_found L t X on head found)
 
-        pub nobody_there : m ≡ 32 → 64 ≡ cart_code (first_cart N F t)
-        unfolding first_cart
-        nobody_there z =
-            ap cart_code (sym (first_nowhere F.carts (would_receive N F t) (λ c l. would c l
-            ∙ ap (λ (o : Option ℕ). by_option o false (λ r. has (F.queue r t) c && F.steady c)) (no_room_in m (omega arith)))))
+      pub nobody_there : AllEmpty F → head ≡ None → none ≡ first_cart N F t
+      unfolding first_cart
+      nobody_there empty z =
+          sym (first_nowhere F.carts (would_receive N F t) (λ c l. would empty c l
+          ∙ ap (λ (o : code.Option ℕ). by_option (room_in o) false (λ r. has (F.queue r t) c && F.steady c)) z))
 
-        pub receiver_is : (m ≡ 32 → ⊥) → (q r : ℕ) → q ≡ (stations_in S).queue m t → r ≡ cart_code (lowest_steady C q) → r ≡ cart_code (first_cart N F t)
+      module _ (m : ℕ) (is : head ≡ Some m) where
+        pub entry_asks : HasStation S t × (m < 32)
+        entry_asks = (head_asks.0, room_fits L t head found m is)
+
+        -- a cart that is queued is one of the floor's
+        queued_low : (c : ℕ) → has ((stations_in S).queue m t) c ≡ true → c < F.carts
+        queued_low c e =
+            let d = X.sized.counts.stations in
+            member_below F.carts (F.queue m t) c (X.sized.copies.queue m t (room_low L t X on head found m is) (omega arith)) e
+
+        pub carts_asks : (q : ℕ) → q ≡ (stations_in S).queue m t → (c : ℕ) → has q c ≡ true → HasRow C c
+        carts_asks q e c h =
+            let a = X.lengths.carts in
+            let d = X.sized.counts.carts in
+            let l = queued_low c (rw e at h) in
+            omega arith
+
+        pub receiver_is : AllEmpty F → (q : ℕ) (r : Option ℕ) → q ≡ (stations_in S).queue m t → r ≡ lowest_steady C q → r ≡ first_cart N F t
         unfolding first_cart lowest_steady
-        receiver_is n q r e found_there =
-            found_there ∙ rw e (ap cart_code (first_narrow F.carts 64 (would_receive N F t) (λ c. has (F.queue m t) c && F.steady c) (few_carts L X)
-            (λ c l. would c l ∙ ap (λ (o : Option ℕ). by_option o false (λ r. has (F.queue r t) c && F.steady c)) (room_in_lem m (is_room n)))
-            (λ c l. by_test (has (F.queue m t) c) (λ h. absurd (let low = queued_low n c h in omega arith)) (λ h. rw h refl))))
+        receiver_is empty q r e found_there =
+            found_there ∙ rw e (first_narrow F.carts 64 (would_receive N F t) (λ c. has (F.queue m t) c && F.steady c) (few_carts L X)
+            (λ c l. would empty c l ∙ ap (λ (o : code.Option ℕ). by_option (room_in o) false (λ r. has (F.queue r t) c && F.steady c)) is)
+            (λ c l. by_test (has (F.queue m t) c) (λ h. absurd (let low = queued_low c h in omega arith)) (λ h. rw h refl)))
 
   -- THE STATIONS, one after the other, with all lines empty
   module _ (empty : AllEmpty F) where
@@ -194,18 +175,17 @@ module _ (P : Product) (S C M W T O : List ℕ) (p : passes_form (limits_of P) (
     none_before t on before k l = ap (λ (o : Option ℕ). not (is_none o)) (before k l (omega arith))
 
     -- and somebody there
-    radio_next : (t c : ℕ) → t < F.stations → Nobody t → c ≡ cart_code (first_cart N F t) → c < 64 → next_event N F ≡ some (radio t c 512)
+    radio_next : (t c : ℕ) → t < F.stations → Nobody t → first_cart N F t ≡ some c → next_event N F ≡ some (radio t c 512)
     unfolding first_station
-    radio_next t c lt before e l =
-        let here : first_cart N F t ≡ some c = code_some (first_cart N F t) c e l in
+    radio_next t c lt before here =
         let station : first_station N F ≡ some t = first_is F.stations (λ u. not (is_none (first_cart N F u))) t lt (ap (λ (o : Option ℕ). not (is_none o)) here) (none_before t (omega arith) before) in
         by_radio ∙ ap (λ (o : Option ℕ). by_option o none (radio_at N F)) station ∙ ap (λ (o : Option ℕ). by_option o none (λ d. some (radio t d 512))) here
 
     -- or nobody either
-    nobody_more : (t c : ℕ) → t < F.stations → Nobody t → c ≡ cart_code (first_cart N F t) → 64 ≤ c → Nobody (t + 1)
-    nobody_more t c lt before e l k h on =
+    nobody_more : (t : ℕ) → Nobody t → first_cart N F t ≡ none → Nobody (t + 1)
+    nobody_more t before here k h on =
         by_eq k t
-        (λ z. rw z (code_none (first_cart N F t) c (cart_low t lt) e l))
+        (λ z. rw z here)
         (λ z. before k (omega arith) on)
 
     -- nowhere
@@ -216,25 +196,22 @@ module _ (P : Product) (S C M W T O : List ℕ) (p : passes_form (limits_of P) (
         ∙ ap (λ (o : Option ℕ). by_option o none (radio_at N F)) (first_nowhere F.stations (λ u. not (is_none (first_cart N F u))) (none_before F.stations (omega arith) all))
 
     -- THE WALK over those that have an entry has come to k
-    module _ (queued left k : ℕ) (Q : QueuedIn S queued) (A : Ahead 64 queued left k) (before : Nobody k) where
-      module _ (t : ℕ) (pos : 0 < left) (e : least 64 left ≡ some t) where
+    module _ (queued left k : ℕ) (Q : QueuedIn S queued) (before : Nobody k) where
+      module _ (t left' : ℕ) (turn : Turn 64 queued left k t left') where
         nobody_skipped : Nobody t
-        nobody_skipped u l on =
-            by_lt u k (λ h. before u h on) (λ h. not_queued u on (Q.others u on (ahead_skips 64 queued left k t A pos e u h l)))
+        nobody_skipped u l on = by_lt u k (λ h. before u h on) (λ h. not_queued u on (Q.others u on (turn.skips u h l)))
 
         is_on : t < F.stations
-        is_on = Q.on_floor t (ahead_member 64 queued left k t A pos e)
+        is_on = Q.on_floor t turn.member
 
-        pub radio_found : (c : ℕ) → c ≡ cart_code (first_cart N F t) → c < 64 → next_event N F ≡ some (radio t c 512)
-        radio_found c is l = radio_next t c is_on nobody_skipped is l
+        pub radio_found : (c : ℕ) → first_cart N F t ≡ some c → next_event N F ≡ some (radio t c 512)
+        radio_found c here = radio_next t c is_on nobody_skipped here
 
-        pub nobody_found : (c : ℕ) → c ≡ cart_code (first_cart N F t) → 64 ≤ c → Nobody (t + 1)
-        nobody_found c is l = nobody_more t c is_on nobody_skipped is l
+        pub nobody_found : first_cart N F t ≡ none → Nobody (t + 1)
+        nobody_found here = nobody_more t nobody_skipped here
 
-      pub nothing_found : left ≡ 0 → next_event N F ≡ none
-      nothing_found z =
-          let A₀ : Ahead 64 queued 0 k = rw z at A in
-          nothing_next (λ u l on. by_lt u k (λ h. before u h on) (λ h. not_queued u on (Q.others u on (ahead_end 64 queued k A₀ u h))))
+      pub nothing_found : ((c : ℕ) → k ≤ c → has queued c ≡ false) → next_event N F ≡ none
+      nothing_found gone = nothing_next (λ u l on. by_lt u k (λ h. before u h on) (λ h. not_queued u on (Q.others u on (gone u h))))
 
   -- THE FIRST NONEMPTY LINE, by what is known of the lines
   module _ (b : Busy) (right : IsBusy (lines_in W) b) where

@@ -1,21 +1,19 @@
 -- THE RUN, step by step: what remains to be done.
 use mathlib.Core.Path.{◌≡◌, refl, sym, ap, ◌∙◌, subst}
-use mathlib.Core.Bool.{Bool, true, false, not}
+use mathlib.Core.Bool.{true}
 use mathlib.Core.List.{List, [], ◌∷◌}
-use mathlib.Core.Option.{Option, none, some}
+use mathlib.Core.Option.{none, some}
 use Prim.{tt}
 use Prim.Native.Nat.{ℕ, zero, suc, ◌+◌, ◌*◌, ◌≤◌, ◌<◌}
 use native.Mathlib.Nat.{mul-le-mul_left}
 use native.Mathlib.Omega.{arith}
 use lib.ListN.{length}
-use Rattle.protocol.specs.Folds.{is_none}
 use Rattle.protocol.specs.Floor.{Product, Limits, limits_of, Floor}
 use Rattle.protocol.specs.Events.{Event, buffer_after}
 use Rattle.protocol.specs.Form.{passes_form}
 use Rattle.protocol.specs.Blank.{BlankBeyond}
 use Rattle.protocol.specs.Step.{step, answer, floor_after, answers}
 use Rattle.protocol.specs.Quiet.{next_event, dispatched, most_steps, quiet_events, quiet_steps, quiet_floor, quiet_buffer, buffers_after}
-use Rattle.protocol.proofs.Tests.{by_option_lem, clash}
 use Rattle.protocol.proofs.FormRule.{form_kept}
 use Rattle.protocol.proofs.NextEvent.{next_accepted}
 use Rattle.protocol.proofs.QuietRun.{dispatched_none, dispatched_some}
@@ -27,10 +25,12 @@ use Rattle.view.specs.Records.{lines_in}
 use Rattle.view.specs.View.{lent, floor_in}
 use Rattle.view.proofs.Lengths.{Lengths, nothing_beyond}
 use Rattle.view.proofs.Standing.{standing, few_stations}
-use Rattle.dispatcher.specs.declared.Next.{Next}
+use Rattle.std.specs.Prelude.{None, Some}
+use Rattle.std.specs.Prelude as rust
+use Rattle.dispatcher.specs.declared.Step.{Step}
 use Rattle.dispatcher.specs.Busy.{Busy, IsBusy}
 use Rattle.dispatcher.specs.Queues.{QueuedIn}
-use Rattle.dispatcher.specs.Choice.{next_in, is_step, Watched, OfEach}
+use Rattle.dispatcher.specs.Choice.{event_in, next_in, Watched, OfEach}
 use Rattle.dispatcher.specs.Taken.{Due, StepTaken, TakenByEach}
 use Rattle.dispatcher.specs.Seen.{HasPlaces, busy_after, queued_after}
 use Rattle.dispatcher.specs.Quieted.{QuietedByEach}
@@ -107,7 +107,7 @@ module _ (M : Limits) where
 abbrev pub Passes : Product → List ℕ → List ℕ → List ℕ → List ℕ → List ℕ → List ℕ → Type 0
 Passes P S C M W T O = passes_form (limits_of P) (floor_in (lent P S C M W T O)) ≡ true
 
-pub record Running (S₀ C₀ M₀ W₀ S C M W T O : List ℕ) (buffer₀ buffer : List ℕ) (steps : ℕ) (b : Busy) (queued : ℕ) (n : Next) : Type 0 where
+pub record Running (S₀ C₀ M₀ W₀ S C M W T O : List ℕ) (buffer₀ buffer : List ℕ) (steps : ℕ) (b : Busy) (queued : ℕ) (n : rust.Option Step) : Type 0 where
   pub passes : (P : Product) → Passes P S₀ C₀ M₀ W₀ T O → Passes P S C M W T O
   pub going : (P : Product) → Passes P S₀ C₀ M₀ W₀ T O
       → Going (limits_of P) (floor_in (lent P S₀ C₀ M₀ W₀ T O)) (floor_in (lent P S C M W T O)) buffer₀ buffer steps
@@ -129,7 +129,7 @@ module _ (S₀ C₀ M₀ W₀ T O buffer₀ : List ℕ) where
       let most = X.sized.counts.stations in
       (omega arith, few_stations (lent P S₀ C₀ M₀ W₀ T O) X, omega arith)
 
-  pub running_first : (b : Busy) (queued : ℕ) (n : Next) → IsBusy (lines_in W₀) b → QueuedIn S₀ queued
+  pub running_first : (b : Busy) (queued : ℕ) (n : rust.Option Step) → IsBusy (lines_in W₀) b → QueuedIn S₀ queued
       → OfEach S₀ C₀ M₀ (λ N F. IsBusy F.lines b → next_event N F ≡ next_in n)
       → Running S₀ C₀ M₀ W₀ S₀ C₀ M₀ W₀ T O buffer₀ buffer₀ 0 b queued n
   running_first b queued n right Q next = record {
@@ -141,11 +141,8 @@ module _ (S₀ C₀ M₀ W₀ T O buffer₀ : List ℕ) where
     kept = refl;
   }
 
-  module _ (S C M W buffer : List ℕ) (steps : ℕ) (b : Busy) (queued : ℕ) (n : Next) (R : Running S₀ C₀ M₀ W₀ S C M W T O buffer₀ buffer steps b queued n) where
+  module _ (S C M W buffer : List ℕ) (steps : ℕ) (b : Busy) (queued : ℕ) (n : rust.Option Step) (R : Running S₀ C₀ M₀ W₀ S C M W T O buffer₀ buffer steps b queued n) where
     module _ (P : Product) (p : Passes P S₀ C₀ M₀ W₀ T O) where
-      pub still_due : Due (lent P S C M W T O) n
-      still_due = record { passes = R.passes P p; next = R.next P p }
-
       lengths_first : Lengths (lent P S₀ C₀ M₀ W₀ T O)
       lengths_first = (standing (lent P S₀ C₀ M₀ W₀ T O) p).lengths
 
@@ -170,17 +167,27 @@ module _ (S₀ C₀ M₀ W₀ T O buffer₀ : List ℕ) where
       blank_now : BlankBeyond (limits_of P) (floor_in (lent P S C M W T O))
       blank_now = nothing_beyond (lent P S C M W T O) lengths_now (standing (lent P S C M W T O) (R.passes P p)).laid
 
-      -- a step is taken, and one was left
-      module _ (e : Event) (q : next_in n ≡ some e) where
-        pub step_left : steps < 5248
-        step_left =
+    -- A TURN: step s is next
+    module _ (s : Step) (is : n ≡ Some s) where
+      module _ (P : Product) (p : Passes P S₀ C₀ M₀ W₀ T O) where
+        pub still_due : Due (lent P S C M W T O) s
+        still_due = record { passes = R.passes P p; next = R.next P p ∙ ap next_in is }
+
+        -- one step at least was left
+        pub turn_left : steps < 5248
+        turn_left =
             let few = few_steps P in
-            let room = going_room (limits_of P) (floor_in (lent P S₀ C₀ M₀ W₀ T O)) (floor_in (lent P S C M W T O)) buffer₀ buffer steps e blank_first p (R.going P p) (R.next P p ∙ q) in
+            let room = going_room (limits_of P) (floor_in (lent P S₀ C₀ M₀ W₀ T O)) (floor_in (lent P S C M W T O)) buffer₀ buffer steps (event_in s) (blank_first P p) p (R.going P p) still_due.next in
             omega arith
 
-        module _ (S' C' M' W' buffer' : List ℕ) (records : ℕ) (taken : StepTaken (lent P S C M W T O) (lent P S' C' M' W' T O) e buffer buffer' records) where
-          passes_on : Passes P S' C' M' W' T O
-          passes_on = subst (λ (Y : Floor). passes_form (limits_of P) Y ≡ true) (sym taken.floor) (form_kept (limits_of P) (floor_in (lent P S C M W T O)) e blank_now (R.passes P p)).1
+      module _ (S' C' M' W' buffer' : List ℕ) (records : ℕ)
+          (taken : TakenByEach (λ P. lent P S C M W T O) (λ P. lent P S' C' M' W' T O) s buffer buffer' records) where
+        module _ (P : Product) (p : Passes P S₀ C₀ M₀ W₀ T O) where
+          taken_by_lem : StepTaken (lent P S C M W T O) (lent P S' C' M' W' T O) (event_in s) buffer buffer' records
+          taken_by_lem = taken P (still_due P p)
+
+          pub passes_then : Passes P S' C' M' W' T O
+          passes_then = subst (λ (Y : Floor). passes_form (limits_of P) Y ≡ true) (sym taken_by_lem.floor) (form_kept (limits_of P) (floor_in (lent P S C M W T O)) (event_in s) (blank_now P p) (R.passes P p)).1
 
           -- no text is longer than the buffer
           kept_on : 512 ≤ length buffer → length buffer' ≡ length buffer
@@ -188,80 +195,51 @@ module _ (S₀ C₀ M₀ W₀ T O buffer₀ : List ℕ) where
           kept_on long =
               let N = limits_of P in
               let F = floor_in (lent P S C M W T O) in
-              let a = next_accepted N F e (R.passes P p) (R.next P p ∙ q) in
-              ap length taken.octets ∙ run_leaves_length N F (e ∷ []) buffer blank_now (R.passes P p) (a.0, (a.1, tt)) long
+              let a = next_accepted N F (event_in s) (R.passes P p) (still_due P p).next in
+              ap length taken_by_lem.octets ∙ run_leaves_length N F (event_in s ∷ []) buffer (blank_now P p) (R.passes P p) (a.0, (a.1, tt)) long
 
           goes_on : Going (limits_of P) (floor_in (lent P S₀ C₀ M₀ W₀ T O)) (floor_in (lent P S' C' M' W' T O)) buffer₀ buffer' (steps + 1)
-          goes_on = going_on (limits_of P) _ _ _ buffer₀ buffer buffer' steps e blank_first p (R.going P p) (R.next P p ∙ q) taken.floor taken.octets
-
-    -- something is next, as the code asked
-    some_event : (asked : Bool) → asked ≡ is_step n → asked ≡ true → (e : Event) × (next_in n ≡ some e)
-    some_event asked is t =
-        by_option_lem (next_in n)
-        (λ z. clash (is_step n) (sym is ∙ t) (ap (λ (o : Option Event). not (is_none o)) z))
-        (λ e z. (e, z))
-
-    no_event : (asked : Bool) → asked ≡ is_step n → asked ≡ false → next_in n ≡ none
-    no_event asked is t =
-        by_option_lem (next_in n) (λ z. z)
-        (λ e z. clash (is_step n) (ap (λ (o : Option Event). not (is_none o)) z) (sym is ∙ t))
-
-    -- A TURN
-    module _ (asked : Bool) (is : asked ≡ is_step n) where
-      module _ (t : asked ≡ true) where
-        pub turn_left : (P : Product) → Passes P S₀ C₀ M₀ W₀ T O → steps < 5248
-        turn_left P p = let s = some_event asked is t in step_left P p s.0 s.1
-
-        module _ (S' C' M' W' buffer' : List ℕ) (records : ℕ)
-            (taken : TakenByEach (λ P. lent P S C M W T O) (λ P. lent P S' C' M' W' T O) n buffer buffer' records) where
-          taken_by_lem : (P : Product) → Passes P S₀ C₀ M₀ W₀ T O → StepTaken (lent P S C M W T O) (lent P S' C' M' W' T O) (some_event asked is t).0 buffer buffer' records
-          taken_by_lem P p = let s = some_event asked is t in taken P s.0 (still_due P p) s.1
-
-          pub passes_then : (P : Product) → Passes P S₀ C₀ M₀ W₀ T O → Passes P S' C' M' W' T O
-          passes_then P p = let s = some_event asked is t in passes_on P p s.0 s.1 S' C' M' W' buffer' records (taken_by_lem P p)
+          goes_on = going_on (limits_of P) _ _ _ buffer₀ buffer buffer' steps (event_in s) (blank_first P p) p (R.going P p) (still_due P p).next taken_by_lem.floor taken_by_lem.octets
 
           -- what is asked for the look at what it changed
-          pub look_asks : (P : Product) → Passes P S₀ C₀ M₀ W₀ T O → (form W' ≡ true) × HasPlaces S' n
-          look_asks P p =
+          pub look_asks : (form W' ≡ true) × HasPlaces S' s
+          look_asks =
               let now_size = (standing (lent P S C M W T O) (R.passes P p)).lengths.stations in
-              let then_size = (standing (lent P S' C' M' W' T O) (passes_then P p)).lengths.stations in
-              (chains_of P S' C' M' W' T O (passes_then P p), places_there (lent P S C M W T O) S' n (still_due P p) (then_size ∙ sym now_size))
+              let then_size = (standing (lent P S' C' M' W' T O) passes_then).lengths.stations in
+              (chains_of P S' C' M' W' T O passes_then, places_there (lent P S C M W T O) S' s (still_due P p) (then_size ∙ sym now_size))
 
-          -- what was kept, and was looked at
-          module _ (b' : Busy) (queued' : ℕ) (seen : b' ≡ busy_after (lines_in W') b n records) (queue_seen : queued' ≡ queued_after S' queued n) where
-            busy_then : (P : Product) → Passes P S₀ C₀ M₀ W₀ T O → IsBusy (lines_in W') b'
-            busy_then P p =
-                let s = some_event asked is t in
-                subst (λ (x : Busy). IsBusy (lines_in W') x) (sym seen)
-                (busy_again (lent P S C M W T O) (lent P S' C' M' W' T O) buffer buffer' records n s.0 (still_due P p) s.1 (taken_by_lem P p) b R.busy)
+        -- what was kept, and was looked at
+        module _ (b' : Busy) (queued' : ℕ) (seen : b' ≡ busy_after (lines_in W') b s records) (queue_seen : queued' ≡ queued_after S' queued s) where
+          busy_then : (P : Product) → Passes P S₀ C₀ M₀ W₀ T O → IsBusy (lines_in W') b'
+          busy_then P p =
+              subst (λ (x : Busy). IsBusy (lines_in W') x) (sym seen)
+              (busy_again (lent P S C M W T O) (lent P S' C' M' W' T O) buffer buffer' records s (still_due P p) (taken_by_lem P p) b R.busy)
 
-            queues_then : (P : Product) → Passes P S₀ C₀ M₀ W₀ T O → QueuedIn S' queued'
-            queues_then P p =
-                let s = some_event asked is t in
-                subst (λ (x : ℕ). QueuedIn S' x) (sym queue_seen)
-                (queued_again (lent P S C M W T O) (lent P S' C' M' W' T O) buffer buffer' records n s.0 (still_due P p) s.1 (taken_by_lem P p) queued R.queues)
+          queues_then : (P : Product) → Passes P S₀ C₀ M₀ W₀ T O → QueuedIn S' queued'
+          queues_then P p =
+              subst (λ (x : ℕ). QueuedIn S' x) (sym queue_seen)
+              (queued_again (lent P S C M W T O) (lent P S' C' M' W' T O) buffer buffer' records s (still_due P p) (taken_by_lem P p) queued R.queues)
 
-            pub watched_then : (P : Product) → Passes P S₀ C₀ M₀ W₀ T O → Watched S' C' M' b' × QueuedIn S' queued'
-            watched_then P p =
-                (record { floor = record { product = P; lines = W'; texts = T; store = O; passes = passes_then P p }; busy = busy_then P p }, queues_then P p)
+          pub watched_then : (P : Product) → Passes P S₀ C₀ M₀ W₀ T O → Watched S' C' M' b' × QueuedIn S' queued'
+          watched_then P p =
+              (record { floor = record { product = P; lines = W'; texts = T; store = O; passes = passes_then P p }; busy = busy_then P p }, queues_then P p)
 
-            pub running_on : (P : Product) → Passes P S₀ C₀ M₀ W₀ T O → 512 ≤ length buffer₀ → (n' : Next)
-                → OfEach S' C' M' (λ N F. IsBusy F.lines b' → next_event N F ≡ next_in n')
-                → Running S₀ C₀ M₀ W₀ S' C' M' W' T O buffer₀ buffer' (steps + 1) b' queued' n'
-            running_on P p long n' next =
-                let s = some_event asked is t in
-                let same = kept_on P p s.0 s.1 S' C' M' W' buffer' records (taken_by_lem P p) (let k = R.kept in omega arith) in
-                record {
-                  passes = passes_then;
-                  going = λ Q r. goes_on Q r s.0 s.1 S' C' M' W' buffer' records (taken_by_lem Q r);
-                  next = λ Q r. next Q W' T O (passes_then Q r) (busy_then P p);
-                  busy = busy_then P p;
-                  queues = queues_then P p;
-                  kept = same ∙ R.kept;
-                }
+          pub running_on : (P : Product) → Passes P S₀ C₀ M₀ W₀ T O → 512 ≤ length buffer₀ → (n' : rust.Option Step)
+              → OfEach S' C' M' (λ N F. IsBusy F.lines b' → next_event N F ≡ next_in n')
+              → Running S₀ C₀ M₀ W₀ S' C' M' W' T O buffer₀ buffer' (steps + 1) b' queued' n'
+          running_on P p long n' next =
+              let same = kept_on P p (let k = R.kept in omega arith) in
+              record {
+                passes = passes_then;
+                going = goes_on;
+                next = λ Q r. next Q W' T O (passes_then Q r) (busy_then P p);
+                busy = busy_then P p;
+                queues = queues_then P p;
+                kept = same ∙ R.kept;
+              }
 
-      -- THE END
-      pub running_last : asked ≡ false → QuietedByEach (λ P. lent P S₀ C₀ M₀ W₀ T O) (λ P. lent P S C M W T O) buffer₀ buffer steps
-      running_last t P p =
-          let z = going_last (limits_of P) (floor_in (lent P S₀ C₀ M₀ W₀ T O)) (floor_in (lent P S C M W T O)) buffer₀ buffer steps (R.going P p) (R.next P p ∙ no_event asked is t) in
-          record { product = refl; count = z.0; floor = z.1.0; octets = z.1.1 }
+    -- THE END: none is
+    pub running_last : n ≡ None → QuietedByEach (λ P. lent P S₀ C₀ M₀ W₀ T O) (λ P. lent P S C M W T O) buffer₀ buffer steps
+    running_last over P p =
+        let z = going_last (limits_of P) (floor_in (lent P S₀ C₀ M₀ W₀ T O)) (floor_in (lent P S C M W T O)) buffer₀ buffer steps (R.going P p) (R.next P p ∙ ap next_in over) in
+        record { product = refl; count = z.0; floor = z.1.0; octets = z.1.1 }

@@ -1,14 +1,11 @@
 -- A step of the dispatcher is the event's; and which lines are not empty, and which stations have an entry, is known again.
 use mathlib.Core.Path.{◌≡◌, refl, sym, ap, ◌∙◌, subst}
 use mathlib.Core.Bool.{true, not}
-use mathlib.Core.List.{List, [], ◌∷◌}
+use mathlib.Core.List.{List, []}
 use mathlib.Core.Option.{some}
-use Prim.{tt}
 use Prim.Native.Nat.{ℕ, ◌≤◌, ◌<◌}
 use native.Mathlib.Omega.{arith}
 use lib.ListN.{length}
-use denote.Enum.Declared.{tag_of}
-use types.Run.{OneOf, miss}
 use Rattle.protocol.specs.Folds.{is_empty}
 use Rattle.protocol.specs.Floor.{Limits, limits_of, Floor, Record, behead}
 use Rattle.protocol.specs.Events.{Event, wire, radio, Done, accepted, buffer_after}
@@ -36,19 +33,17 @@ use Rattle.view.proofs.Lengths.{lengths_right_lem, nothing_beyond}
 use Rattle.view.proofs.Standing.{Standing, standing, few_stations}
 use Rattle.event_answers.specs.declared.Outcome.{Outcome}
 use Rattle.event_answers.specs.declared.Outcome.TheVariants.{Started, Entered, Sent, Buffered, Acknowledged, Deleted, Deregistered, Registered, Received, Moved, Flagged, Grouped, SentToGroup, SentLong, Retired}
-use Rattle.event_answers.specs.declared.Answer.{Answer}
-use Rattle.event_answers.specs.declared.Answer.TheVariants.{Refused, Accepted}
-use Rattle.event_answers.specs.Answers.{report_of, answer_in}
+use Rattle.std.specs.Prelude.{Ok, Err}
+use Rattle.event_answers.specs.Answers.{Answer, report_of, answer_in}
 use Rattle.event_answers.specs.Met.{Met, Ready}
 use Rattle.event_answers.specs.Delivered.{Delivered}
-use Rattle.dispatcher.specs.declared.Next.{Next}
-use Rattle.dispatcher.specs.declared.Next.TheVariants.{Wire, Radio, Nothing}
+use Rattle.dispatcher.specs.declared.Step.{Step}
+use Rattle.dispatcher.specs.declared.Step.TheVariants.{Wire, Radio}
 use Rattle.dispatcher.specs.Busy.{Busy, IsBusy, taken_off, renewed}
 use Rattle.dispatcher.specs.Queues.{QueuedIn, queued_with}
-use Rattle.dispatcher.specs.Choice.{next_in}
+use Rattle.dispatcher.specs.Choice.{event_in}
 use Rattle.dispatcher.specs.Taken.{records_in, records_put, Due, StepTaken}
 use Rattle.dispatcher.specs.Seen.{HasPlaces, busy_after, queued_after}
-use Rattle.dispatcher.specs.contracts.Next.{the_type as next_type}
 use Rattle.dispatcher.proofs.BusyLaws.{busy_after_wire, busy_after_radio}
 use Rattle.dispatcher.proofs.QueueLaws.{wire_queues, radio_queues, queued_after_lem}
 
@@ -71,8 +66,8 @@ effect_reported (SentLong s n) f = refl
 effect_reported (Retired c) f = refl
 
 records_told : (a : Answer) (octets : List ℕ) → records_in a ≡ records_put (answer_in a octets)
-records_told (Refused r) octets = refl
-records_told (Accepted o f) octets = ap (λ (g : Effect). g.records) (sym (effect_reported o f))
+records_told (Ok a) octets = ap (λ (g : Effect). g.records) (sym (effect_reported a.outcome a.effect))
+records_told (Err r) octets = refl
 
 -- ON A FLOOR THAT PASSES, of which this event is the next one
 module _ (L : Lent) (e : Event) (p : passes_form (limits_of L.product) (floor_in L) ≡ true) (due : next_event (limits_of L.product) (floor_in L) ≡ some e) where
@@ -242,74 +237,48 @@ module _ (L : Lent) (t c : ℕ) (p : passes_form (limits_of L.product) (floor_in
         (λ m u n. ap (λ (Y : Floor). Y.queue m u) is_handed ∙ radio_queues J H may_receive.0 t c m u n)
 
 -- AS THE CODE TAKES IT, by what was chosen: what it asks of the events, and what it comes to
-module _ (L : Lent) (n : Next) (d : Due L n) (from to : Station) (is : n ≡ Wire from to) where
+module _ (L : Lent) (n : Step) (d : Due L n) (from to : Station) (is : n ≡ Wire from to) where
   wire_due : next_event (limits_of L.product) (floor_in L) ≡ some (wire from.0 to.0)
-  wire_due = d.next ∙ ap next_in is
+  wire_due = d.next ∙ ap (λ (s : Step). some (event_in s)) is
 
   pub wire_ready : Ready L
   wire_ready = ready L (wire from.0 to.0) d.passes wire_due
 
   pub wire_comes : (L' : Lent) (a : Answer) → Met L L' (wire from.0 to.0) (answer_in a []) → (buffer : List ℕ) (r : ℕ) → r ≡ records_in a
-      → (e : Event) → next_in n ≡ some e → StepTaken L L' e buffer buffer r
-  wire_comes L' a met buffer r put e q =
-      let some_e : some (wire from.0 to.0) ≡ some e = ap next_in (sym is) ∙ q in
-      let this : wire from.0 to.0 ≡ e = cc in
-      subst (λ (f : Event). StepTaken L L' f buffer buffer r) this
+      → StepTaken L L' (event_in n) buffer buffer r
+  wire_comes L' a met buffer r put =
+      subst (λ (s : Step). StepTaken L L' (event_in s) buffer buffer r) (sym is)
       (subst (λ (k : ℕ). StepTaken L L' (wire from.0 to.0) buffer buffer k) (sym put)
       (wire_taken L from.0 to.0 d.passes wire_due L' a met buffer))
 
-module _ (L : Lent) (n : Next) (d : Due L n) (station : Station) (cart : CartNumber) (is : n ≡ Radio station cart) where
+module _ (L : Lent) (n : Step) (d : Due L n) (station : Station) (cart : CartNumber) (is : n ≡ Radio station cart) where
   radio_due : next_event (limits_of L.product) (floor_in L) ≡ some (radio station.0 cart.0 512)
-  radio_due = d.next ∙ ap next_in is
+  radio_due = d.next ∙ ap (λ (s : Step). some (event_in s)) is
 
   pub radio_ready : Ready L
   radio_ready = ready L (radio station.0 cart.0 512) d.passes radio_due
 
   pub radio_comes : (L' : Lent) (a : Answer) (buffer buffer' : List ℕ) → Delivered L L' station.0 cart.0 a buffer buffer' → 512 ≤ length buffer
-      → (r : ℕ) → r ≡ records_in a → (e : Event) → next_in n ≡ some e → StepTaken L L' e buffer buffer' r
-  radio_comes L' a buffer buffer' done long r put e q =
-      let some_e : some (radio station.0 cart.0 512) ≡ some e = ap next_in (sym is) ∙ q in
-      let this : radio station.0 cart.0 512 ≡ e = cc in
-      subst (λ (f : Event). StepTaken L L' f buffer buffer' r) this
+      → (r : ℕ) → r ≡ records_in a → StepTaken L L' (event_in n) buffer buffer' r
+  radio_comes L' a buffer buffer' done long r put =
+      subst (λ (s : Step). StepTaken L L' (event_in s) buffer buffer' r) (sym is)
       (subst (λ (k : ℕ). StepTaken L L' (radio station.0 cart.0 512) buffer buffer' k) (sym put)
       (radio_taken L station.0 cart.0 d.passes radio_due L' a buffer buffer' long done))
 
--- where nothing was chosen there is no event
-pub nothing_comes : (n : Next) → OneOf (2 ∷ []) (tag_of next_type n) → (e : Event) → next_in n ≡ some e → ⊥
-nothing_comes (Wire from to) k e q = miss (2 ∷ []) 0 tt k
-nothing_comes (Radio station cart) k e q = miss (2 ∷ []) 1 tt k
-nothing_comes Nothing k e q = let y : ◌≡◌ {A = ℕ} 0 1 = cc in omega arith
-
 -- WHAT IS KEPT, after the step that was chosen
 module _ (L L' : Lent) (buffer buffer' : List ℕ) (records : ℕ) where
-  left_by : (d e : Event) → d ≡ e → StepTaken L L' e buffer buffer' records → floor_in L' ≡ step (limits_of L.product) (floor_in L) d
-  left_by d e is taken = taken.floor ∙ ap (step (limits_of L.product) (floor_in L)) (sym is)
-
-  put_by : (d e : Event) → d ≡ e → StepTaken L L' e buffer buffer' records → records ≡ records_put (answer (limits_of L.product) (floor_in L) d)
-  put_by d e is taken = taken.put ∙ ap (λ (f : Event). records_put (answer (limits_of L.product) (floor_in L) f)) (sym is)
-
-  pub busy_again : (n : Next) (e : Event) → Due L n → next_in n ≡ some e → StepTaken L L' e buffer buffer' records → (b : Busy) → IsBusy (floor_in L).lines b
+  pub busy_again : (n : Step) → Due L n → StepTaken L L' (event_in n) buffer buffer' records → (b : Busy) → IsBusy (floor_in L).lines b
       → IsBusy (lines_in L'.lines) (busy_after (lines_in L'.lines) b n records)
-  busy_again (Wire from to) e d q taken b right =
-      let this : wire from.0 to.0 ≡ e = cc in
-      wire_busy L from.0 to.0 d.passes d.next L' (left_by (wire from.0 to.0) e this taken) records (put_by (wire from.0 to.0) e this taken) b right
-  busy_again (Radio t c) e d q taken b right =
-      let this : radio t.0 c.0 512 ≡ e = cc in
-      radio_busy L t.0 c.0 d.passes d.next L' (left_by (radio t.0 c.0 512) e this taken) records (put_by (radio t.0 c.0 512) e this taken) b right
-  busy_again Nothing e d q taken b right = absurd (let y : ◌≡◌ {A = ℕ} 0 1 = cc in omega arith)
+  busy_again (Wire from to) d taken b right = wire_busy L from.0 to.0 d.passes d.next L' taken.floor records taken.put b right
+  busy_again (Radio t c) d taken b right = radio_busy L t.0 c.0 d.passes d.next L' taken.floor records taken.put b right
 
-  pub queued_again : (n : Next) (e : Event) → Due L n → next_in n ≡ some e → StepTaken L L' e buffer buffer' records → (queued : ℕ) → QueuedIn L.stations queued
+  pub queued_again : (n : Step) → Due L n → StepTaken L L' (event_in n) buffer buffer' records → (queued : ℕ) → QueuedIn L.stations queued
       → QueuedIn L'.stations (queued_after L'.stations queued n)
-  queued_again (Wire from to) e d q taken queued Q =
-      let this : wire from.0 to.0 ≡ e = cc in
-      wire_queued L from.0 to.0 d.passes d.next L' (left_by (wire from.0 to.0) e this taken) queued Q
-  queued_again (Radio t c) e d q taken queued Q =
-      let this : radio t.0 c.0 512 ≡ e = cc in
-      radio_queued L t.0 c.0 d.passes d.next L' (left_by (radio t.0 c.0 512) e this taken) queued Q
-  queued_again Nothing e d q taken queued Q = absurd (let y : ◌≡◌ {A = ℕ} 0 1 = cc in omega arith)
+  queued_again (Wire from to) d taken queued Q = wire_queued L from.0 to.0 d.passes d.next L' taken.floor queued Q
+  queued_again (Radio t c) d taken queued Q = radio_queued L t.0 c.0 d.passes d.next L' taken.floor queued Q
 
 -- there are words for the stations of the step, in a table as long as it was
-pub places_there : (L : Lent) (S' : List ℕ) (n : Next) → Due L n → length S' ≡ length L.stations → HasPlaces S' n
+pub places_there : (L : Lent) (S' : List ℕ) (n : Step) → Due L n → length S' ≡ length L.stations → HasPlaces S' n
 places_there L S' (Wire from to) d same =
     let X = standing L d.passes in
     let low = wire_low L from.0 to.0 d.passes d.next in
@@ -323,34 +292,26 @@ places_there L S' (Radio t c) d same =
     let most = X.sized.counts.stations in
     let size = X.lengths.stations in
     (radio_low L t.0 c.0 d.passes d.next, omega arith)
-places_there L S' Nothing d same = tt
 
 -- AS THE CODE LOOKS AT IT, by what was chosen
-module _ (n : Next) (from to : Station) (is : n ≡ Wire from to) where
+module _ (n : Step) (from to : Station) (is : n ≡ Wire from to) where
   pub wire_places : (S : List ℕ) → HasPlaces S n → (from.0 < 16) × (to.0 < 16) × HasStation S to.0
   wire_places S h = subst (HasPlaces S) is h
 
   pub wire_seen : (lines : ℕ → ℕ → List Record) (b x y : Busy) (records : ℕ) → x ≡ taken_off lines b from.0 to.0 → y ≡ renewed lines x to.0 records
       → y ≡ busy_after lines b n records
   wire_seen lines b x y records off put =
-      put ∙ ap (λ (z : Busy). renewed lines z to.0 records) off ∙ ap (λ (m : Next). busy_after lines b m records) (sym is)
+      put ∙ ap (λ (z : Busy). renewed lines z to.0 records) off ∙ ap (λ (m : Step). busy_after lines b m records) (sym is)
 
   pub wire_queue_seen : (S : List ℕ) (queued q : ℕ) → q ≡ queued_with S queued to.0 → q ≡ queued_after S queued n
   wire_queue_seen S queued q e = e ∙ ap (queued_after S queued) (sym is)
 
-module _ (n : Next) (station : Station) (cart : CartNumber) (is : n ≡ Radio station cart) where
+module _ (n : Step) (station : Station) (cart : CartNumber) (is : n ≡ Radio station cart) where
   pub radio_places : (S : List ℕ) → HasPlaces S n → (station.0 < 16) × HasStation S station.0
   radio_places S h = subst (HasPlaces S) is h
 
   pub radio_seen : (lines : ℕ → ℕ → List Record) (b y : Busy) (records : ℕ) → y ≡ renewed lines b station.0 records → y ≡ busy_after lines b n records
-  radio_seen lines b y records put = put ∙ ap (λ (m : Next). busy_after lines b m records) (sym is)
+  radio_seen lines b y records put = put ∙ ap (λ (m : Step). busy_after lines b m records) (sym is)
 
   pub radio_queue_seen : (S : List ℕ) (queued q : ℕ) → q ≡ queued_with S queued station.0 → q ≡ queued_after S queued n
   radio_queue_seen S queued q e = e ∙ ap (queued_after S queued) (sym is)
-
--- and where nothing was chosen all stays
-pub nothing_seen : (n : Next) → OneOf (2 ∷ []) (tag_of next_type n) → (lines : ℕ → ℕ → List Record) (S : List ℕ) (b : Busy) (queued records : ℕ)
-    → (b ≡ busy_after lines b n records) × (queued ≡ queued_after S queued n)
-nothing_seen (Wire from to) k lines S b queued records = absurd (miss (2 ∷ []) 0 tt k)
-nothing_seen (Radio station cart) k lines S b queued records = absurd (miss (2 ∷ []) 1 tt k)
-nothing_seen Nothing k lines S b queued records = (refl, refl)

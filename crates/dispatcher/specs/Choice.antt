@@ -1,7 +1,8 @@
 -- WHAT THE DISPATCHER CHOOSES, as an event; and of which floors it is asked.
-use Rattle.std.specs.Prelude.{◌≡◌, Bool, true, not, ◌&&◌, List, [], ℕ}
-use Rattle.std.proofs.Math.Option.{Option, none, some}
-use Rattle.protocol.specs.Folds.{first, is_none}
+use Rattle.std.specs.Prelude.{◌≡◌, true, ◌&&◌, List, [], ℕ, Option, None, Some}
+use Rattle.std.proofs.Math.Option.{none, some}
+use Rattle.std.proofs.Math.Option as written
+use Rattle.protocol.specs.Folds.{first}
 use Rattle.protocol.specs.CartSets.{has}
 use Rattle.protocol.specs.Floor.{Product, Limits, limits_of, Floor}
 use Rattle.protocol.specs.Events.{Event, wire, radio}
@@ -9,27 +10,28 @@ use Rattle.protocol.specs.Form.{passes_form}
 use Rattle.carts.specs.View.{carts_in}
 use Rattle.view.specs.Records.{lines_in}
 use Rattle.view.specs.View.{lent, floor_in}
-use Rattle.dispatcher.specs.declared.Next.{Next}
-use Rattle.dispatcher.specs.declared.Next.TheVariants.{Wire, Radio, Nothing}
+use Rattle.ids.specs.declared.CartNumber.{CartNumber}
+use Rattle.dispatcher.specs.declared.Step.{Step}
+use Rattle.dispatcher.specs.declared.Step.TheVariants.{Wire, Radio}
 use Rattle.dispatcher.specs.Busy.{Busy, IsBusy}
 
--- the event, if any: "The lent radio and dispatcher buffers must now hold 512 octets to take every text"
-abbrev pub next_in : Next → Option Event
-next_in (Wire i j) = some (wire i.0 j.0)
-next_in (Radio t c) = some (radio t.0 c.0 512)
-next_in Nothing = none
+-- the event of a step: "The lent radio and dispatcher buffers must now hold 512 octets to take every text"
+abbrev pub event_in : Step → Event
+event_in (Wire i j) = wire i.0 j.0
+event_in (Radio t c) = radio t.0 c.0 512
 
--- is there one
-abbrev pub is_step : Next → Bool
-is_step n = not (is_none (next_in n))
+-- the event that is chosen, if any
+abbrev pub next_in : Option Step → written.Option Event
+next_in None = none
+next_in (Some s) = some (event_in s)
 
--- a cart, or none, in a word: 64 is none
-abbrev pub cart_code : Option ℕ → ℕ
-cart_code none = 64
-cart_code (some c) = c
+-- the cart that is found, if any
+abbrev pub cart_in : Option CartNumber → written.Option ℕ
+cart_in None = none
+cart_in (Some c) = some c.0
 
 -- the lowest steady cart of a set
-unfoldable pub lowest_steady : List ℕ → ℕ → Option ℕ
+unfoldable pub lowest_steady : List ℕ → ℕ → written.Option ℕ
 lowest_steady C set = first 64 (λ c. has set c && (carts_in C).steady c)
 
 -- THE FLOORS WITH THESE TABLES of the stations, the carts and the messages: there is one that passes the form rule of some product

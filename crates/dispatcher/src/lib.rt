@@ -13,16 +13,13 @@ ghost use Rattle.view.specs.Records.{lines_in};
 ghost use Rattle.view.specs.View.{lent};
 ghost use Rattle.dispatcher.specs.Busy.{busy, busy_row, IsBusy, with_if_any, busy_with, taken_off, renewed};
 ghost use Rattle.dispatcher.specs.Queues.{queued_with, QueuedIn};
-ghost use Rattle.dispatcher.specs.Choice.{next_in, is_step, cart_code, lowest_steady, OfFloor, Watched, OfEach, AllEmpty};
+ghost use Rattle.dispatcher.specs.Choice.{next_in, cart_in, lowest_steady, OfFloor, Watched, OfEach, AllEmpty};
 ghost use Rattle.dispatcher.specs.Taken.{records_in, DueBySome, TakenByEach};
 ghost use Rattle.dispatcher.specs.Seen.{HasPlaces, busy_after, queued_after};
 ghost use Rattle.dispatcher.specs.Quieted.{PassesBySome, QuietedByEach};
 
 use event_answers::Answer;
 use ids::{CartNumber, Station};
-
-// The word for no cart.
-const NOBODY: u64 = 64;
 
 // What is kept from step to step: the stations that have a record on a line, and those that have an entry in their queue. Beside it there are
 // sixteen words, the targets: for each station the set of those to which it has a record on a line. These are lent, so that no step copies them.
@@ -32,19 +29,11 @@ struct Pending {
     queued: u64,
 }
 
-// What the dispatcher takes next: a wire step (from, to), a radio step (station, cart), or nothing, and the floor is quiet.
-#[derive(Clone, Copy)]
-enum Next {
+// A step that the dispatcher takes: a wire step (from, to), or a radio step (station, cart).
+#[derive(Clone, Copy, Debug, PartialEq, Eq)]
+enum Step {
     Wire(Station, Station),
     Radio(Station, CartNumber),
-    Nothing,
-}
-
-// What a call answers: a refusal's number, or "how many steps it took".
-#[derive(Clone, Copy)]
-pub enum Quiet {
-    Refused(u64),
-    After(u64),
 }
 
 // ---- Which lines are not empty.
@@ -55,10 +44,8 @@ fn row_from(lines: &[u64], i: usize) -> u64
     ensures { result ≡ busy_row (lines_in lines.now) i }
 {
     let mut row: u64 = 0;
-    let mut j: usize = 0;
-    while j < products::INITIATORS {
+    for j in 0..products::INITIATORS {
         row = sets::with_if(row, j as u64, !lines::is_empty(lines, i, j));
-        j += 1;
     }
     row
 }
@@ -90,11 +77,9 @@ fn busy_lines(targets: &mut [u64], lines: &[u64]) -> u64
     ensures { IsBusy (lines_in lines.now) (busy targets.new result) }
 {
     let mut sources: u64 = 0;
-    let mut i: usize = 0;
-    while i < products::INITIATORS {
+    for i in 0..products::INITIATORS {
         let row = row_from(lines, i);
         sources = put_row(targets, sources, i, row);
-        i += 1;
     }
     sources
 }
@@ -143,61 +128,56 @@ fn queued_stations(stations: &[u64]) -> u64
 {
     let n = stations::station_count(stations);
     let mut queued: u64 = 0;
-    let mut t: u64 = 0;
-    while t < n {
+    for t in 0..n {
         queued = queue_seen(stations, queued, Station(t));
-        t += 1;
     }
     queued
 }
 
 // ---- What is next.
 
-// The lowest steady cart of a set, or nobody.
-fn lowest_steady(carts: &[u64], set: u64) -> u64
+// The lowest steady cart of a set, if there is one.
+fn lowest_steady(carts: &[u64], set: u64) -> Option<CartNumber>
     requires { (d : ℕ) → has set d ≡ true → HasRow carts.now d }
-    ensures { result ≡ cart_code (lowest_steady carts.now set) }
+    ensures { cart_in result ≡ lowest_steady carts.now set }
 {
-    let mut left = set;
-    while 0 < left {
-        let cart = sets::first(left);
-        if carts::is_steady(carts, CartNumber(cart)) {
-            return cart;
+    for c in sets::members_of(set) {
+        let cart = CartNumber(c);
+        if carts::is_steady(carts, cart) {
+            return Some(cart);
         }
-        left = sets::without_first(left);
     }
-    NOBODY
+    None
 }
 
-// With all lines empty, "the lowest cart there" for which a radio step would be accepted, or nobody: every cart of the queue's head is at the station
-// then, so it is the lowest steady one.
-fn receiver_at(stations: &[u64], carts: &[u64], messages: &[u64], station: Station) -> u64
+// With all lines empty, "the lowest cart there" for which a radio step would be accepted, if there is one: every cart of the queue's head is at the
+// station then, so it is the lowest steady one.
+fn receiver_at(
+    stations: &[u64],
+    carts: &[u64],
+    messages: &[u64],
+    station: Station,
+) -> Option<CartNumber>
     requires { OfFloor stations.now carts.now messages.now × (station.0 < (head_in stations.now).stations) }
-    ensures { OfEach stations.now carts.now messages.now (λ N F. AllEmpty F → result ≡ cart_code (first_cart N F station.0)) }
+    ensures { OfEach stations.now carts.now messages.now (λ N F. AllEmpty F → cart_in result ≡ first_cart N F station.0) }
 {
-    let m = queue::head(stations, messages, station);
-    if m == queue::NONE {
-        return NOBODY;
-    }
+    let m = queue::head(stations, messages, station)?;
     lowest_steady(carts, stations::queue_of(stations, m, station))
 }
 
 // "with all lines empty, the lowest station at which a radio step would be accepted, and the lowest cart there". Only stations with an entry are
 // looked at, and mostly the first serves: another is looked at where all carts of a head entry are unsteady.
-fn next_radio(stations: &[u64], carts: &[u64], messages: &[u64], queued: u64) -> Next
+fn next_radio(stations: &[u64], carts: &[u64], messages: &[u64], queued: u64) -> Option<Step>
     requires { OfFloor stations.now carts.now messages.now × QueuedIn stations.now queued }
     ensures { OfEach stations.now carts.now messages.now (λ N F. AllEmpty F → next_event N F ≡ next_in result) }
 {
-    let mut left = queued;
-    while 0 < left {
-        let t = sets::first(left);
-        let cart = receiver_at(stations, carts, messages, Station(t));
-        if cart < NOBODY {
-            return Next::Radio(Station(t), CartNumber(cart));
+    for t in sets::members_of(queued) {
+        let station = Station(t);
+        if let Some(cart) = receiver_at(stations, carts, messages, station) {
+            return Some(Step::Radio(station, cart));
         }
-        left = sets::without_first(left);
     }
-    Next::Nothing
+    None
 }
 
 // "A dispatcher takes the first nonempty line by from, then to"; with all lines empty, a radio step.
@@ -207,7 +187,7 @@ fn next_step(
     messages: &[u64],
     targets: &[u64],
     pending: Pending,
-) -> Next
+) -> Option<Step>
     requires { Watched stations.now carts.now messages.now (busy targets.now pending.sources) × QueuedIn stations.now pending.queued }
     ensures { OfEach stations.now carts.now messages.now (λ N F. IsBusy F.lines (busy targets.now pending.sources) → next_event N F ≡ next_in result) }
 {
@@ -217,18 +197,7 @@ fn next_step(
     let from = sets::first(pending.sources);
     let i = from as usize;
     let to = sets::first(targets[i]);
-    Next::Wire(Station(from), Station(to))
-}
-
-// Is there a step?
-fn is_step(next: Next) -> bool
-    ensures { result ≡ is_step next }
-{
-    match next {
-        Next::Wire(_, _) => true,
-        Next::Radio(_, _) => true,
-        Next::Nothing => false,
-    }
+    Some(Step::Wire(Station(from), Station(to)))
 }
 
 // ---- The steps.
@@ -238,8 +207,8 @@ fn records_of(answer: Answer) -> u64
     ensures { result ≡ records_in answer }
 {
     match answer {
-        Answer::Refused(_) => 0,
-        Answer::Accepted(_, effect) => effect.records,
+        Ok(accepted) => accepted.effect.records,
+        Err(_) => 0,
     }
 }
 
@@ -252,23 +221,22 @@ fn take_step(
     texts: &[u8],
     store: &[u8],
     buffer: &mut [u8],
-    next: Next,
+    step: Step,
 ) -> u64
-    requires { DueBySome (λ P. lent P stations.old carts.old messages.old lines.old texts.now store.now) next × (512 ≤ length buffer.old) }
-    ensures { TakenByEach (λ P. lent P stations.old carts.old messages.old lines.old texts.now store.now) (λ P. lent P stations.new carts.new messages.new lines.new texts.now store.now) next buffer.old buffer.new result }
+    requires { DueBySome (λ P. lent P stations.old carts.old messages.old lines.old texts.now store.now) step × (512 ≤ length buffer.old) }
+    ensures { TakenByEach (λ P. lent P stations.old carts.old messages.old lines.old texts.now store.now) (λ P. lent P stations.new carts.new messages.new lines.new texts.now store.now) step buffer.old buffer.new result }
 {
-    match next {
-        Next::Wire(from, to) => {
+    match step {
+        Step::Wire(from, to) => {
             let answer = event_wire::wire(stations, carts, messages, lines, texts, store, from, to);
             records_of(answer)
         }
-        Next::Radio(station, cart) => {
+        Step::Radio(station, cart) => {
             let answer = event_radio::radio_into(
                 stations, carts, messages, lines, texts, store, station, cart, buffer,
             );
             records_of(answer)
         }
-        Next::Nothing => 0,
     }
 }
 
@@ -279,26 +247,25 @@ fn seen_after(
     stations: &[u64],
     lines: &[u64],
     pending: Pending,
-    next: Next,
+    step: Step,
     records: u64,
 ) -> Pending
-    requires { (length targets.old ≡ 16) × (form lines.now ≡ true) × HasPlaces stations.now next }
-    ensures sources_after { busy targets.new result.sources ≡ busy_after (lines_in lines.now) (busy targets.old pending.sources) next records }
-    ensures queued_value { result.queued ≡ queued_after stations.now pending.queued next }
+    requires { (length targets.old ≡ 16) × (form lines.now ≡ true) × HasPlaces stations.now step }
+    ensures sources_after { busy targets.new result.sources ≡ busy_after (lines_in lines.now) (busy targets.old pending.sources) step records }
+    ensures queued_value { result.queued ≡ queued_after stations.now pending.queued step }
 {
-    match next {
-        Next::Wire(from, to) => {
+    match step {
+        Step::Wire(from, to) => {
             let left = taken_off(targets, lines, pending.sources, from, to);
             let sources = renewed(targets, lines, left, to, records);
             let queued = queue_seen(stations, pending.queued, to);
             Pending { sources, queued }
         }
-        Next::Radio(station, _) => {
+        Step::Radio(station, _) => {
             let sources = renewed(targets, lines, pending.sources, station, records);
             let queued = queue_seen(stations, pending.queued, station);
             Pending { sources, queued }
         }
-        Next::Nothing => pending,
     }
 }
 
@@ -321,9 +288,9 @@ pub fn run_until_quiet(
     let queued = queued_stations(stations);
     let mut pending = Pending { sources, queued };
     let mut next = next_step(stations, carts, messages, &targets, pending);
-    while is_step(next) {
-        let records = take_step(stations, carts, messages, lines, texts, store, buffer, next);
-        pending = seen_after(&mut targets, stations, lines, pending, next, records);
+    while let Some(step) = next {
+        let records = take_step(stations, carts, messages, lines, texts, store, buffer, step);
+        pending = seen_after(&mut targets, stations, lines, pending, step, records);
         steps += 1;
         next = next_step(stations, carts, messages, &targets, pending);
     }

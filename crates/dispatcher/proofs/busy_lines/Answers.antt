@@ -1,10 +1,8 @@
 use mathlib.Core.Path.{refl}
-use Prim.Native.Nat.{◌-◌}
 use native.Mathlib.Omega.{arith}
-use borrow.Author.Rules.{rules}
 use Rattle.view.specs.Records.{lines_in}
 use Rattle.dispatcher.specs.Busy.{busy}
-use Rattle.dispatcher.proofs.BusyLaws.{FirstRows, rows_none, rows_more, rows_all}
+use Rattle.dispatcher.proofs.BusyLaws.{rows_none, rows_more, rows_all}
 use Rattle.dispatcher.proofs.busy_lines.Goals as goal
 
 pub loop-i-init : goal.loop-i-init

@@ -1,7 +1,6 @@
 -- `dispatcher::put_row` meets its contract.
 use mathlib.Core.Path.{ap}
 use lib.ListN.{set}
-use borrow.Author.Rules.{rules}
 use Rattle.dispatcher.specs.Busy.{busy}
 use Rattle.dispatcher.proofs.put_row.Goals as goal
 

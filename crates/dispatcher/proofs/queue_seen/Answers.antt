@@ -1,6 +1,5 @@
 -- `dispatcher::queue_seen` meets its contract.
 use mathlib.Core.Path.{ap, ◌∙◌}
-use borrow.Author.Rules.{rules}
 use Rattle.dispatcher.specs.Busy.{with_if_any}
 use Rattle.dispatcher.proofs.queue_seen.Goals as goal
 

@@ -1,7 +1,5 @@
-use Prim.Native.Nat.{◌-◌, ◌≤◌}
 use native.Mathlib.Omega.{arith}
-use borrow.Author.Rules.{rules}
-use Rattle.dispatcher.proofs.QueueLaws.{FirstQueues, queues_none, queues_more, queues_all}
+use Rattle.dispatcher.proofs.QueueLaws.{queues_none, queues_more, queues_all}
 use Rattle.dispatcher.proofs.queued_stations.Goals as goal
 
 pub loop-t-init : goal.loop-t-init

@@ -1,5 +1,4 @@
 -- `dispatcher::renewed` meets its contract.
-use borrow.Author.Rules.{rules}
 use Rattle.view.specs.Records.{lines_in}
 use Rattle.dispatcher.proofs.BusyLaws.{none_put, some_put}
 use Rattle.dispatcher.proofs.renewed.Goals as goal

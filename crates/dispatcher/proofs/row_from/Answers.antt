@@ -1,9 +1,6 @@
-use mathlib.Core.Path.{◌≡◌}
-use Prim.Native.Nat.{◌≤◌, ◌-◌}
 use native.Mathlib.Omega.{arith}
-use borrow.Author.Rules.{rules}
 use Rattle.view.specs.Records.{lines_in}
-use Rattle.dispatcher.proofs.BusyLaws.{row_to, row_none, row_more, row_all}
+use Rattle.dispatcher.proofs.BusyLaws.{row_none, row_more, row_all}
 use Rattle.dispatcher.proofs.row_from.Goals as goal
 
 pub loop-j-init : goal.loop-j-init

@@ -1,5 +1,4 @@
 -- `dispatcher::taken_off` meets its contract.
-use borrow.Author.Rules.{rules}
 use Rattle.dispatcher.proofs.BusyLaws.{off_stays, off_empty}
 use mathlib.Core.Bool.{not}
 use mathlib.Core.Path.{ap}

@@ -1,5 +1,4 @@
 -- `dispatcher::with_if_any` meets its contract.
-use borrow.Author.Rules.{rules}
 use Rattle.dispatcher.proofs.BusyLaws.{any_none, any_some}
 use Rattle.dispatcher.proofs.with_if_any.Goals as goal
 
