@@ -2,6 +2,7 @@
 use mathlib.Core.Path.{◌≡◌, refl, sym, ap, ◌∙◌, subst}
 use mathlib.Core.Bool.{true, false}
 use mathlib.Core.List.{List, []}
+use Prim.{tt}
 use Prim.Native.Nat.{ℕ, ◌+◌, ◌-◌, ◌*◌, ◌<◌, ◌≤◌}
 use native.Mathlib.Omega.{arith}
 use lib.ListN.{length, take, drop, length-take, length-drop}
@@ -23,16 +24,21 @@ use Rattle.frames.specs.declared.Event.TheVariants.{Send, SendGroup, SendLong}
 use Rattle.frames.specs.Decoded.{event_in}
 use Rattle.ids.specs.declared.Station.{Station}
 use Rattle.reports.specs.Effects.{accepted_in}
-use Rattle.event_answers.specs.declared.Answer.{Answer}
+use Rattle.std.specs.Prelude.{Result, Ok, Err, IfOk}
+use Rattle.refusals.specs.declared.Refusal.{Refusal}
+use Rattle.refusals.specs.Numbers.{number_of}
+use Rattle.event_answers.specs.declared.Accepted.{Accepted}
 use Rattle.event_answers.specs.declared.Told.{Told}
-use Rattle.event_answers.specs.Answers.{told_of, told_in, answer_in, octets_in}
+use Rattle.event_answers.specs.Answers.{Answer, report_of, text_size, told_of, answer_in}
 use Rattle.event_answers.specs.Met.{MetWith}
 use Rattle.event_radio.specs.declared.Handed.{Handed}
 use Rattle.event_radio.specs.Handed.{handed_in, Lies}
 use Rattle.frame_lines.specs.Lines.{Wrote, longest_rest, short_rest}
+use Rattle.frame_run.specs.declared.Done.{Done}
 use Rattle.frame_run.specs.declared.Dispatched.{Dispatched}
 use Rattle.frame_run.specs.CanRun.{CanRun}
-use Rattle.frame_run.specs.Dispatched.{dispatched_in, Within}
+use Rattle.frame_run.specs.Dispatched.{without_text, with_text, dispatched_in, Within}
+use Rattle.frame_run.specs.Dispatched as dispatched
 
 -- the octets of a text, where they stand in the input
 pub text_part : (l : List ℕ) (at n f e : ℕ) → f ≡ at + 16 → e ≡ f + n → take (e - f) (drop f l) ≡ take n (drop 16 (drop at l))
@@ -88,6 +94,15 @@ some_part b S C M W T O R =
     let long = (lengths_of (lent R.1.0 S C M W T O) R.1.2.lengths).texts in
     omega arith
 
+-- WHAT WAS DONE, by what is told of it
+pub done_is : (a : Accepted) (t : Told) (x : Answer) → t ≡ told_of a → x ≡ Ok a
+    → ◌≡◌ {A = Result Done Refusal} (Ok (record { report = t.report; room = 0; size = 0 })) (without_text x)
+done_is a t x e q = rw (e, q) refl
+
+pub done_with_text_is : (h : Handed) (t : Told) (x : Result Handed Refusal) → t ≡ told_of h.accepted → x ≡ Ok h
+    → ◌≡◌ {A = Result Done Refusal} (Ok (record { report = t.report; room = h.room; size = t.size })) (with_text x)
+done_with_text_is h t x e q = rw (e, q) refl
+
 -- WHAT WAS DISPATCHED: event e of the frame was met from what was lent to what is left, for each product of these numbers, and was told so, with the
 -- messages, the texts and the store afterwards
 abbrev pub Answered : Bounds → (Product → Lent) → (Product → Lent) → events.Event → (M T O : List ℕ) → Dispatched → Type 0
@@ -99,36 +114,39 @@ module _ (bounds : Bounds) (before after : Product → Lent) (ev e : events.Even
   on_frame a met = subst (λ (x : events.Event). MetWith bounds before after x a) (sym same) met
 
   -- an answer without a text
-  pub answered_plainly : 32 ≤ length T → (a : Answer) (next octets : ℕ) (r : Dispatched) → r ≡ record { next = next; told = told_of a; room = 0; size = 0; taken = octets }
+  pub answered_plainly : 32 ≤ length T → (a : Answer) (next octets : ℕ) (r : Dispatched) → r ≡ record { next = next; answer = without_text a; taken = octets }
       → MetWith bounds before after e (answer_in a []) → Answered bounds before after ev M T O r
-  answered_plainly long a next octets r is met =
+  answered_plainly long (Ok a) next octets r is met =
       rw is (
         record {
           room = omega arith;
           most = omega arith;
-          part = λ z. omega arith;
-          parts = λ z some. absurd (omega arith);
-          held = λ z some. absurd (omega arith);
-          size = λ z some. absurd (omega arith);
+          part = omega arith;
+          parts = λ some. absurd (omega arith);
+          held = λ some. absurd (omega arith);
+          size = λ some. absurd (omega arith);
         },
-        on_frame (told_in (told_of a) []) (subst (λ (l : List ℕ). MetWith bounds before after e (told_in (told_of a) l)) (take-nil (octets_in a)) met),
+        on_frame (accepted_in (report_of a.outcome a.effect) [])
+            (subst (λ (l : List ℕ). MetWith bounds before after e (accepted_in (report_of a.outcome a.effect) l)) (take-nil (text_size a.outcome)) met),
       )
+  answered_plainly long (Err refusal) next octets r is met = rw is (tt, on_frame (refused (number_of refusal)) met)
 
   -- a radio step's, with its text where it lies
-  pub answered_text : (h : Handed) (next octets : ℕ) (t : Told) → t ≡ told_of h.answer → Lies M T O 512 h → MetWith bounds before after e (handed_in M T O h)
-      → Answered bounds before after ev M T O (record { next = next; told = t; room = h.room; size = t.size; taken = octets })
-  answered_text h next octets t is lies met =
+  pub answered_text : (h : Result Handed Refusal) (next octets : ℕ) (answer : Result Done Refusal) → answer ≡ with_text h
+      → IfOk h (λ x. Lies M T O 512 x) → MetWith bounds before after e (handed_in M T O h) → Answered bounds before after ev M T O (record { next = next; answer = answer; taken = octets })
+  answered_text (Ok h) next octets answer is lies met =
       rw is (
         record {
           room = lies.room;
           most = lies.most;
-          part = λ z. (lies.parts z).short;
-          parts = λ z some. lies.parts z;
-          held = λ z some. lies.held z;
-          size = λ z some. lies.size z;
+          part = lies.parts.short;
+          parts = λ some. lies.parts;
+          held = λ some. lies.held;
+          size = λ some. lies.size;
         },
-        on_frame (handed_in M T O h) met,
+        on_frame (handed_in M T O (Ok h)) met,
       )
+  answered_text (Err refusal) next octets answer is lies met = rw is (tt, on_frame (refused (number_of refusal)) met)
 
 -- THE REST OF THE LINE of what was dispatched
 module _ (M T O : List ℕ) (r : Dispatched) (out out' : List ℕ) (at next : ℕ) where
@@ -136,46 +154,49 @@ module _ (M T O : List ℕ) (r : Dispatched) (out out' : List ℕ) (at next : �
   Rest a = Wrote longest_rest (rest_of a) out out' at next
 
   -- that of a refusal is no longer than any
-  pub ends_refused : r.told.is_refused ≡ true → Wrote short_rest (rest_of (refused r.told.refusal)) out out' at next → Rest (dispatched_in M T O r)
-  ends_refused q w =
+  pub ends_refused : (refusal : Refusal) → r.answer ≡ Err refusal → Wrote short_rest (rest_of (refused (number_of refusal))) out out' at next → Rest (dispatched_in M T O r)
+  ends_refused refusal q w =
       rw q
       (let few = w.few in record { octets = w.octets; behind = w.behind; few = omega arith; kept = w.kept })
 
-  module _ (q : r.told.is_refused ≡ false) (within : Within M T O r) where
+  module _ (d : Done) (q : r.answer ≡ Ok d) (within : Within M T O r) where
+    pub lies : dispatched.Lies M T O d
+    lies = subst (dispatched.LiesIn M T O) q within
+
     abbrev text : List ℕ
-    text = text_of T O (rooms_in M) r.room
+    text = text_of T O (rooms_in M) d.room
 
     -- a short text is the front of its room's part
-    front : r.size ≤ 32 → take r.size (drop (r.room * 32) T) ≡ take r.size text
+    front : d.size ≤ 32 → take d.size (drop (d.room * 32) T) ≡ take d.size text
     front short =
-        by_eq r.size 0
-        (λ z. ap (λ (k : ℕ). take k (drop (r.room * 32) T)) z ∙ sym (ap (λ (k : ℕ). take k text) z))
+        by_eq d.size 0
+        (λ z. ap (λ (k : ℕ). take k (drop (d.room * 32) T)) z ∙ sym (ap (λ (k : ℕ). take k text) z))
         (λ n.
-        let some : 0 < r.size = omega arith in
-        let size = within.size q some in
-        let is = front_text M T O r.room (within.parts q some) (within.held q some) (omega arith) in
-        sym (ap (take r.size) is ∙ take-take r.size ((rooms_in M).length r.room) (drop (r.room * 32) T) (omega arith)))
+        let some : 0 < d.size = omega arith in
+        let size = lies.size some in
+        let is = front_text M T O d.room (lies.parts some) (lies.held some) (omega arith) in
+        sym (ap (take d.size) is ∙ take-take d.size ((rooms_in M).length d.room) (drop (d.room * 32) T) (omega arith)))
 
-    pub ends_accepted : r.size ≤ 32
-        → Rest (accepted_in r.told.report (take r.size (take (r.room * 32 + 32 - r.room * 32) (drop (r.room * 32) T)))) → Rest (dispatched_in M T O r)
+    pub ends_accepted : d.size ≤ 32
+        → Rest (accepted_in d.report (take d.size (take (d.room * 32 + 32 - d.room * 32) (drop (d.room * 32) T)))) → Rest (dispatched_in M T O r)
     ends_accepted short w =
-        let all = take-take r.size (r.room * 32 + 32 - r.room * 32) (drop (r.room * 32) T) (omega arith) in
-        rw q (subst (λ (l : List ℕ). Rest (accepted_in r.told.report l)) (all ∙ front short) w)
+        let all = take-take d.size (d.room * 32 + 32 - d.room * 32) (drop (d.room * 32) T) (omega arith) in
+        rw q (subst (λ (l : List ℕ). Rest (accepted_in d.report l)) (all ∙ front short) w)
 
     -- a longer one is lent back whole
-    module _ (long : 32 < r.size) (lent_back : List ℕ) (is : lent_back ≡ text) where
-      some_text : 0 < r.size
+    module _ (long : 32 < d.size) (lent_back : List ℕ) (is : lent_back ≡ text) where
+      some_text : 0 < d.size
       some_text = omega arith
 
       pub long_asks : (0 < length lent_back) × (length lent_back ≤ 512)
       long_asks =
-          let size = within.size q some_text in
-          let most = within.most in
-          let octets : length lent_back ≡ (rooms_in M).length r.room =
-          ap length is ∙ held_length M T O r.room (within.parts q some_text) (within.held q some_text) in
+          let size = lies.size some_text in
+          let most = lies.most in
+          let octets : length lent_back ≡ (rooms_in M).length d.room =
+          ap length is ∙ held_length M T O d.room (lies.parts some_text) (lies.held some_text) in
           (omega arith, omega arith)
 
-      pub ends_long : Rest (accepted_in r.told.report lent_back) → Rest (dispatched_in M T O r)
+      pub ends_long : Rest (accepted_in d.report lent_back) → Rest (dispatched_in M T O r)
       ends_long w =
-          let all = whole_text M T O r.room (within.parts q some_text) (within.held q some_text) r.size (within.size q some_text) in
-          rw q (subst (λ (l : List ℕ). Rest (accepted_in r.told.report l)) (is ∙ sym all) w)
+          let all = whole_text M T O d.room (lies.parts some_text) (lies.held some_text) d.size (lies.size some_text) in
+          rw q (subst (λ (l : List ℕ). Rest (accepted_in d.report l)) (is ∙ sym all) w)

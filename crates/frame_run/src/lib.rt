@@ -6,7 +6,6 @@ ghost use Rattle.std.specs.Prelude.{◌≡◌, true, false, not, ◌&&◌, ◌||
 ghost use Rattle.protocol.specs.Events.{refused};
 ghost use Rattle.protocol.specs.Printed.{decimal, rest_of, line_of};
 ghost use Rattle.view.specs.View.{lent};
-ghost use Rattle.event_answers.specs.Answers.{told_of};
 ghost use Rattle.event_answers.specs.Met.{MetWith};
 ghost use Rattle.refusals.specs.Numbers.{number_of};
 ghost use Rattle.frames.specs.Decoded.{event_in, size_of, TextFits};
@@ -14,38 +13,77 @@ ghost use Rattle.frame_lines.specs.Lines.{Tabled, Wrote, Began, longest_number, 
 ghost use Rattle.frame_run.specs.declared.Stop.TheVariants.{Full, Waits, Ended};
 ghost use Rattle.frame_run.specs.Stops.{stop_number};
 ghost use Rattle.frame_run.specs.CanRun.{CanRun, ByEach};
-ghost use Rattle.frame_run.specs.Dispatched.{dispatched_in, Within};
+ghost use Rattle.frame_run.specs.Dispatched.{without_text, with_text, dispatched_in, Within};
 ghost use Rattle.frame_run.specs.Went.{Took, Turned, Went};
 
-use event_answers::{Answer, Told};
+use event_answers::Answer;
+use event_radio::Handed;
 use frames::Event;
 use products::Bounds;
 use refusals::Refusal;
+use reports::Report;
 
 // "Sixteen octets".
 const FRAME: usize = 16;
 
-// An event that was dispatched, its line begun: where the line goes on behind its index, what the event answered, and, of a radio step, which room's
-// text was handed over and how many octets it has; and how many octets the event took of the input.
+// An event that was accepted: its report, and, of a radio step, which room's text was handed over and how many octets it has.
+#[derive(Clone, Copy)]
+pub struct Done {
+    pub report: Report,
+    pub room: usize,
+    pub size: usize,
+}
+
+// An event that was dispatched, its line begun: where the line goes on behind its index, what was done or why it is refused, and how many octets the event
+// took of the input.
 #[derive(Clone, Copy)]
 pub struct Dispatched {
     pub next: usize,
-    pub told: Told,
-    pub room: usize,
-    pub size: usize,
+    pub answer: Result<Done, Refusal>,
     pub taken: usize,
 }
 
-// One that has no text.
-fn without_text(next: usize, taken: usize, answer: Answer) -> Dispatched
-    ensures { result ≡ record { next = next; told = told_of answer; room = 0; size = 0; taken = taken } }
+// What was done, of an event that has no text.
+fn done_of(answer: Answer) -> Result<Done, Refusal>
+    ensures { result ≡ without_text answer }
 {
-    let told = event_answers::told_of(answer);
+    match answer {
+        Ok(accepted) => {
+            let told = accepted.told();
+            Ok(Done {
+                report: told.report,
+                room: 0,
+                size: 0,
+            })
+        }
+        Err(refusal) => Err(refusal),
+    }
+}
+
+// And of a radio step, whose text lies where it was handed over from.
+fn done_with_text(handed: Result<Handed, Refusal>) -> Result<Done, Refusal>
+    ensures { result ≡ with_text handed }
+{
+    match handed {
+        Ok(handed) => {
+            let told = handed.accepted.told();
+            Ok(Done {
+                report: told.report,
+                room: handed.room,
+                size: told.size,
+            })
+        }
+        Err(refusal) => Err(refusal),
+    }
+}
+
+// An event that has no text, dispatched.
+fn without_text(next: usize, taken: usize, answer: Answer) -> Dispatched
+    ensures { result ≡ record { next = next; answer = without_text answer; taken = taken } }
+{
     Dispatched {
         next,
-        told,
-        room: 0,
-        size: 0,
+        answer: done_of(answer),
         taken,
     }
 }
@@ -112,13 +150,9 @@ pub fn dispatch(
                 cart,
                 products::LONG,
             );
-            let answer = handed.answer;
-            let told = event_answers::told_of(answer);
             Dispatched {
                 next,
-                told,
-                room: handed.room,
-                size: told.size,
+                answer: done_with_text(handed),
                 taken: FRAME,
             }
         }
@@ -177,24 +211,18 @@ fn print<'a>(
     ensures { Wrote longest_rest (rest_of (dispatched_in messages.now texts.now store.now dispatched)) out.old out.new dispatched.next result }
 {
     let at = dispatched.next;
-    let told = dispatched.told;
-    if told.is_refused {
-        return frame_lines::end_refused(out, at, told.refusal);
+    match dispatched.answer {
+        Ok(done) => {
+            if products::TEXT < done.size {
+                let text = store::text_of(messages, texts, store, done.room);
+                return frame_lines::end_accepted_long(out, at, done.report, text);
+            }
+            let from = done.room * products::TEXT;
+            let end = from + products::TEXT;
+            frame_lines::end_accepted(out, at, numbers, done.report, &texts[from..end], done.size)
+        }
+        Err(refusal) => frame_lines::end_refused(out, at, refusal.number()),
     }
-    if products::TEXT < dispatched.size {
-        let text = store::text_of(messages, texts, store, dispatched.room);
-        return frame_lines::end_accepted_long(out, at, told.report, text);
-    }
-    let from = dispatched.room * products::TEXT;
-    let end = from + products::TEXT;
-    frame_lines::end_accepted(
-        out,
-        at,
-        numbers,
-        told.report,
-        &texts[from..end],
-        dispatched.size,
-    )
 }
 
 // Why a run over a piece stops.
@@ -386,6 +414,7 @@ pub fn take_frames(
         frames: 0,
         state: Stop::Full,
     };
+    // No range to go over: how many frames there are is known once they were read, and the octets left are the measure.
     while goes_on(output, p) {
         p = take_frame(
             input,

@@ -152,7 +152,7 @@ pub returns-in-Radio : goal.returns-in-Radio
 returns-in-Radio c =
     let a = c.args in
     record {
-      within = answered_text a.bounds (λ (P : Product). lent P a.stations.now a.carts.now a.messages.now a.lines.now a.texts.now a.store.now) _ _ _ (ap (event_in (drop a.at a.input.now)) c.in-Radio.is) _ a.texts.now _ c.radio-handed.result _ _ c.told_of-told.result c.told_of-told.ensures c.radio-handed.ensures.lies (λ P n R. c.radio-handed.ensures.met_by_each P R);
+      within = answered_text a.bounds (λ (P : Product). lent P a.stations.now a.carts.now a.messages.now a.lines.now a.texts.now a.store.now) _ _ _ (ap (event_in (drop a.at a.input.now)) c.in-Radio.is) _ a.texts.now _ c.radio-handed.result c.put_index-next.result 16 _ c.done_with_text.ensures c.radio-handed.ensures.lies (λ P n R. c.radio-handed.ensures.met_by_each P R);
       began = (c.put_index-next.ensures, sym (ap size_of c.in-Radio.is));
     }
 
