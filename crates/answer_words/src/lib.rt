@@ -3,11 +3,11 @@
 #![tactic(auto)]
 
 ghost use Rattle.std.specs.Prelude.{◌≡◌, ◌≤◌, ltb, length, set};
-ghost use Rattle.answer_words.specs.Words.{answer_row, answer_words, quiet_words, read_words};
+ghost use Rattle.answer_words.specs.Words.{answer_row, answer_words, quiet_words, part_row, read_words};
 
-use dispatcher::Quiet;
 use event_answers::Answer;
-use reading::Found;
+use reading::Part;
+use refusals::Refusal;
 
 // So many words are enough for every answer.
 pub const WORDS: usize = 8;
@@ -51,20 +51,25 @@ pub fn put_answer_words(out: &mut [u64], answer: Answer)
     ensures out_after { out.new ≡ answer_words out.old answer }
     ensures out_len_unchanged { length out.new ≡ length out.old }
 {
-    let told = event_answers::told_of(answer);
-    let report = told.report;
-    let effect = report.effect;
-    put_words(
-        out,
-        told.refusal,
-        report.kind,
-        report.a,
-        report.b,
-        effect.passed,
-        effect.records,
-        effect.place,
-        told.size as u64,
-    );
+    match answer {
+        Ok(accepted) => {
+            let told = accepted.told();
+            let report = told.report;
+            let effect = report.effect;
+            put_words(
+                out,
+                0,
+                report.kind,
+                report.a,
+                report.b,
+                effect.passed,
+                effect.records,
+                effect.place,
+                told.size as u64,
+            );
+        }
+        Err(refusal) => put_words(out, refusal.number(), 0, 0, 0, 0, 0, 0, 0),
+    }
 }
 
 // Two words, at the front of the lent ones.
@@ -78,26 +83,40 @@ fn put_two(out: &mut [u64], first: u64, second: u64)
 }
 
 // The words of a floor that was run until it is quiet: the refusal's number, or 0, and the number of steps.
-pub fn put_quiet_words(out: &mut [u64], quiet: Quiet)
+pub fn put_quiet_words(out: &mut [u64], quiet: Result<u64, Refusal>)
     requires { 2 ≤ length out.old }
     ensures out_after { out.new ≡ quiet_words out.old quiet }
     ensures out_len_unchanged { length out.new ≡ length out.old }
 {
     match quiet {
-        Quiet::Refused(number) => put_two(out, number, 0),
-        Quiet::After(steps) => put_two(out, 0, steps),
+        Ok(steps) => put_two(out, 0, steps),
+        Err(refusal) => {
+            let number = refusal.number();
+            put_two(out, number, 0)
+        }
     }
 }
 
+// Four words, at the front of the lent ones: a refusal's number, or 0, and a part.
+fn put_part(out: &mut [u64], refusal: u64, part: Part)
+    requires { 4 ≤ length out.old }
+    ensures out_after { out.new ≡ part_row out.old refusal part }
+    ensures out_len_unchanged { length out.new ≡ length out.old }
+{
+    out[0] = refusal;
+    out[1] = u64::from(part.stored);
+    out[2] = part.at as u64;
+    out[3] = part.octets as u64;
+}
+
 // The words of a reading call: its number, "0 if not refused"; 1 for the store, or 0 for the short table; from which octet on, and how many octets.
-pub fn put_read_words(out: &mut [u64], found: Found)
+pub fn put_read_words(out: &mut [u64], found: Result<Part, Refusal>)
     requires { 4 ≤ length out.old }
     ensures out_after { out.new ≡ read_words out.old found }
     ensures out_len_unchanged { length out.new ≡ length out.old }
 {
-    let part = found.part;
-    out[0] = found.refusal;
-    out[1] = part.stored as u64;
-    out[2] = part.at as u64;
-    out[3] = part.octets as u64;
+    match found {
+        Ok(part) => put_part(out, 0, part),
+        Err(refusal) => put_part(out, refusal.number(), reading::FRONT),
+    }
 }

@@ -2,7 +2,6 @@
 use mathlib.Core.Path.{refl}
 use native.Mathlib.Omega.{arith}
 use lib.ListN.{length-set}
-use borrow.Author.Rules.{rules}
 use Rattle.answer_words.proofs.put_two.Goals as goal
 
 pub bounds-out-1 : goal.bounds-out-1
