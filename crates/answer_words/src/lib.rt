@@ -19,7 +19,7 @@ pub fn too_few(out: &[u64]) -> bool
     out.len() < WORDS
 }
 
-// Eight words, at the front of the lent ones.
+// Eight words, at the front of the lent ones: their order and their numbers are the C interface.
 fn put_words(
     out: &mut [u64],
     refusal: u64,

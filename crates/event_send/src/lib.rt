@@ -192,7 +192,7 @@ fn post(
     Posted { number, effect }
 }
 
-// The same of a long text, which goes into the store.
+// The same of a long text, which goes into the store. It stays beside `post`: another part is lent for the text, and each clause speaks of that part.
 fn post_long(
     stations: &mut [u64],
     messages: &mut [u64],
@@ -260,7 +260,8 @@ pub fn send(
     })
 }
 
-// "Kind 8 .. sends to the members as they are at that send". A text longer than 32 octets is the caller's to refuse, as for a send.
+// "Kind 8 .. sends to the members as they are at that send". A text longer than 32 octets is the caller's to refuse, as for a send. The calls of the three
+// kinds stay apart, since each is promised for an event of its own; what they share is in the checks and in `post`.
 pub fn send_group(
     stations: &mut [u64],
     carts: &[u64],

@@ -12,7 +12,7 @@ ghost use Rattle.answer_words.specs.Words.{Answered, AnsweredText};
 
 use ids::{CartNumber, Station};
 
-// "Enter (station, cart)", on a floor that events can go on with.
+// "Enter (station, cart)", on a floor that events can go on with. Here and below numbers and flags are bare words, since that is the C interface.
 #[unsafe(no_mangle)]
 pub extern "C" fn mekhturia_step_enter(
     stations: &mut [u64],

@@ -16,7 +16,7 @@ use frame_run::Progress;
 use ids::{CartNumber, MessageNumber, Station};
 use products::Bounds;
 
-// The status of a call: its answer is in the lent words.
+// The status of a call: its answer is in the lent words. Statuses and products are numbers here, since that is the C interface.
 const ANSWERED: u64 = 0;
 
 // The lent words are too few for its answer, and nothing was touched.

@@ -16,7 +16,7 @@ ghost use Rattle.reading.specs.Parts.{part_of, read_in, lender, IsPart};
 use ids::{MessageNumber, Station};
 use refusals::Refusal;
 
-// A part of the lent octets: of the store, or else of the short table; from which octet on, and how many.
+// A part of the lent octets: of the store, or else of the short table; from which octet on, and how many. A bool says of which, as it is handed on to C.
 #[derive(Clone, Copy, Debug, PartialEq, Eq)]
 pub struct Part {
     pub stored: bool,
