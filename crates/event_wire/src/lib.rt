@@ -54,9 +54,8 @@ fn handle(
     requires { IsOff stations.old carts.old messages.old lines.old from.0 to.0 said }
     ensures { (P : Product) (W T O : List ℕ) → TakenOff P stations.old carts.old messages.old W lines.old T O from.0 to.0 said → Met (lent P stations.old carts.old messages.old W T O) (lent P stations.new carts.new messages.new lines.new T O) (wire from.0 to.0) (answer_in result []) }
 {
-    let kind = view::kind_of(said);
     let number = MessageNumber(view::number_of(said));
-    if kind == Some(Kind::AckList) {
+    if view::is_of(said, Kind::AckList) {
         let n = stations::station_count(stations);
         let effect = wired_records::on_ack_list(messages, lines, said, to, n);
         return Ok(Accepted {
@@ -64,14 +63,14 @@ fn handle(
             effect,
         });
     }
-    if kind == Some(Kind::Delete) {
+    if view::is_of(said, Kind::Delete) {
         let effect = wired_records::on_delete(messages, said, to);
         return Ok(Accepted {
             outcome: Outcome::Deleted(number),
             effect,
         });
     }
-    if kind == Some(Kind::Multicast) {
+    if view::is_of(said, Kind::Multicast) {
         let effect = wired_records::on_multicast(stations, carts, messages, said, from, to);
         return Ok(Accepted {
             outcome: Outcome::Buffered(number),
@@ -79,7 +78,7 @@ fn handle(
         });
     }
     let cart = CartNumber(view::index_of(said));
-    if kind == Some(Kind::Deregister) {
+    if view::is_of(said, Kind::Deregister) {
         let effect = handoff::on_deregister(stations, carts, messages, lines, cart, to, from);
         return Ok(Accepted {
             outcome: Outcome::Deregistered(cart),

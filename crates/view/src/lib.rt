@@ -1,7 +1,7 @@
 // The words of the records on the lines. The floor that all lent parts say is in specs/View, and what each write of a part is in it in proofs/.
 #![tactic(auto)]
 
-ghost use Rattle.std.specs.Prelude.{◌≡◌, ◌<◌};
+ghost use Rattle.std.specs.Prelude.{◌≡◌, ◌<◌, eqb};
 ghost use Rattle.stations.specs.View.{rooms};
 ghost use Rattle.view.specs.Kinds.{number_said, kind_said};
 ghost use Rattle.view.specs.Records.{kind_of, index_of, number_of, word_of, words_of};
@@ -104,6 +104,13 @@ pub fn kind_of(said: Record) -> Option<Kind>
         5 => Some(Kind::Register),
         _ => None,
     }
+}
+
+// Is it of this kind? For whoever asks for one kind after the other.
+pub fn is_of(said: Record, kind: Kind) -> bool
+    ensures { result ≡ eqb (kind_of said.0) (number_said kind) }
+{
+    said.0 % INDEX == kind.number()
 }
 
 // The room of its message, or its cart.
