@@ -11,18 +11,20 @@ use Rattle.protocol.specs.Events.{Event, Answer, start, enter, send, wire, radio
 use Rattle.protocol.specs.Form.{passes_form}
 use Rattle.protocol.specs.Quiet.{turned_away}
 use Rattle.protocol.proofs.Tests.{by_test}
+use Rattle.std.specs.Prelude.{Result, Ok, Err}
+use Rattle.refusals.specs.declared.Refusal.{Refusal}
+use Rattle.refusals.specs.declared.Refusal.TheVariants.{NotReady}
+use Rattle.refusals.specs.Numbers.{number_of}
 use Rattle.view.specs.View.{Lent, lengths_in, floor_in}
 use Rattle.view.proofs.Lengths.{Lengths, lengths_of}
 use Rattle.form_test.proofs.Split.{fails_lengths}
 use Rattle.event_start.proofs.Starts.{start_lengths}
 use Rattle.event_answers.specs.Met.{Met}
 use Rattle.event_answers.proofs.Broken.{broken_enter, broken_send, broken_wire, broken_radio, broken_move, broken_flag, broken_group, broken_send_group, broken_send_long, broken_retire}
-use Rattle.dispatcher.specs.declared.Quiet.{Quiet}
-use Rattle.dispatcher.specs.declared.Quiet.TheVariants.{Refused, After}
 use Rattle.dispatcher.specs.Called.{quiet_in, QuietMet}
 use Rattle.dispatcher.proofs.CalledLaws.{quiet_broken}
 use Rattle.reading.specs.Parts.{read_in}
-use Rattle.reading.proofs.PartLaws.{refused_by, read_broken}
+use Rattle.reading.proofs.PartLaws.{read_broken}
 use Rattle.tested_events.specs.Parts.{SharesPart, FitText}
 
 -- two products that differ in all these numbers have no part of the same length
@@ -50,6 +52,10 @@ floor_part_wrong_for_kit = wrong whole_floor kit (λ z. omega arith) (λ z. omeg
 pub kit_part_wrong_for_floor : (K L : Lent) → K.product ≡ kit → L.product ≡ whole_floor → lengths_in K ≡ true → SharesPart K L → lengths_in L ≡ false
 kit_part_wrong_for_floor = wrong kit whole_floor (λ z. omega arith) (λ z. omega arith) (λ z. omega arith) (λ z. omega arith)
 
+-- the refusal whose number is 5
+is_not_ready : (r : Refusal) → number_of r ≡ 5 → r ≡ NotReady
+is_not_ready r e = grind arith
+
 -- 5, of every event, and no word is changed
 module _ (L : Lent) (lengths : lengths_in L ≡ false) where
   breaks : false ≡ passes_form (limits_of L.product) (floor_in L)
@@ -72,15 +78,15 @@ module _ (L : Lent) (lengths : lengths_in L ≡ false) where
   pub wrong_lengths_are_5 : (L' : Lent) (e : Event) (a : Answer) → Met L L' e a → FitText e → (a ≡ refused 5) × (L' ≡ L)
   wrong_lengths_are_5 L' e a met short = let five = met.answers ∙ sym (meets_5 e short).answers in (five, met.untouched 5 five)
 
-  refused_is : (a : Quiet) → quiet_in a ≡ turned_away 5 → a ≡ Refused 5
-  refused_is (Refused r) e = ap Refused (cc)
-  refused_is (After steps) e = absurd (let z : ◌≡◌ {A = ℕ} 0 1 = cc in omega arith)
+  refused_is : (a : Result ℕ Refusal) → quiet_in a ≡ turned_away 5 → a ≡ Err NotReady
+  refused_is (Err r) e = ap Err (is_not_ready r (cc))
+  refused_is (Ok steps) e = absurd (let z : ◌≡◌ {A = ℕ} 0 1 = cc in omega arith)
 
-  pub quiet_wrong_lengths_is_5 : (L' : Lent) (buffer buffer' : List ℕ) (a : Quiet) → QuietMet L L' buffer buffer' a → (a ≡ Refused 5) × (L' ≡ L)
+  pub quiet_wrong_lengths_is_5 : (L' : Lent) (buffer buffer' : List ℕ) (a : Result ℕ Refusal) → QuietMet L L' buffer buffer' a → (a ≡ Err NotReady) × (L' ≡ L)
   quiet_wrong_lengths_is_5 L' buffer buffer' a met =
       let five = refused_is a (met.answers ∙ sym (quiet_broken L buffer (sym breaks)).answers) in
-      (five, met.untouched 5 five)
+      (five, met.untouched NotReady five)
 
   -- and the reading call lends back nothing
-  pub read_wrong_lengths_is_5 : (s n : ℕ) → read_in L s n ≡ refused_by 5
+  pub read_wrong_lengths_is_5 : (s n : ℕ) → read_in L s n ≡ Err NotReady
   read_wrong_lengths_is_5 s n = sym (read_broken L s n (sym breaks))

@@ -16,7 +16,7 @@ use Rattle.protocol.specs.Route.{sendings_of, retires_none}
 use Rattle.protocol.proofs.Theorems.{two_list_rule, same_received, form_reached, reached_quiet_bound, quiet_at_last, quiet_holds_none, quiet_lists_equal}
 use Rattle.view.specs.View.{Lent, floor_in}
 use Rattle.event_answers.specs.Met.{Met}
-use Rattle.dispatcher.specs.declared.Quiet.TheVariants.{After}
+use Rattle.std.specs.Prelude.{Ok}
 use Rattle.dispatcher.specs.Called.{QuietMet}
 use Rattle.tested_events.specs.Run.{Call, Calls, left_by, lists_of, events_of, RunIs, EndsQuiet}
 
@@ -82,7 +82,7 @@ written_end M F n k l a es Q q steps c =
 
 -- and of calls: a start was accepted, calls followed, and then the floor was run until it is quiet
 pub ends_quiet : (L₀ L : Lent) (n k : ℕ) (l : Report) → Met L₀ L (start n k) (accepted l) → (ks : List Call) → Calls L ks
-    → (L' : Lent) (buffer buffer' : List ℕ) (steps : ℕ) → QuietMet (left_by L ks) L' buffer buffer' (After steps)
+    → (L' : Lent) (buffer buffer' : List ℕ) (steps : ℕ) → QuietMet (left_by L ks) L' buffer buffer' (Ok steps)
     → EndsQuiet (limits_of L.product) (floor_in L) k (events_of ks) (floor_in L') steps
 ends_quiet L₀ L n k l begun ks calls L' buffer buffer' steps met =
     let ran = call_ran (limits_of (left_by L ks).product) (floor_in (left_by L ks)) buffer steps (sym met.answers) in

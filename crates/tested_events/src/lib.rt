@@ -11,17 +11,18 @@ ghost use Rattle.protocol.specs.Store.{not_long};
 ghost use Rattle.protocol.specs.ReadText.{read_refusal};
 ghost use Rattle.products.specs.Numbers.{Fits, NumbersOf};
 ghost use Rattle.view.specs.View.{lent, floor_in};
+ghost use Rattle.refusals.specs.Numbers.{refusal_in};
 ghost use Rattle.event_answers.specs.Answers.{answer_in};
 ghost use Rattle.event_answers.specs.Met.{Met};
 ghost use Rattle.event_answers.specs.Delivered.{Delivered};
 ghost use Rattle.dispatcher.specs.Called.{QuietMet};
-ghost use Rattle.reading.specs.Parts.{read_in, TextLent};
+ghost use Rattle.reading.specs.Parts.{read_in, part_in, TextLent};
 
-use dispatcher::Quiet;
 use event_answers::Answer;
 use ids::{CartNumber, MessageNumber, Station};
 use products::Bounds;
-use reading::Found;
+use reading::Part;
+use refusals::Refusal;
 
 // "Enter (station, cart)".
 pub fn enter(
@@ -39,7 +40,7 @@ pub fn enter(
     ensures { (P : Product) → NumbersOf P bounds → Met (lent P stations.old carts.old messages.now lines.now texts.now store.now) (lent P stations.new carts.new messages.now lines.now texts.now store.now) (enter station.0 cart.0) (answer_in result []) }
 {
     if !form_test::passes(stations, carts, messages, lines, texts, store, bounds) {
-        return Answer::Refused(5);
+        return Err(Refusal::NotReady);
     }
     event_carts::enter(
         stations, carts, messages, lines, texts, store, station, cart,
@@ -70,10 +71,10 @@ pub fn send(
     ensures { (P : Product) → NumbersOf P bounds → Met (lent P stations.old carts.now messages.old lines.old texts.old store.now) (lent P stations.new carts.now messages.new lines.new texts.new store.now) (send station.0 set text.now) (answer_in result []) }
 {
     if is_too_long(text) {
-        return Answer::Refused(4);
+        return Err(Refusal::WrongLength);
     }
     if !form_test::passes(stations, carts, messages, lines, texts, store, bounds) {
-        return Answer::Refused(5);
+        return Err(Refusal::NotReady);
     }
     event_send::send(
         stations, carts, messages, lines, texts, store, station, set, text, bounds,
@@ -96,7 +97,7 @@ pub fn wire(
     ensures { (P : Product) → NumbersOf P bounds → Met (lent P stations.old carts.old messages.old lines.old texts.now store.now) (lent P stations.new carts.new messages.new lines.new texts.now store.now) (wire from.0 to.0) (answer_in result []) }
 {
     if !form_test::passes(stations, carts, messages, lines, texts, store, bounds) {
-        return Answer::Refused(5);
+        return Err(Refusal::NotReady);
     }
     event_wire::wire(stations, carts, messages, lines, texts, store, from, to)
 }
@@ -118,7 +119,7 @@ pub fn radio(
     ensures { (P : Product) → NumbersOf P bounds → Delivered (lent P stations.old carts.old messages.now lines.old texts.now store.now) (lent P stations.new carts.new messages.now lines.new texts.now store.now) station.0 cart.0 result buffer.old buffer.new }
 {
     if !form_test::passes(stations, carts, messages, lines, texts, store, bounds) {
-        return Answer::Refused(5);
+        return Err(Refusal::NotReady);
     }
     event_radio::radio_into(
         stations, carts, messages, lines, texts, store, station, cart, buffer,
@@ -141,7 +142,7 @@ pub fn move_cart(
     ensures { (P : Product) → NumbersOf P bounds → Met (lent P stations.now carts.old messages.now lines.old texts.now store.now) (lent P stations.now carts.new messages.now lines.new texts.now store.now) (move cart.0 to.0) (answer_in result []) }
 {
     if !form_test::passes(stations, carts, messages, lines, texts, store, bounds) {
-        return Answer::Refused(5);
+        return Err(Refusal::NotReady);
     }
     event_carts::move_cart(stations, carts, messages, lines, texts, store, cart, to)
 }
@@ -162,7 +163,7 @@ pub fn flag_cart(
     ensures { (P : Product) → NumbersOf P bounds → Met (lent P stations.now carts.old messages.now lines.now texts.now store.now) (lent P stations.now carts.new messages.now lines.now texts.now store.now) (flag cart.0 steady) (answer_in result []) }
 {
     if !form_test::passes(stations, carts, messages, lines, texts, store, bounds) {
-        return Answer::Refused(5);
+        return Err(Refusal::NotReady);
     }
     event_carts::flag_cart(stations, carts, messages, lines, texts, store, cart, steady)
 }
@@ -183,7 +184,7 @@ pub fn define_group(
     ensures { (P : Product) → NumbersOf P bounds → Met (lent P stations.old carts.now messages.now lines.now texts.now store.now) (lent P stations.new carts.now messages.now lines.now texts.now store.now) (events.group group set) (answer_in result []) }
 {
     if !form_test::passes(stations, carts, messages, lines, texts, store, bounds) {
-        return Answer::Refused(5);
+        return Err(Refusal::NotReady);
     }
     event_groups::define_group(stations, carts, messages, lines, texts, store, group, set)
 }
@@ -206,10 +207,10 @@ pub fn send_group(
     ensures { (P : Product) → NumbersOf P bounds → Met (lent P stations.old carts.now messages.old lines.old texts.old store.now) (lent P stations.new carts.now messages.new lines.new texts.new store.now) (send_group station.0 group text.now) (answer_in result []) }
 {
     if is_too_long(text) {
-        return Answer::Refused(4);
+        return Err(Refusal::WrongLength);
     }
     if !form_test::passes(stations, carts, messages, lines, texts, store, bounds) {
-        return Answer::Refused(5);
+        return Err(Refusal::NotReady);
     }
     event_send::send_group(
         stations, carts, messages, lines, texts, store, station, group, text, bounds,
@@ -220,10 +221,7 @@ pub fn send_group(
 fn is_not_long(text: &[u8]) -> bool
     ensures { result ≡ not_long limits (length text.now) }
 {
-    if text.len() <= products::TEXT {
-        return true;
-    }
-    products::LONG < text.len()
+    text.len() <= products::TEXT || products::LONG < text.len()
 }
 
 // "Kind 9 is a send whose text has 33 to 512 octets". A text of another length is met before anything of the floor.
@@ -243,10 +241,10 @@ pub fn send_long(
     ensures { (P : Product) → NumbersOf P bounds → Met (lent P stations.old carts.now messages.old lines.old texts.now store.old) (lent P stations.new carts.now messages.new lines.new texts.now store.new) (send_long station.0 set text.now) (answer_in result []) }
 {
     if is_not_long(text) {
-        return Answer::Refused(4);
+        return Err(Refusal::WrongLength);
     }
     if !form_test::passes(stations, carts, messages, lines, texts, store, bounds) {
-        return Answer::Refused(5);
+        return Err(Refusal::NotReady);
     }
     event_send::send_long(
         stations, carts, messages, lines, texts, store, station, set, text, bounds,
@@ -268,7 +266,7 @@ pub fn retire(
     ensures { (P : Product) → NumbersOf P bounds → Met (lent P stations.old carts.old messages.now lines.now texts.now store.now) (lent P stations.new carts.new messages.now lines.now texts.now store.now) (retire cart.0) (answer_in result []) }
 {
     if !form_test::passes(stations, carts, messages, lines, texts, store, bounds) {
-        return Answer::Refused(5);
+        return Err(Refusal::NotReady);
     }
     event_carts::retire(stations, carts, messages, lines, texts, store, cart)
 }
@@ -284,22 +282,20 @@ pub fn quiet(
     store: &[u8],
     buffer: &mut [u8],
     bounds: Bounds,
-) -> Quiet
+) -> Result<u64, Refusal>
     requires { Fits bounds }
     ensures { (P : Product) → NumbersOf P bounds → QuietMet (lent P stations.old carts.old messages.old lines.old texts.now store.now) (lent P stations.new carts.new messages.new lines.new texts.now store.now) buffer.old buffer.new result }
 {
     if !form_test::passes(stations, carts, messages, lines, texts, store, bounds) {
-        return Quiet::Refused(5);
+        return Err(Refusal::NotReady);
     }
     if buffer.len() < products::LONG {
-        return Quiet::Refused(21);
+        return Err(Refusal::ShortBuffer);
     }
-    Quiet::After(dispatcher::run_until_quiet(
-        stations, carts, messages, lines, texts, store, buffer,
-    ))
+    Ok(dispatcher::run_until_quiet(stations, carts, messages, lines, texts, store, buffer))
 }
 
-// What the reading call comes to: "for the reading call, 5, 8, then 28 message not held", or 0, and the part that it lends back.
+// What the reading call comes to: "for the reading call, 5, 8, then 28 message not held", or the part that it lends back.
 pub fn read(
     stations: &[u64],
     carts: &[u64],
@@ -310,14 +306,24 @@ pub fn read(
     initiator: Station,
     number: MessageNumber,
     bounds: Bounds,
-) -> Found
+) -> Result<Part, Refusal>
     requires { Fits bounds }
     ensures { (P : Product) → NumbersOf P bounds → result ≡ read_in (lent P stations.now carts.now messages.now lines.now texts.now store.now) initiator.0 number.0 }
 {
-    if !form_test::passes(stations, carts, messages, lines, texts, store, bounds) {
-        return reading::refused(5);
+    if form_test::passes(stations, carts, messages, lines, texts, store, bounds) {
+        return reading::read(stations, messages, bounds.held, initiator, number);
     }
-    reading::read(stations, messages, bounds.held, initiator, number)
+    Err(Refusal::NotReady)
+}
+
+// The part that is lent back: "refused, it lends back the empty part".
+fn part_or_front(found: Result<Part, Refusal>) -> Part
+    ensures { result ≡ part_in found }
+{
+    match found {
+        Ok(part) => part,
+        Err(_) => reading::FRONT,
+    }
 }
 
 // THE READING CALL: "by initiator and number, lends back that text's own part of the short table or of the long store"; "refused, it lends back the empty
@@ -339,11 +345,11 @@ pub fn text_of<'a>(
     let found = read(
         stations, carts, messages, lines, texts, store, initiator, number, bounds,
     );
-    let part = found.part;
+    let part = part_or_front(found);
     reading::lend(texts, store, part)
 }
 
-// "a call beside it gives the number, 0 if not refused".
+// Why the reading call is refused, if it is: "a call beside it gives the number, 0 if not refused".
 pub fn text_refusal(
     stations: &[u64],
     carts: &[u64],
@@ -354,12 +360,12 @@ pub fn text_refusal(
     initiator: Station,
     number: MessageNumber,
     bounds: Bounds,
-) -> u64
+) -> Result<(), Refusal>
     requires { Fits bounds }
-    ensures { (P : Product) → NumbersOf P bounds → result ≡ read_refusal (limits_of P) (floor_in (lent P stations.now carts.now messages.now lines.now texts.now store.now)) initiator.0 number.0 }
+    ensures { (P : Product) → NumbersOf P bounds → refusal_in result ≡ read_refusal (limits_of P) (floor_in (lent P stations.now carts.now messages.now lines.now texts.now store.now)) initiator.0 number.0 }
 {
-    let found = read(
+    read(
         stations, carts, messages, lines, texts, store, initiator, number, bounds,
-    );
-    found.refusal
+    )?;
+    Ok(())
 }

@@ -2,6 +2,7 @@
 use lib.ListN.{length}
 use borrow.Author.Rules.{rules}
 use borrow.Author.Tests.{not-true}
+use Rattle.refusals.specs.declared.Refusal.TheVariants.{NotReady}
 use Rattle.products.proofs.Numbers.{product_of, its_numbers}
 use Rattle.view.specs.View.{lent}
 use Rattle.event_answers.proofs.Broken.{broken_radio}
@@ -15,7 +16,7 @@ pub returns-then-not-passes : goal.returns-then-not-passes
 returns-then-not-passes c P e =
     let a = c.args in
     let L = lent P a.stations.now a.carts.now a.messages.now a.lines.now a.texts.now a.store.now in
-    delivers_refused L L a.station.0 a.cart.0 a.buffer.now 5
+    delivers_refused L L a.station.0 a.cart.0 a.buffer.now NotReady
     (broken_radio L _ (c.passes.ensures P e) (not-true _ (ap not c.if-not-passes.true)) a.station.0 a.cart.0 (length a.buffer.now))
 
 pub radio_into-requires : goal.radio_into-requires
