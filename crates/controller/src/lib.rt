@@ -1,36 +1,30 @@
-// THE CONTROLLER: the eleven events over a floor in lent memory. Each takes any numbers and any lent parts, refuses first, "Checks run down the
-// table; the first that applies is the answer", and leaves exactly the written floor. A contract `Met L L' e a` says of the lent parts
-// before and after: the answer is the written one, the floor that they say is the written step's, and a refusal changed no word of them.
+// THE CONTROLLER: the eleven events over a floor in lent memory, of the whole floor (`WholeFloor`) or of the demonstration kit (`Kit`): every step is the same, only
+// the limits are the product's. Each takes any numbers and any lent parts, refuses first, "Checks run down the table; the first that applies is the answer", and
+// leaves exactly the written floor. A contract `Met L L' e a` says of the lent parts before and after: the answer is the written one, the floor that they say is
+// the written step's, and a refusal changed no word of them.
 #![tactic(auto)]
 
 ghost use Rattle.std.specs.Prelude.{◌≡◌, []};
-ghost use Rattle.protocol.specs.Floor.{whole_floor, limits_of};
+ghost use Rattle.protocol.specs.Floor.{limits_of};
 ghost use Rattle.protocol.specs.Events.{start, enter, send, wire, move, flag, send_group, send_long, retire};
 ghost use Rattle.protocol.specs.Events as events;
 ghost use Rattle.protocol.specs.ReadText.{read_refusal};
-ghost use Rattle.products.specs.Numbers.{Fits, NumbersOf};
 ghost use Rattle.view.specs.View.{lent, floor_in};
+ghost use Rattle.refusals.specs.Numbers.{refusal_in};
 ghost use Rattle.event_answers.specs.Answers.{answer_in};
 ghost use Rattle.event_answers.specs.Met.{Met};
 ghost use Rattle.event_answers.specs.Delivered.{Delivered};
 ghost use Rattle.dispatcher.specs.Called.{QuietMet};
 ghost use Rattle.reading.specs.Parts.{TextLent};
 
-use dispatcher::Quiet;
 use event_answers::Answer;
 use ids::{CartNumber, MessageNumber, Station};
-use products::Bounds;
-
-// The floor's limits, by which every event goes.
-fn own_bounds() -> Bounds
-    ensures { Fits result × NumbersOf whole_floor result }
-{
-    products::floor_bounds()
-}
+use products::Product;
+use refusals::Refusal;
 
 // Start, of so many stations and carts: it looks at the lengths of the lent parts, at the mark and at the two numbers, "and it writes all the
 // rest afresh".
-pub fn start(
+pub fn start<P: Product>(
     stations: &mut [u64],
     carts: &mut [u64],
     messages: &mut [u64],
@@ -40,7 +34,7 @@ pub fn start(
     n: u64,
     k: u64,
 ) -> Answer
-    ensures { Met (lent whole_floor stations.old carts.old messages.old lines.old texts.now store.now) (lent whole_floor stations.new carts.new messages.new lines.new texts.now store.now) (start n k) (answer_in result []) }
+    ensures { Met (lent P.product stations.old carts.old messages.old lines.old texts.now store.now) (lent P.product stations.new carts.new messages.new lines.new texts.now store.now) (start n k) (answer_in result []) }
 {
     event_start::start(
         stations,
@@ -51,12 +45,12 @@ pub fn start(
         store,
         n,
         k,
-        own_bounds(),
+        P::bounds(),
     )
 }
 
 // "Enter (station, cart)".
-pub fn enter(
+pub fn enter<P: Product>(
     stations: &mut [u64],
     carts: &mut [u64],
     messages: &[u64],
@@ -66,7 +60,7 @@ pub fn enter(
     station: Station,
     cart: CartNumber,
 ) -> Answer
-    ensures { Met (lent whole_floor stations.old carts.old messages.now lines.now texts.now store.now) (lent whole_floor stations.new carts.new messages.now lines.now texts.now store.now) (enter station.0 cart.0) (answer_in result []) }
+    ensures { Met (lent P.product stations.old carts.old messages.now lines.now texts.now store.now) (lent P.product stations.new carts.new messages.now lines.now texts.now store.now) (enter station.0 cart.0) (answer_in result []) }
 {
     tested_events::enter(
         stations,
@@ -77,12 +71,12 @@ pub fn enter(
         store,
         station,
         cart,
-        own_bounds(),
+        P::bounds(),
     )
 }
 
 // "Send (station, set, text)". A text longer than 32 octets is met before anything of the floor.
-pub fn send(
+pub fn send<P: Product>(
     stations: &mut [u64],
     carts: &[u64],
     messages: &mut [u64],
@@ -93,7 +87,7 @@ pub fn send(
     set: u64,
     text: &[u8],
 ) -> Answer
-    ensures { Met (lent whole_floor stations.old carts.now messages.old lines.old texts.old store.now) (lent whole_floor stations.new carts.now messages.new lines.new texts.new store.now) (send station.0 set text.now) (answer_in result []) }
+    ensures { Met (lent P.product stations.old carts.now messages.old lines.old texts.old store.now) (lent P.product stations.new carts.now messages.new lines.new texts.new store.now) (send station.0 set text.now) (answer_in result []) }
 {
     tested_events::send(
         stations,
@@ -105,12 +99,12 @@ pub fn send(
         station,
         set,
         text,
-        own_bounds(),
+        P::bounds(),
     )
 }
 
 // "Wire (from, to)".
-pub fn wire(
+pub fn wire<P: Product>(
     stations: &mut [u64],
     carts: &mut [u64],
     messages: &mut [u64],
@@ -120,7 +114,7 @@ pub fn wire(
     from: Station,
     to: Station,
 ) -> Answer
-    ensures { Met (lent whole_floor stations.old carts.old messages.old lines.old texts.now store.now) (lent whole_floor stations.new carts.new messages.new lines.new texts.now store.now) (wire from.0 to.0) (answer_in result []) }
+    ensures { Met (lent P.product stations.old carts.old messages.old lines.old texts.now store.now) (lent P.product stations.new carts.new messages.new lines.new texts.now store.now) (wire from.0 to.0) (answer_in result []) }
 {
     tested_events::wire(
         stations,
@@ -131,12 +125,12 @@ pub fn wire(
         store,
         from,
         to,
-        own_bounds(),
+        P::bounds(),
     )
 }
 
 // "Radio (station, cart)": `Delivered` says of the lent text buffer, too, what it is afterwards.
-pub fn radio(
+pub fn radio<P: Product>(
     stations: &mut [u64],
     carts: &mut [u64],
     messages: &[u64],
@@ -147,7 +141,7 @@ pub fn radio(
     cart: CartNumber,
     buffer: &mut [u8],
 ) -> Answer
-    ensures { Delivered (lent whole_floor stations.old carts.old messages.now lines.old texts.now store.now) (lent whole_floor stations.new carts.new messages.now lines.new texts.now store.now) station.0 cart.0 result buffer.old buffer.new }
+    ensures { Delivered (lent P.product stations.old carts.old messages.now lines.old texts.now store.now) (lent P.product stations.new carts.new messages.now lines.new texts.now store.now) station.0 cart.0 result buffer.old buffer.new }
 {
     tested_events::radio(
         stations,
@@ -159,12 +153,12 @@ pub fn radio(
         station,
         cart,
         buffer,
-        own_bounds(),
+        P::bounds(),
     )
 }
 
 // "Move (cart, to)".
-pub fn move_cart(
+pub fn move_cart<P: Product>(
     stations: &[u64],
     carts: &mut [u64],
     messages: &[u64],
@@ -174,7 +168,7 @@ pub fn move_cart(
     cart: CartNumber,
     to: Station,
 ) -> Answer
-    ensures { Met (lent whole_floor stations.now carts.old messages.now lines.old texts.now store.now) (lent whole_floor stations.now carts.new messages.now lines.new texts.now store.now) (move cart.0 to.0) (answer_in result []) }
+    ensures { Met (lent P.product stations.now carts.old messages.now lines.old texts.now store.now) (lent P.product stations.now carts.new messages.now lines.new texts.now store.now) (move cart.0 to.0) (answer_in result []) }
 {
     tested_events::move_cart(
         stations,
@@ -185,12 +179,12 @@ pub fn move_cart(
         store,
         cart,
         to,
-        own_bounds(),
+        P::bounds(),
     )
 }
 
 // "A cart counts as steady from its entry until told": the cart is told steady, or not.
-pub fn flag_cart(
+pub fn flag_cart<P: Product>(
     stations: &[u64],
     carts: &mut [u64],
     messages: &[u64],
@@ -200,7 +194,7 @@ pub fn flag_cart(
     cart: CartNumber,
     steady: bool,
 ) -> Answer
-    ensures { Met (lent whole_floor stations.now carts.old messages.now lines.now texts.now store.now) (lent whole_floor stations.now carts.new messages.now lines.now texts.now store.now) (flag cart.0 steady) (answer_in result []) }
+    ensures { Met (lent P.product stations.now carts.old messages.now lines.now texts.now store.now) (lent P.product stations.now carts.new messages.now lines.now texts.now store.now) (flag cart.0 steady) (answer_in result []) }
 {
     tested_events::flag_cart(
         stations,
@@ -211,12 +205,12 @@ pub fn flag_cart(
         store,
         cart,
         steady,
-        own_bounds(),
+        P::bounds(),
     )
 }
 
 // "Kind 7 carries a group number .. and the set; an empty set undefines the group".
-pub fn define_group(
+pub fn define_group<P: Product>(
     stations: &mut [u64],
     carts: &[u64],
     messages: &[u64],
@@ -226,7 +220,7 @@ pub fn define_group(
     group: u64,
     set: u64,
 ) -> Answer
-    ensures { Met (lent whole_floor stations.old carts.now messages.now lines.now texts.now store.now) (lent whole_floor stations.new carts.now messages.now lines.now texts.now store.now) (events.group group set) (answer_in result []) }
+    ensures { Met (lent P.product stations.old carts.now messages.now lines.now texts.now store.now) (lent P.product stations.new carts.now messages.now lines.now texts.now store.now) (events.group group set) (answer_in result []) }
 {
     tested_events::define_group(
         stations,
@@ -237,12 +231,12 @@ pub fn define_group(
         store,
         group,
         set,
-        own_bounds(),
+        P::bounds(),
     )
 }
 
 // "Kind 8 .. sends to the members as they are at that send".
-pub fn send_group(
+pub fn send_group<P: Product>(
     stations: &mut [u64],
     carts: &[u64],
     messages: &mut [u64],
@@ -253,7 +247,7 @@ pub fn send_group(
     group: u64,
     text: &[u8],
 ) -> Answer
-    ensures { Met (lent whole_floor stations.old carts.now messages.old lines.old texts.old store.now) (lent whole_floor stations.new carts.now messages.new lines.new texts.new store.now) (send_group station.0 group text.now) (answer_in result []) }
+    ensures { Met (lent P.product stations.old carts.now messages.old lines.old texts.old store.now) (lent P.product stations.new carts.now messages.new lines.new texts.new store.now) (send_group station.0 group text.now) (answer_in result []) }
 {
     tested_events::send_group(
         stations,
@@ -265,12 +259,12 @@ pub fn send_group(
         station,
         group,
         text,
-        own_bounds(),
+        P::bounds(),
     )
 }
 
 // "Kind 9 is a send whose text has 33 to 512 octets". A text of another length is met before anything of the floor.
-pub fn send_long(
+pub fn send_long<P: Product>(
     stations: &mut [u64],
     carts: &[u64],
     messages: &mut [u64],
@@ -281,7 +275,7 @@ pub fn send_long(
     set: u64,
     text: &[u8],
 ) -> Answer
-    ensures { Met (lent whole_floor stations.old carts.now messages.old lines.old texts.now store.old) (lent whole_floor stations.new carts.now messages.new lines.new texts.now store.new) (send_long station.0 set text.now) (answer_in result []) }
+    ensures { Met (lent P.product stations.old carts.now messages.old lines.old texts.now store.old) (lent P.product stations.new carts.now messages.new lines.new texts.now store.new) (send_long station.0 set text.now) (answer_in result []) }
 {
     tested_events::send_long(
         stations,
@@ -293,12 +287,12 @@ pub fn send_long(
         station,
         set,
         text,
-        own_bounds(),
+        P::bounds(),
     )
 }
 
 // "Kind 10 carries a cart and retires it: the number becomes outside, leaves every group". "It may enter again, with all next numbers 0 and steady."
-pub fn retire(
+pub fn retire<P: Product>(
     stations: &mut [u64],
     carts: &mut [u64],
     messages: &[u64],
@@ -307,7 +301,7 @@ pub fn retire(
     store: &[u8],
     cart: CartNumber,
 ) -> Answer
-    ensures { Met (lent whole_floor stations.old carts.old messages.now lines.now texts.now store.now) (lent whole_floor stations.new carts.new messages.now lines.now texts.now store.now) (retire cart.0) (answer_in result []) }
+    ensures { Met (lent P.product stations.old carts.old messages.now lines.now texts.now store.now) (lent P.product stations.new carts.new messages.now lines.now texts.now store.now) (retire cart.0) (answer_in result []) }
 {
     tested_events::retire(
         stations,
@@ -317,13 +311,13 @@ pub fn retire(
         texts,
         store,
         cart,
-        own_bounds(),
+        P::bounds(),
     )
 }
 
 // "Run the floor until it is quiet", with a lent text buffer: 5, "21 below 512", "after 5, before the first step", and then all steps
 // that there are to be taken, wires first.
-pub fn quiet(
+pub fn quiet<P: Product>(
     stations: &mut [u64],
     carts: &mut [u64],
     messages: &mut [u64],
@@ -331,8 +325,8 @@ pub fn quiet(
     texts: &[u8],
     store: &[u8],
     buffer: &mut [u8],
-) -> Quiet
-    ensures { QuietMet (lent whole_floor stations.old carts.old messages.old lines.old texts.now store.now) (lent whole_floor stations.new carts.new messages.new lines.new texts.now store.now) buffer.old buffer.new result }
+) -> Result<u64, Refusal>
+    ensures { QuietMet (lent P.product stations.old carts.old messages.old lines.old texts.now store.now) (lent P.product stations.new carts.new messages.new lines.new texts.now store.now) buffer.old buffer.new result }
 {
     tested_events::quiet(
         stations,
@@ -342,13 +336,13 @@ pub fn quiet(
         texts,
         store,
         buffer,
-        own_bounds(),
+        P::bounds(),
     )
 }
 
 // THE READING CALL: "by initiator and number, lends back that text's own part of the short table or of the long store, good until the next event; refused, it
 // lends back the empty part at the front of the short table".
-pub fn text_of<'a>(
+pub fn text_of<'a, P: Product>(
     stations: &[u64],
     carts: &[u64],
     messages: &[u64],
@@ -358,7 +352,7 @@ pub fn text_of<'a>(
     initiator: Station,
     number: MessageNumber,
 ) -> &'a [u8]
-    ensures { TextLent (lent whole_floor stations.now carts.now messages.now lines.now texts.now store.now) texts.entry store.entry initiator.0 number.0 result }
+    ensures { TextLent (lent P.product stations.now carts.now messages.now lines.now texts.now store.now) texts.entry store.entry initiator.0 number.0 result }
 {
     tested_events::text_of(
         stations,
@@ -369,12 +363,12 @@ pub fn text_of<'a>(
         store,
         initiator,
         number,
-        own_bounds(),
+        P::bounds(),
     )
 }
 
-// "a call beside it gives the number, 0 if not refused".
-pub fn text_refusal(
+// Why the reading call is refused, if it is: "a call beside it gives the number, 0 if not refused".
+pub fn text_refusal<P: Product>(
     stations: &[u64],
     carts: &[u64],
     messages: &[u64],
@@ -383,8 +377,8 @@ pub fn text_refusal(
     store: &[u8],
     initiator: Station,
     number: MessageNumber,
-) -> u64
-    ensures { result ≡ read_refusal (limits_of whole_floor) (floor_in (lent whole_floor stations.now carts.now messages.now lines.now texts.now store.now)) initiator.0 number.0 }
+) -> Result<(), Refusal>
+    ensures { refusal_in result ≡ read_refusal (limits_of P.product) (floor_in (lent P.product stations.now carts.now messages.now lines.now texts.now store.now)) initiator.0 number.0 }
 {
     tested_events::text_refusal(
         stations,
@@ -395,6 +389,6 @@ pub fn text_refusal(
         store,
         initiator,
         number,
-        own_bounds(),
+        P::bounds(),
     )
 }

@@ -1,7 +1,6 @@
 -- `controller::start` meets its contract.
 use borrow.Author.Rules.{rules}
-use Rattle.protocol.specs.Floor.{whole_floor}
 use Rattle.controller.proofs.start.Goals as goal
 
 pub returns : goal.returns
-returns c = c.start.ensures whole_floor (search rules)
+returns g c = c.start.ensures g.P.Product.product (search rules)
