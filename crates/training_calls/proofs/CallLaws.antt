@@ -1,8 +1,7 @@
 -- THE CALL OF ONE FRAME: what the code finds is the call that the event makes on the floor before it.
 use mathlib.Core.Path.{◌≡◌, refl, sym, ap, ◌∙◌}
-use mathlib.Core.Bool.{Bool, cond}
 use mathlib.Core.List.{List, [], ◌∷◌}
-use mathlib.Core.Option.{Option, none, some}
+use mathlib.Core.Option as math
 use Prim.{tt}
 use Prim.Native.Nat.{ℕ, ◌+◌, ◌≤◌}
 use native.Mathlib.Omega.{arith}
@@ -10,19 +9,20 @@ use lib.ListN.{take, drop}
 use lib.Seq.{drop-drop}
 use denote.Enum.Declared.{tag_of}
 use types.Run.{OneOf, miss}
+use Rattle.std.specs.Prelude.{Option, None, Result, Ok, Err}
 use Rattle.protocol.specs.Floor.{Limits, Floor, limits_of}
 use Rattle.protocol.specs.Events.{refused, accepted}
 use Rattle.protocol.specs.Events as events
 use Rattle.protocol.specs.Groups.{as_sent}
 use Rattle.protocol.specs.Step.{answer}
 use Rattle.protocol.specs.PlainLists.{PlainCall, plain_send, fed_by, call_of}
-use Rattle.protocol.proofs.Tests.{by_test}
 use Rattle.rows.proofs.ColumnLaws.{column_beyond}
 use Rattle.stations.specs.View.{head_in, head_word, group_at}
 use Rattle.view.specs.View.{Lent, floor_in}
-use Rattle.reports.specs.Effects.{accepted_in}
-use Rattle.event_answers.specs.declared.Told.{Told}
-use Rattle.event_answers.specs.Answers.{told_in}
+use Rattle.refusals.specs.declared.Refusal.{Refusal}
+use Rattle.refusals.specs.Numbers.{number_of}
+use Rattle.frame_run.specs.declared.Done.{Done}
+use Rattle.frame_run.specs.Dispatched.{answer_at}
 use Rattle.event_answers.specs.Met.{Ready, Met}
 use Rattle.event_answers.proofs.Readies.{stays_ready}
 use Rattle.frames.specs.declared.Event.{Event}
@@ -30,7 +30,6 @@ use Rattle.frames.specs.declared.Event.TheVariants as event
 use Rattle.frames.specs.contracts.Event.{the_type as event_type}
 use Rattle.frames.specs.Decoded.{event_in, size_of}
 use Rattle.training_rows.specs.declared.Call.{Call}
-use Rattle.training_rows.specs.declared.Call.TheVariants.{Nothing}
 use Rattle.training_rows.specs.Calls.{made_in, TextIn}
 use Rattle.training_calls.specs.Calls.{members_for, call_for, call_told}
 use Rattle.training_calls.specs.Gone.{Made}
@@ -59,7 +58,7 @@ no_members G (event.Retire c) h = refl
 -- THE CALL
 
 -- of a refused event
-not_fed : (F : Floor) (l : List ℕ) (e : Event) (r : ℕ) → none ≡ fed_by (as_sent F (event_in l e)) (refused r)
+not_fed : (F : Floor) (l : List ℕ) (e : Event) (r : ℕ) → math.none ≡ fed_by (as_sent F (event_in l e)) (refused r)
 not_fed F l (event.Start n k) r = refl
 not_fed F l (event.Enter t c) r = refl
 not_fed F l (event.Send s set n) r = refl
@@ -73,8 +72,8 @@ not_fed F l (event.SendLong s set n) r = refl
 not_fed F l (event.Retire c) r = refl
 
 -- of an accepted one: the text lies behind the frame
-same_text : (l : List ℕ) (at n s set : ℕ) → ◌≡◌ {A = Option PlainCall} (some (plain_send s set (take n (drop (at + 16) l)))) (some (plain_send s set (take n (drop 16 (drop at l)))))
-same_text l at n s set = ap (λ (m : List ℕ). some (plain_send s set (take n m))) (sym (drop-drop 16 at l))
+same_text : (l : List ℕ) (at n s set : ℕ) → ◌≡◌ {A = math.Option PlainCall} (math.some (plain_send s set (take n (drop (at + 16) l)))) (math.some (plain_send s set (take n (drop 16 (drop at l)))))
+same_text l at n s set = ap (λ (m : List ℕ). math.some (plain_send s set (take n m))) (sym (drop-drop 16 at l))
 
 fed_so : (F : Floor) (l : List ℕ) (at : ℕ) (e : Event) (r : events.Report)
     → made_in l (call_for e (members_for F.groups e) r.a at) ≡ fed_by (as_sent F (event_in (drop at l) e)) (accepted r)
@@ -90,30 +89,21 @@ fed_so F l at (event.SendGroup s g n) r = same_text l at n s.0 (F.groups g)
 fed_so F l at (event.SendLong s set n) r = same_text l at n s.0 set
 fed_so F l at (event.Retire c) r = refl
 
-call_so : (M : Limits) (F : Floor) (l : List ℕ) (at : ℕ) (e : Event) (told : Told) (text : List ℕ) (members : ℕ) → members ≡ members_for F.groups e
-    → told_in told text ≡ answer M F (event_in (drop at l) e) → made_in l (call_told e members told at) ≡ call_of M F (event_in (drop at l) e)
-call_so M F l at e told text members q is =
-    by_test told.is_refused
-    (λ b. ap (λ (x : Bool). made_in l (cond x Nothing (call_for e members told.report.a at))) b
-    ∙ not_fed F (drop at l) e told.refusal
-    ∙ ap (fed_by ev) (sym (ap (λ (x : Bool). cond x (refused told.refusal) (accepted_in told.report text)) b) ∙ is))
-    (λ b. ap (λ (x : Bool). made_in l (cond x Nothing (call_for e members told.report.a at))) b
-    ∙ ap (λ (m : ℕ). made_in l (call_for e m told.report.a at)) q
-    ∙ fed_so F l at e _
-    ∙ ap (fed_by ev) (sym (ap (λ (x : Bool). cond x (refused told.refusal) (accepted_in told.report text)) b) ∙ is))
-  where
-    ev : events.Event
-    ev = as_sent F (event_in (drop at l) e)
+call_so : (M : Limits) (F : Floor) (l : List ℕ) (at : ℕ) (e : Event) (T S O : List ℕ) (said : Result Done Refusal) (members : ℕ) → members ≡ members_for F.groups e
+    → answer_at T S O said ≡ answer M F (event_in (drop at l) e) → made_in l (call_told e members said at) ≡ call_of M F (event_in (drop at l) e)
+call_so M F l at e T S O (Ok done) members q is =
+    ap (λ (m : ℕ). made_in l (call_for e m done.report.a at)) q ∙ fed_so F l at e _ ∙ ap (fed_by (as_sent F (event_in (drop at l) e))) is
+call_so M F l at e T S O (Err refusal) members q is = not_fed F (drop at l) e (number_of refusal) ∙ ap (fed_by (as_sent F (event_in (drop at l) e))) is
 
 -- ONE EVENT was taken
-pub made_so : (l : List ℕ) (L L' : Lent) (at : ℕ) (e : Event) (told : Told) (text : List ℕ) (members : ℕ) (call : Call) → members ≡ members_for (head_in L.stations).groups e
-    → call ≡ call_told e members told at → Ready L → Met L L' (event_in (drop at l) e) (told_in told text) → Made l L L' (event_in (drop at l) e) call
-made_so l L L' at e told text members call q is R met =
+pub made_so : (l : List ℕ) (L L' : Lent) (at : ℕ) (e : Event) (T S O : List ℕ) (said : Result Done Refusal) (members : ℕ) (call : Option Call) → members ≡ members_for (head_in L.stations).groups e
+    → call ≡ call_told e members said at → Ready L → Met L L' (event_in (drop at l) e) (answer_at T S O said) → Made l L L' (event_in (drop at l) e) call
+made_so l L L' at e T S O said members call q is R met =
     record {
       product = met.product;
-      ready = stays_ready L L' (event_in (drop at l) e) (told_in told text) R met;
+      ready = stays_ready L L' (event_in (drop at l) e) (answer_at T S O said) R met;
       floor = met.floor;
-      makes = ap (made_in l) is ∙ call_so (limits_of L.product) (floor_in L) l at e told text members q met.answers;
+      makes = ap (made_in l) is ∙ call_so (limits_of L.product) (floor_in L) l at e T S O said members q met.answers;
     }
 
 -- and its text is there
@@ -130,6 +120,6 @@ there n (event.SendGroup s g size) members initiator at h = omega arith
 there n (event.SendLong s set size) members initiator at h = omega arith
 there n (event.Retire c) members initiator at h = tt
 
-pub text_there : (n : ℕ) (e : Event) (members : ℕ) (told : Told) (at : ℕ) (call : Call) → call ≡ call_told e members told at → at + size_of e ≤ n → TextIn n call
-text_there n e members told at call is h =
-    rw is (by_test told.is_refused (λ b. rw b tt) (λ b. rw b (there n e members told.report.a at h)))
+pub text_there : (n : ℕ) (e : Event) (members : ℕ) (said : Result Done Refusal) (at : ℕ) (call : Option Call) → call ≡ call_told e members said at → at + size_of e ≤ n → TextIn n call
+text_there n e members (Ok done) at call is h = rw is (there n e members done.report.a at h)
+text_there n e members (Err refusal) at call is h = rw is tt

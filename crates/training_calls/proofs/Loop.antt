@@ -13,9 +13,11 @@ use Rattle.protocol.proofs.Tests.{and_left, and_right, by_eq}
 use Rattle.view.specs.View.{Lent, floor_in}
 use Rattle.event_answers.specs.Met.{Ready}
 use Rattle.frame_run.specs.declared.Progress.{Progress}
+use Rattle.frame_run.specs.declared.Stop.TheVariants.{Full}
+use Rattle.frame_run.specs.Stops.{stop_number}
 use Rattle.frame_run.specs.Piece.{run_from}
 use Rattle.frame_run.specs.Went.{NoneWhole, EndsRun}
-use Rattle.frame_run.proofs.Loop.{none_yet, left}
+use Rattle.frame_run.proofs.Loop.{is_full, none_yet, left}
 use Rattle.training_rows.specs.Calls.{made_by, TextsIn}
 use Rattle.training_calls.specs.Calls.{calls_from}
 use Rattle.training_calls.specs.Gone.{InCalls, Turned, Gone}
@@ -29,9 +31,9 @@ pub record Going (input : List ℕ) (last : Bool) (L₀ L : Lent) (calls : List 
   pub long : length calls ≡ 5120
   pub inside : p.read ≤ length input
   pub few : p.frames ≤ 1024
-  pub why : p.state ≤ 2
-  pub waits : p.state ≡ 1 → NoneWhole last (read_at limits input p.read)
-  pub ends : p.state ≡ 2 → EndsRun last (read_at limits input p.read)
+  pub why : stop_number p.state ≤ 2
+  pub waits : stop_number p.state ≡ 1 → NoneWhole last (read_at limits input p.read)
+  pub ends : stop_number p.state ≡ 2 → EndsRun last (read_at limits input p.read)
 
 module _ (input : List ℕ) (last : Bool) (L₀ : Lent) where
   pub going_first : (calls : List ℕ) → length calls ≡ 5120 → Ready L₀ → Going input last L₀ L₀ calls none_yet
@@ -67,21 +69,22 @@ module _ (input : List ℕ) (last : Bool) (L₀ : Lent) where
           ends = t.ends;
         }
 
-    pub going_less : (L' : Lent) (calls' : List ℕ) (r : Progress) → p.state ≡ 0 → Turned input last L L' calls calls' p r → left input r < left input p
+    pub going_less : (L' : Lent) (calls' : List ℕ) (r : Progress) → p.state ≡ Full → Turned input last L L' calls calls' p r → left input r < left input p
     going_less L' calls' r e t =
         let a = g.inside in
         let b = t.inside in
         let c = t.stays in
-        by_eq r.state 0
-        (λ z. let d = t.onward z in rw (eq-eqb r.state 0 z, eq-eqb p.state 0 e) (omega arith))
-        (λ z. rw (ne_eqb r.state 0 z, eq-eqb p.state 0 e) (omega arith))
+        let on : stop_number p.state ≡ 0 = ap stop_number e in
+        by_eq (stop_number r.state) 0
+        (λ z. let d = t.onward z in rw (eq-eqb (stop_number r.state) 0 z, eq-eqb (stop_number p.state) 0 on) (omega arith))
+        (λ z. rw (ne_eqb (stop_number r.state) 0 z, eq-eqb (stop_number p.state) 0 on) (omega arith))
 
     -- the test of the loop
-    module _ (b : Bool) (test : b ≡ (eqb p.state 0 && ltb p.frames 1024)) where
-      pub goes : b ≡ true → (p.state ≡ 0) × (p.frames < 1024)
+    module _ (b : Bool) (test : b ≡ (eqb (stop_number p.state) 0 && ltb p.frames 1024)) where
+      pub goes : b ≡ true → (p.state ≡ Full) × (p.frames < 1024)
       goes t =
-          let both : (eqb p.state 0 && ltb p.frames 1024) ≡ true = sym test ∙ t in
-          (eqb-true p.state 0 (and_left (eqb p.state 0) (ltb p.frames 1024) both), ltb-true p.frames 1024 (and_right (eqb p.state 0) (ltb p.frames 1024) both))
+          let both : (eqb (stop_number p.state) 0 && ltb p.frames 1024) ≡ true = sym test ∙ t in
+          (is_full p.state (eqb-true (stop_number p.state) 0 (and_left (eqb (stop_number p.state) 0) (ltb p.frames 1024) both)), ltb-true p.frames 1024 (and_right (eqb (stop_number p.state) 0) (ltb p.frames 1024) both))
 
       pub stops : b ≡ false → Gone input last L₀ L calls p
       stops t =
@@ -95,13 +98,10 @@ module _ (input : List ℕ) (last : Bool) (L₀ : Lent) where
             why = g.why;
             waits = g.waits;
             ends = g.ends;
-            full = λ z. let none : ltb p.frames 1024 ≡ false = ap (λ (x : Bool). x && ltb p.frames 1024) (sym (eq-eqb p.state 0 z)) ∙ sym test ∙ t in
+            full = λ z. let none : ltb p.frames 1024 ≡ false = ap (λ (x : Bool). x && ltb p.frames 1024) (sym (eq-eqb (stop_number p.state) 0 z)) ∙ sym test ∙ t in
                 let many = ltb-false p.frames 1024 none in let f = g.few in omega arith;
           }
 
 -- the test itself
-pub not_going : (p : Progress) → (p.state ≡ 0 → ⊥) → false ≡ (eqb p.state 0 && ltb p.frames 1024)
-not_going p h = rw (ne_eqb p.state 0 h) refl
-
-pub by_row : (p : Progress) → p.state ≡ 0 → ltb p.frames 1024 ≡ (eqb p.state 0 && ltb p.frames 1024)
-by_row p e = rw (eq-eqb p.state 0 e) refl
+pub by_row : (p : Progress) → stop_number p.state ≡ 0 → ltb p.frames 1024 ≡ (eqb (stop_number p.state) 0 && ltb p.frames 1024)
+by_row p e = rw (eq-eqb (stop_number p.state) 0 e) refl

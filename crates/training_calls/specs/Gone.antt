@@ -1,6 +1,6 @@
 -- HOW FAR A PIECE OF INPUT WAS RUN: the frames taken from its front, and the calls in the rows of the table.
-use Rattle.std.specs.Prelude.{◌≡◌, Bool, List, ℕ, ◌<◌, ◌≤◌, eqb, length}
-use Rattle.std.proofs.Math.Option.{Option}
+use Rattle.std.specs.Prelude.{◌≡◌, Bool, Option, List, ℕ, ◌<◌, ◌≤◌, eqb, length}
+use Rattle.std.proofs.Math.Option as math
 use Rattle.protocol.specs.Floor.{Floor, limits, limits_of}
 use Rattle.protocol.specs.Events.{Event}
 use Rattle.protocol.specs.Step.{step}
@@ -9,6 +9,7 @@ use Rattle.protocol.specs.PlainLists.{PlainCall, call_of}
 use Rattle.view.specs.View.{Lent, floor_in}
 use Rattle.event_answers.specs.Met.{Ready}
 use Rattle.frame_run.specs.declared.Progress.{Progress}
+use Rattle.frame_run.specs.Stops.{stop_number}
 use Rattle.frame_run.specs.Piece.{Ran, run_from}
 use Rattle.frame_run.specs.Went.{NoneWhole, EndsRun}
 use Rattle.training_rows.specs.declared.Call.{Call}
@@ -16,11 +17,11 @@ use Rattle.training_rows.specs.Calls.{calls_in, made_in, made_by, TextsIn}
 use Rattle.training_calls.specs.Calls.{calls_from}
 
 -- the state of a run R whose frames made the calls `made`: the floor that L says, and a row for each frame
-pub record InCalls (input : List ℕ) (R : Ran) (made : List (Option PlainCall)) (L : Lent) (calls : List ℕ) (p : Progress) : Type 0 where
+pub record InCalls (input : List ℕ) (R : Ran) (made : List (math.Option PlainCall)) (L : Lent) (calls : List ℕ) (p : Progress) : Type 0 where
   pub floor : floor_in L ≡ R.floor
   pub counted : p.frames ≡ R.count
   pub read : p.read ≡ R.octets
-  pub ended : R.ended ≡ eqb p.state 2
+  pub ended : R.ended ≡ eqb (stop_number p.state) 2
   pub rows : made_by input (calls_in calls) p.frames ≡ made
 
 -- THE PIECE WAS RUN, from L to L': as many frames as are counted, which is the written run over them, whatever the index of the first one; their calls
@@ -32,13 +33,13 @@ pub record Gone (input : List ℕ) (last : Bool) (L L' : Lent) (calls : List ℕ
   pub texts : TextsIn input calls p.frames
   pub inside : p.read ≤ length input
   pub few : p.frames ≤ 1024
-  pub why : p.state ≤ 2
-  pub waits : p.state ≡ 1 → NoneWhole last (read_at limits input p.read)
-  pub ends : p.state ≡ 2 → EndsRun last (read_at limits input p.read)
-  pub full : p.state ≡ 0 → p.frames ≡ 1024
+  pub why : stop_number p.state ≤ 2
+  pub waits : stop_number p.state ≡ 1 → NoneWhole last (read_at limits input p.read)
+  pub ends : stop_number p.state ≡ 2 → EndsRun last (read_at limits input p.read)
+  pub full : stop_number p.state ≡ 0 → p.frames ≡ 1024
 
 -- ONE EVENT of a frame was taken: the floor is the written one, and the call is what the event makes on the floor before it
-pub record Made (input : List ℕ) (L L' : Lent) (e : Event) (call : Call) : Type 0 where
+pub record Made (input : List ℕ) (L L' : Lent) (e : Event) (call : Option Call) : Type 0 where
   pub product : L'.product ≡ L.product
   pub ready : Ready L'
   pub floor : floor_in L' ≡ step (limits_of L.product) (floor_in L) e
@@ -54,8 +55,8 @@ pub record Turned (input : List ℕ) (last : Bool) (L L' : Lent) (calls calls' :
   pub kept : length calls' ≡ length calls
   pub inside : r.read ≤ length input
   pub few : r.frames ≤ 1024
-  pub onward : r.state ≡ 0 → p.read < r.read
+  pub onward : stop_number r.state ≡ 0 → p.read < r.read
   pub stays : p.read ≤ r.read
-  pub why : r.state ≤ 2
-  pub waits : r.state ≡ 1 → NoneWhole last (read_at limits input r.read)
-  pub ends : r.state ≡ 2 → EndsRun last (read_at limits input r.read)
+  pub why : stop_number r.state ≤ 2
+  pub waits : stop_number r.state ≡ 1 → NoneWhole last (read_at limits input r.read)
+  pub ends : stop_number r.state ≡ 2 → EndsRun last (read_at limits input r.read)

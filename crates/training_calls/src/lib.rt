@@ -3,7 +3,7 @@
 // start.
 #![tactic(auto)]
 
-ghost use Rattle.std.specs.Prelude.{◌≡◌, ◌&&◌, ◌+◌, ◌<◌, ◌≤◌, eqb, ltb, length, drop};
+ghost use Rattle.std.specs.Prelude.{◌≡◌, ◌&&◌, None, ◌+◌, ◌<◌, ◌≤◌, eqb, ltb, length, drop};
 ghost use Rattle.stations.specs.View.{HasHead, head_in};
 ghost use Rattle.view.specs.View.{lent};
 ghost use Rattle.frames.specs.Decoded.{event_in, size_of, TextFits};
@@ -11,16 +11,17 @@ ghost use Rattle.frame_lines.specs.Lines.{Tabled};
 ghost use Rattle.frame_run.specs.CanRun.{CanRun, ByEach};
 ghost use Rattle.protocol.specs.Folds.{update};
 ghost use Rattle.rows.specs.Rows.{RowIn};
-ghost use Rattle.training_rows.specs.declared.Call.TheVariants.{Nothing};
+ghost use Rattle.frame_run.specs.declared.Stop.TheVariants.{Full};
+ghost use Rattle.frame_run.specs.Stops.{stop_number};
 ghost use Rattle.training_rows.specs.Calls.{width, calls_in, TextIn};
 ghost use Rattle.training_calls.specs.Calls.{members_for, call_for, call_told};
 ghost use Rattle.training_calls.specs.Gone.{Made, Turned, Gone};
 
-use event_answers::Told;
-use frame_run::Progress;
-use frames::{Event, Reading};
+use frame_run::{Done, Progress, Stop};
+use frames::Event;
 use ids::Station;
 use products::Bounds;
+use refusals::Refusal;
 use training_rows::Call;
 
 // "Sixteen octets".
@@ -45,41 +46,42 @@ fn members_for(stations: &[u64], e: Event) -> u64
     stations::group_of(stations, group)
 }
 
-// The call of an accepted event whose frame stands at a place of the input. A radio step's is for the initiator that the floor answered.
-fn accepted_call(e: Event, members: u64, initiator: u64, at: usize) -> Call
+// The call of an accepted event whose frame stands at a place of the input, if it makes one. A radio step's is for the initiator that the floor
+// answered.
+fn accepted_call(e: Event, members: u64, initiator: u64, at: usize) -> Option<Call>
     requires { at + 16 < 18446744073709551616 }
     ensures { result ≡ call_for e members initiator at }
 {
     match e {
-        Event::Start(n, k) => Call::Start(n, k),
-        Event::Send(station, set, size) => Call::Send(station, set, at + FRAME, size),
-        Event::SendGroup(station, _, size) => Call::Send(station, members, at + FRAME, size),
-        Event::SendLong(station, set, size) => Call::Send(station, set, at + FRAME, size),
-        Event::Radio(_, cart) => Call::Take(Station(initiator), cart),
-        Event::Enter(_, _) => Call::Nothing,
-        Event::Wire(_, _) => Call::Nothing,
-        Event::Move(_, _) => Call::Nothing,
-        Event::Flag(_, _) => Call::Nothing,
-        Event::Group(_, _) => Call::Nothing,
-        Event::Retire(_) => Call::Nothing,
+        Event::Start(n, k) => Some(Call::Start(n, k)),
+        Event::Send(station, set, size) => Some(Call::Send(station, set, at + FRAME, size)),
+        Event::SendGroup(station, _, size) => Some(Call::Send(station, members, at + FRAME, size)),
+        Event::SendLong(station, set, size) => Some(Call::Send(station, set, at + FRAME, size)),
+        Event::Radio(_, cart) => Some(Call::Take(Station(initiator), cart)),
+        Event::Enter(_, _) => None,
+        Event::Wire(_, _) => None,
+        Event::Move(_, _) => None,
+        Event::Flag(_, _) => None,
+        Event::Group(_, _) => None,
+        Event::Retire(_) => None,
     }
 }
 
-// The call of an event by what the floor told of it: a refused one makes none.
-fn call_of(e: Event, members: u64, told: Told, at: usize) -> Call
+// The call of an event by what the floor answered: a refused one makes none.
+fn call_of(e: Event, members: u64, answer: Result<Done, Refusal>, at: usize) -> Option<Call>
     requires { at + 16 < 18446744073709551616 }
-    ensures { result ≡ call_told e members told at }
+    ensures { result ≡ call_told e members answer at }
 {
-    if told.is_refused {
-        return Call::Nothing;
+    match answer {
+        Ok(done) => accepted_call(e, members, done.report.a, at),
+        Err(_) => None,
     }
-    accepted_call(e, members, told.report.a, at)
 }
 
-// What a frame's event came to: the call that it makes, and how many octets it took of the input.
+// What a frame's event came to: the call that it makes, if it makes one, and how many octets it took of the input.
 #[derive(Clone, Copy)]
 struct CallMade {
-    call: Call,
+    call: Option<Call>,
     taken: usize,
 }
 
@@ -108,7 +110,7 @@ fn take_event(
         stations, carts, messages, lines, texts, store, bounds, input, at, e, &mut line, 0,
         numbers, 0,
     );
-    let call = call_of(e, members, dispatched.told, at);
+    let call = call_of(e, members, dispatched.answer, at);
     CallMade {
         call,
         taken: dispatched.taken,
@@ -116,7 +118,7 @@ fn take_event(
 }
 
 // The row of a frame, and how far the piece was run with it.
-fn put_row(calls: &mut [u64], p: Progress, made: CallMade, state: u64) -> Progress
+fn put_row(calls: &mut [u64], p: Progress, made: CallMade, state: Stop) -> Progress
     requires { RowIn width calls.old p.frames × (p.read + made.taken < 18446744073709551616) × (p.frames < 1024) }
     ensures value { result ≡ record { read = p.read + made.taken; written = 0; frames = p.frames + 1; state = state } }
     ensures calls_after { (calls_in calls.new ≡ update (calls_in calls.old) p.frames made.call) × (length calls.new ≡ length calls.old) }
@@ -133,10 +135,10 @@ fn put_row(calls: &mut [u64], p: Progress, made: CallMade, state: u64) -> Progre
 
 // A frame that is refused ends the run, and makes no call.
 fn refused_frame() -> CallMade
-    ensures { result ≡ record { call = Nothing; taken = 0 } }
+    ensures { result ≡ record { call = None; taken = 0 } }
 {
     CallMade {
-        call: Call::Nothing,
+        call: None,
         taken: 0,
     }
 }
@@ -157,31 +159,34 @@ fn take_frame(
     last: bool,
 ) -> Progress
     requires can_run { CanRun bounds (λ P. lent P stations.old carts.old messages.old lines.old texts.old store.old) × Tabled numbers.now }
-    requires state_value { (p.state ≡ 0) × (p.read ≤ length input.now) × (p.frames < 1024) × (length calls.old ≡ 5120) }
+    requires state_value { (p.state ≡ Full) × (p.read ≤ length input.now) × (p.frames < 1024) × (length calls.old ≡ 5120) }
     ensures { ByEach bounds (λ P. lent P stations.old carts.old messages.old lines.old texts.old store.old) (λ P. lent P stations.new carts.new messages.new lines.new texts.new store.new) (λ L L'. Turned input.now last L L' calls.old calls.new p result) }
 {
-    let reading = frames::frame_at(input, p.read);
-    let Reading::Taken(e) = reading else {
-        let number = frames::refusal(reading);
-        if frame_run::none_whole(number, last) {
-            return frame_run::waiting(p);
+    match frames::frame_at(input, p.read) {
+        Ok(Some(e)) => {
+            let made = take_event(
+                input, stations, carts, messages, lines, texts, store, bounds, numbers, p.read, e,
+            );
+            put_row(calls, p, made, Stop::Full)
         }
-        return put_row(calls, p, refused_frame(), frame_run::ENDED);
-    };
-    let made = take_event(
-        input, stations, carts, messages, lines, texts, store, bounds, numbers, p.read, e,
-    );
-    put_row(calls, p, made, frame_run::FULL)
+        Ok(None) => frame_run::waiting(p),
+        Err(refusal) => {
+            if frame_run::none_whole(refusal, last) {
+                return frame_run::waiting(p);
+            }
+            put_row(calls, p, refused_frame(), Stop::Ended)
+        }
+    }
 }
 
 // Nothing stopped the run yet, and the table has a row for another frame.
 fn goes_on(p: Progress) -> bool
-    ensures { result ≡ (eqb p.state 0 && ltb p.frames 1024) }
+    ensures { result ≡ (eqb (stop_number p.state) 0 && ltb p.frames 1024) }
 {
-    if p.state != frame_run::FULL {
-        return false;
+    match p.state {
+        Stop::Full => p.frames < ROWS,
+        Stop::Waits | Stop::Ended => false,
     }
-    p.frames < ROWS
 }
 
 // THE CALLS OF A PIECE: whole frames are taken from the front of the input while the table has a row for each. The calls in the rows are those of the
@@ -207,7 +212,7 @@ pub fn take_frames(
         read: 0,
         written: 0,
         frames: 0,
-        state: frame_run::FULL,
+        state: Stop::Full,
     };
     while goes_on(p) {
         p = take_frame(

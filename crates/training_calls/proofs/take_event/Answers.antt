@@ -31,6 +31,6 @@ returns c =
     let d = c.dispatch-dispatched in
     let called = c.call_of-call in
     record {
-      by_each = λ P n R. made_so a.input.now (lent P a.stations.now a.carts.now a.messages.now a.lines.now a.texts.now a.store.now) _ a.at a.e d.result.told _ members.result called.result members.ensures called.ensures R (d.ensures.within.1 P n R);
-      text_in = (text_there (length a.input.now) a.e members.result d.result.told a.at called.result called.ensures c.requires.e_in_bounds.0, d.ensures.began.1);
+      by_each = λ P n R. made_so a.input.now (lent P a.stations.now a.carts.now a.messages.now a.lines.now a.texts.now a.store.now) _ a.at a.e _ _ _ d.result.answer members.result called.result members.ensures called.ensures R (d.ensures.within.1 P n R);
+      text_in = (text_there (length a.input.now) a.e members.result d.result.answer a.at called.result called.ensures c.requires.e_in_bounds.0, d.ensures.began.1);
     }
