@@ -33,9 +33,6 @@ loop-w-preserved c =
     let p = c.put_free in
     (omega arith, p.auto.pool ∙ a.invariant.1, p.ensures.summary.small a.invariant.2, free_more a.pool p.new.pool rows.result a.w x.result p.ensures (omega arith) x.ensures a.invariant.3)
 
-pub shape_of-pool : goal.shape_of-pool
-shape_of-pool c = simp length-set at c.loop-w.invariant.1
-
 pub returns : goal.returns
 returns c =
     let a = c.loop-w in

@@ -1,14 +1,11 @@
-use mathlib.Core.Path.{◌≡◌, refl, subst}
+use mathlib.Core.Path.{◌≡◌, subst}
 use Prim.Native.Nat.{◌+◌, ◌<◌}
 use native.Mathlib.Omega.{arith}
 use lib.ListN.{length, length-set}
 use Rattle.lines.specs.Words.{register_at}
 use Rattle.lines.proofs.Formed.{form_formed}
-use Rattle.lines.proofs.Registers.{WrittenTo, write_none, write_one, carry_is}
+use Rattle.lines.proofs.Registers.{WrittenTo, write_one, carry_is}
 use Rattle.lines.proofs.put_register.Goals as goal
-
-pub loop-s-init : goal.loop-s-init
-loop-s-init c = (omega arith, refl, write_none c.args.pool.now (register_at c.args.cart) c.args.row)
 
 pub bounds-pool-at : goal.bounds-pool-at
 bounds-pool-at c = omega (arith, (form_formed c.args.pool.now c.requires.1).long, c.loop-s.invariant.1)

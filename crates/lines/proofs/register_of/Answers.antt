@@ -8,9 +8,6 @@ use Rattle.lines.specs.Lines.{registers_in}
 use Rattle.lines.proofs.Registers.{register_read}
 use Rattle.lines.proofs.register_of.Goals as goal
 
-pub loop-s-init : goal.loop-s-init
-loop-s-init c = (omega arith, refl, λ k l. absurd (omega arith))
-
 pub loop-s-preserved : goal.loop-s-preserved
 loop-s-preserved c =
     let p = c.args.pool.now in

@@ -6,9 +6,6 @@ use Rattle.lines.proofs.Formed.{sized_of}
 use Rattle.lines.proofs.Test.{form_unbalanced, form_end}
 use Rattle.lines.proofs.rest_ok.Goals as goal
 
-pub rows_ok-requires : goal.rows_ok-requires
-rows_ok-requires c = (c.requires.0, c.requires.1)
-
 pub returns-else-rows_ok : goal.returns-else-rows_ok
 returns-else-rows_ok c =
     let r = c.rows_ok in

@@ -1,5 +1,4 @@
 use native.Mathlib.Omega.{arith}
-use native.Mathlib.Nat.{not-suc-le-zero}
 use borrow.Author.Tests.{not-true, not-false}
 use Rattle.lines.proofs.Formed.{sized_of}
 use Rattle.lines.proofs.Test.{word_fails, word_more, rows_end}
@@ -10,18 +9,6 @@ use Rattle.lines.proofs.rows_ok.Goals as goal
 pub row_count-rows-requires : goal.row_count-rows-requires
 row_count-rows-requires c = omega (arith, (sized_of c.args.pool.now c.requires.0).0)
 
-pub loop-w-init : goal.loop-w-init
-loop-w-init c = (omega arith, λ x h. absurd (not-suc-le-zero h))
-
-pub offset_bounds-seen-w : goal.offset_bounds-seen-w
-offset_bounds-seen-w c = omega arith
-
-pub bounds-seen-w : goal.bounds-seen-w
-bounds-seen-w c = omega arith
-
-pub offset_bounds-pool-w : goal.offset_bounds-pool-w
-offset_bounds-pool-w c = omega arith
-
 pub bounds-pool-w : goal.bounds-pool-w
 bounds-pool-w c = omega (arith, (sized_of c.args.pool.now c.requires.0).0)
 
@@ -29,9 +16,6 @@ pub full_word-requires : goal.full_word-requires
 full_word-requires c =
     let rows = c.row_count-rows in
     (omega (arith, (sized_of c.args.pool.now c.requires.0).1, rows.ensures), omega arith)
-
-pub word_ok-requires : goal.word_ok-requires
-word_ok-requires c = tt
 
 pub returns-then-not-word_ok : goal.returns-then-not-word_ok
 returns-then-not-word_ok c =

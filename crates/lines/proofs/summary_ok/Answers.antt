@@ -3,20 +3,8 @@ use Rattle.lines.proofs.Sums.{every_none}
 use Rattle.lines.proofs.Test.{summary_test, summary_fails, summary_more, summary_end}
 use Rattle.lines.proofs.summary_ok.Goals as goal
 
-pub bounds-pool-49 : goal.bounds-pool-49
-bounds-pool-49 c = omega arith
-
 pub loop-w-init : goal.loop-w-init
 loop-w-init c = (omega arith, every_none (summary_test c.args.pool.now))
-
-pub has-requires : goal.has-requires
-has-requires c = omega arith
-
-pub offset_bounds-pool-w : goal.offset_bounds-pool-w
-offset_bounds-pool-w c = omega arith
-
-pub bounds-pool-w : goal.bounds-pool-w
-bounds-pool-w c = omega arith
 
 pub returns-then-has-pool : goal.returns-then-has-pool
 returns-then-has-pool c =

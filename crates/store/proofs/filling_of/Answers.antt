@@ -5,7 +5,6 @@ use Rattle.protocol.specs.Folds.{sum}
 use Rattle.messages.specs.View.{rooms_in}
 use Rattle.store.specs.Layout.{used_in, end_in}
 use Rattle.store.proofs.Taken.{used_one, end_one}
-use Rattle.store.proofs.Apart.{text_within}
 use Rattle.store.proofs.Fits.{texts_fit, first_fit}
 use Rattle.store.proofs.Room.{end_within}
 use Rattle.store.proofs.filling_of.Goals as goal
@@ -14,24 +13,12 @@ pub loop-m-init : goal.loop-m-init
 unfolding sum end_in
 loop-m-init c = (omega arith, refl, refl)
 
-pub taken_by-octets-requires : goal.taken_by-octets-requires
-taken_by-octets-requires c = omega (arith, c.requires.rows)
-
 pub overflow_add-octets : goal.overflow_add-octets
 overflow_add-octets c =
     let a = c.args in
     let R = rooms_in a.messages.now in
     let l = c.loop-m in
     omega (arith, l.invariant.1, c.taken_by-octets.ensures, used_one l.m R, first_fit a.held R c.requires.right (l.m + 1) (omega arith))
-
-pub end_of-requires : goal.end_of-requires
-end_of-requires c =
-    let a = c.args in
-    let p = c.requires in
-    record {
-      has_room = omega (arith, p.rows);
-      fact = text_within a.held (rooms_in a.messages.now) p.right c.loop-m.m (omega arith);
-    }
 
 pub loop-m-preserved : goal.loop-m-preserved
 loop-m-preserved c =

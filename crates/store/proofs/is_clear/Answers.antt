@@ -21,20 +21,12 @@ returns-then-not-is_stored c =
     let R = rooms_in a.messages.now in
     yes (when (is (is_stored R a.k)) (apart R a.k a.m)) (λ s. clash (is_stored R a.k) s (sym c.is_stored.ensures ∙ not-true _ (ap not c.if-not-is_stored.true)))
 
-pub overflow_add-other : goal.overflow_add-other
-overflow_add-other c =
-    let w = c.requires.fact_2 (sym c.is_stored.ensures ∙ not-false _ (ap not c.if-not-is_stored.false)) in
-    omega (arith, w.1, c.length_of.ensures, c.offset_of-other.ensures)
-
 pub returns-then-other-length_of : goal.returns-then-other-length_of
 returns-then-other-length_of c =
     let a = c.args in
     let R = rooms_in a.messages.now in
     yes (when (is (is_stored R a.k)) (apart R a.k a.m))
     (λ s. or_left (leb (R.offset a.k + R.length a.k) (R.offset a.m)) _ (le-leb (R.offset a.k + R.length a.k) (R.offset a.m) (omega (arith, c.if-other-length_of.true, c.length_of.ensures, c.offset_of-other.ensures, c.offset_of-own.ensures))))
-
-pub overflow_add-result : goal.overflow_add-result
-overflow_add-result c = omega (arith, c.requires.fact.1, c.length_of-2.ensures, c.offset_of-own.ensures)
 
 pub returns : goal.returns
 unfolding test

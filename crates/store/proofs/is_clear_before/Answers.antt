@@ -10,18 +10,6 @@ use mathlib.Core.Bool.{not}
 use mathlib.Core.Path.{ap}
 use Rattle.store.proofs.is_clear_before.Goals as goal
 
-pub loop-k-init : goal.loop-k-init
-loop-k-init c = (omega arith, λ k l. absurd (omega arith))
-
-pub is_clear-requires : goal.is_clear-requires
-is_clear-requires c =
-    let p = c.requires in
-    record {
-      has_room = (omega arith, omega arith);
-      fact = p.fact;
-      fact_2 = p.fact_2 c.loop-k.k (omega arith);
-    }
-
 pub returns-then-not-is_clear : goal.returns-then-not-is_clear
 returns-then-not-is_clear c =
     let a = c.args in

@@ -2,9 +2,6 @@ use native.Mathlib.Omega.{arith}
 use Rattle.store.proofs.Turns.{first_turn, turns_room, turns_down, turns_within, turns_long, next_turn, last_turn}
 use Rattle.store.proofs.move_together.Goals as goal
 
-pub lowest_from-requires : goal.lowest_from-requires
-lowest_from-requires c = omega (arith, c.requires.0.rows, c.loop-m.invariant.rows)
-
 pub loop-m-init : goal.loop-m-init
 loop-m-init c =
     let a = c.args in
@@ -60,12 +57,6 @@ loop-m-preserved c =
     let full = c.requires.1 in
     let l = c.loop-m in
     next_turn a.held a.messages.now a.store.now L full l.messages l.store l.to l.invariant c.in-Some.m c.in-Some.ensures c.offset_of-from.result c.length_of-n.result c.offset_of-from.ensures c.length_of-n.ensures _ _ c.put_offset.ensures.messages_after c.move_down.ensures.store_after c.put_offset.ensures.messages_len_unchanged
-
-pub shape_of-messages : goal.shape_of-messages
-shape_of-messages c = c.loop-m.invariant.rows
-
-pub shape_of-store : goal.shape_of-store
-shape_of-store c = c.loop-m.invariant.progress.octets
 
 pub returns : goal.returns
 returns c =

@@ -2,7 +2,7 @@
 use mathlib.Core.Path.{sym, ◌∙◌}
 use native.Mathlib.Omega.{arith}
 use Rattle.messages.specs.View.{rooms_in}
-use Rattle.store.proofs.TextLaws.{no_text, is_stored_lem, short_read, long_read}
+use Rattle.store.proofs.TextLaws.{no_text, short_read, long_read}
 use Rattle.store.proofs.text_of.Goals as goal
 
 pub returns-then-waiting_of-eq0 : goal.returns-then-waiting_of-eq0
@@ -14,13 +14,6 @@ pub returns-then-n-le-TEXT : goal.returns-then-n-le-TEXT
 returns-then-n-le-TEXT c =
     let a = c.args in
     short_read a.texts.now a.store.now (rooms_in a.messages.now) a.m _ _ c.waiting_of.ensures c.if-waiting_of-eq0.false c.length_of-n.ensures _ (omega arith) c.part-then-n-le-TEXT.ensures
-
-pub part-requires-2 : goal.part-requires-2
-part-requires-2 c =
-    let a = c.args in
-    let n = c.length_of-n.ensures in
-    let s = is_stored_lem a.texts.now a.store.now (rooms_in a.messages.now) a.m _ _ c.waiting_of.ensures c.if-waiting_of-eq0.false n a.store.now (omega arith) in
-    omega (arith, c.requires.long s, c.offset_of.ensures, n)
 
 pub returns : goal.returns
 returns c =

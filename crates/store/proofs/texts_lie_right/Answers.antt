@@ -7,16 +7,6 @@ use mathlib.Core.Bool.{not}
 use mathlib.Core.Path.{ap}
 use Rattle.store.proofs.texts_lie_right.Goals as goal
 
-pub loop-m-init : goal.loop-m-init
-loop-m-init c = (omega arith, λ k l. absurd (omega arith))
-
-pub lies_right-requires : goal.lies_right-requires
-lies_right-requires c =
-    record {
-      has_room = omega arith;
-      fact = c.loop-m.invariant.1;
-    }
-
 pub returns-then-not-lies_right : goal.returns-then-not-lies_right
 returns-then-not-lies_right c =
     let a = c.args in
