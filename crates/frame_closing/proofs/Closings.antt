@@ -24,7 +24,7 @@ use Rattle.frame_run.proofs.Printed.{steps_alike}
 use Rattle.frame_stream.specs.declared.Ending.{Ending}
 use Rattle.frame_stream.specs.declared.Handed.{Handed}
 use Rattle.frame_stream.specs.Stream.{Stream, begin, Turn, lines_fill, Turns, stream_after, brought_by, handed_by, Behind, OverAt}
-use Rattle.frame_stream.specs.Feed.{RanAll}
+use Rattle.frame_stream.specs.Feed.{state_number, RanAll}
 use Rattle.frame_stream.proofs.Stream.{SoFar, so_far, stream_is}
 use Rattle.frame_closing.specs.Closed.{at_end, last_line, after_line, ClosingIs, Closed}
 use Rattle.frame_closing.proofs.Lines.{line_unstarted}
@@ -171,10 +171,10 @@ module _ (F : Floor) (U : Unstarted F) (ts : List Turn) (made : Turns (begin who
     line_is (x ∷ l) e = some_left x l e ∙ ap (λ (t : Bool). cond t (closing_line limits S.floor) []) (sym (ne_eqb (length (x ∷ l)) 0 (λ z. omega arith)))
 
   -- what is handed on together
-  pub closing_is : (run : Ending) → run.state ≡ S.state → run.left ≡ length S.left → ClosingIs F ts (last_line run S.floor)
+  pub closing_is : (run : Ending) → state_number run.state ≡ S.state → run.left ≡ length S.left → ClosingIs F ts (last_line run S.floor)
   closing_is run state left over later b =
       let l = brought_by ts ++ later in
-      let last : eqb (length S.left) 0 ≡ at_end run = sym (ap₂ (λ (x : Bool) (n : ℕ). x && eqb n 0) (eq-eqb run.state 2 (state ∙ over)) left) in
+      let last : eqb (length S.left) 0 ≡ at_end run = sym (ap₂ (λ (x : Bool) (n : ℕ). x && eqb n 0) (eq-eqb (state_number run.state) 2 (state ∙ over)) left) in
       closing_whole l
       ∙ ap₂ (λ (x y : List ℕ). x ++ y) ((stream_is whole_floor F U ts made).whole over later b)
       (line_is over later b S.left refl ∙ ap (λ (t : Bool). cond t (closing_line limits S.floor) []) last)

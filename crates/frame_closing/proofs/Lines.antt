@@ -6,6 +6,7 @@ use Prim.Native.Nat.{ℕ, ◌+◌, ◌≤◌}
 use native.Mathlib.Numerals.{add-one}
 use native.Mathlib.Omega.{arith}
 use lib.Dec.{eqb}
+use mir.Val.{bool_byte}
 use lib.ListN.{length, take, set, length-set, replicate}
 use borrow.Author.Tests.{eq-eqb, ne_eqb, not-true, not-false}
 use Rattle.protocol.specs.Folds.{count}
@@ -19,17 +20,12 @@ use Rattle.protocol.proofs.Theorems.{form_unstarted, quiet_5_first, quiet_runs}
 use Rattle.stations.specs.View.{head_in}
 use Rattle.view.specs.View.{Lent, floor_in}
 use Rattle.frame_lines.specs.Lines.{Wrote, longest_pair, short_rest}
-use Rattle.frame_lines.proofs.Octets.{wrote_one, wrote_then, wrote_wider, four_stored}
+use Rattle.frame_lines.proofs.Octets.{wrote_one, wrote_then, wrote_wider}
 use Rattle.frame_run.proofs.Printed.{front_of}
 use Rattle.frame_stream.specs.declared.Ending.{Ending}
+use Rattle.frame_stream.specs.declared.State.TheVariants.{Over, Failed}
 use Rattle.frame_stream.specs.declared.Handed.{Handed}
 use Rattle.frame_closing.specs.Closed.{longest_closing, answer_line, is_taken, at_end, last_line, after_line}
-
--- THE WORD
-pub word_written : (l : List ℕ) → longest_closing ≤ length l → Wrote 5 quiet_word l (set (set (set (set (set l 0 113) 1 117) 2 105) 3 101) 4 116) 0 5
-word_written l h =
-    wrote_then {m = 4} {k = 1} (omega arith) (four_stored l 0 113 117 105 101 (omega arith))
-    (wrote_one (set (set (set (set l 0 113) 1 117) 2 105) 3 101) 4 116 5 (simp length-set (omega arith)) refl)
 
 module _ {l l₁ l₂ : List ℕ} {p q : ℕ} (room : longest_closing ≤ length l) (word : Wrote 5 quiet_word l l₁ 0 p) where
   -- THE LINE of a floor that is quiet
@@ -66,21 +62,25 @@ pub line_left : (F F' : Floor) (steps : ℕ) → passes_form limits F ≡ true �
     → answer_line (quiet_after steps) (held_count limits F') ≡ closing_line limits F
 line_left F F' steps h counted left = ap₂ (λ (n : ℕ) (X : Floor). answer_line (quiet_after n) (held_count limits X)) counted left ∙ sym (line_quiet F h)
 
--- HOW MANY ROOMS ARE TAKEN: one room
-pub room_free : (waiting word : ℕ) → word ≡ waiting → word ≡ 0 → (◌≡◌ {A = ℕ} 0 (cond (not (eqb waiting 0)) 1 0)) × (0 ≤ 1)
-room_free waiting word e z = (rw (eq-eqb waiting 0 (sym e ∙ z)) refl, omega arith)
-
-pub room_taken : (waiting word : ℕ) → word ≡ waiting → (word ≡ 0 → ⊥) → (◌≡◌ {A = ℕ} 1 (cond (not (eqb waiting 0)) 1 0)) × (1 ≤ 1)
-room_taken waiting word e n = (rw (ne_eqb waiting 0 (λ z. n (e ∙ z))) refl, omega arith)
-
--- none, one more, and all of them
+-- HOW MANY ROOMS ARE TAKEN: none, one more, and all of them
 pub count_none : (f : ℕ → Bool) → 0 ≡ count 0 f
 unfolding count
 count_none f = refl
 
-pub count_more : (f : ℕ → Bool) (m held one : ℕ) → held ≡ count m f → one ≡ cond (f m) 1 0 → held + one ≡ count (m + 1) f
+pub count_more : (f : ℕ → Bool) (m held : ℕ) (b : Bool) (one : ℕ) → held ≡ count m f → b ≡ f m → one ≡ bool_byte b → (held + one ≡ count (m + 1) f) × (one ≤ 1)
 unfolding count
-count_more f m held one h e = ap₂ (λ (x y : ℕ). x + y) h e ∙ ap (λ (k : ℕ). count k f) (sym (add-one m))
+count_more f m held b one h e q = (
+  ap₂ (λ (x y : ℕ). x + y) h (q ∙ ap bool_byte e ∙ from_cond (f m)) ∙ ap (λ (k : ℕ). count k f) (sym (add-one m)),
+  subst (λ (k : ℕ). k ≤ 1) (sym q) (at_most b),
+)
+  where
+    from_cond : (x : Bool) → bool_byte x ≡ cond x 1 0
+    from_cond true = refl
+    from_cond false = refl
+
+    at_most : (x : Bool) → bool_byte x ≤ 1
+    at_most true = omega arith
+    at_most false = omega arith
 
 pub count_all : (f : ℕ → Bool) (m held : ℕ) → held ≡ count m f → m ≡ 32 → held ≡ count 32 f
 count_all f m held h e = h ∙ ap (λ (k : ℕ). count k f) e
@@ -101,11 +101,8 @@ module _ (L : Lent) {l l' : List ℕ} {n : ℕ} where
       (ap (λ (k : ℕ). answer_line (quiet_after steps) k) rooms ∙ line_left (floor_in L) (floor_in L') steps h counted left)
 
 -- AT THE END OF THE INPUT, in the order that the code asks
-pub not_over : (e : Ending) → (e.state ≡ 2 → ⊥) → false ≡ at_end e
-not_over e n = rw (ne_eqb e.state 2 n) refl
-
-pub over_then : (e : Ending) → e.state ≡ 2 → eqb e.left 0 ≡ at_end e
-over_then e z = rw (eq-eqb e.state 2 z) refl
+pub over_then : (e : Ending) → e.state ≡ Over → eqb e.left 0 ≡ at_end e
+over_then e z = rw z refl
 
 -- no line is handed on, or the one that was written
 module _ (e : Ending) (F : Floor) (b : Bool) (is : b ≡ at_end e) where
@@ -125,5 +122,5 @@ module _ (e : Ending) (F : Floor) (b : Bool) (is : b ≡ at_end e) where
 pub line_accepted : (e : Ending) (h : Handed) → h.accepted ≡ true → e ≡ after_line e h
 line_accepted e h t = rw t refl
 
-pub line_failed : (e : Ending) (h : Handed) → h.accepted ≡ false → record { frames = e.frames; state = 3; left = e.left } ≡ after_line e h
+pub line_failed : (e : Ending) (h : Handed) → h.accepted ≡ false → record { frames = e.frames; state = Failed; left = e.left } ≡ after_line e h
 line_failed e h t = rw t refl

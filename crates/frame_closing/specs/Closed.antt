@@ -8,7 +8,8 @@ use Rattle.frame_lines.specs.Lines.{longest_pair}
 use Rattle.frame_stream.specs.declared.Ending.{Ending}
 use Rattle.frame_stream.specs.declared.Handed.{Handed}
 use Rattle.frame_stream.specs.Stream.{Turn, begin, stream_after, brought_by, handed_by, Behind}
-use Rattle.frame_stream.specs.Feed.{Streamed}
+use Rattle.frame_stream.specs.declared.State.TheVariants.{Failed}
+use Rattle.frame_stream.specs.Feed.{state_number, Streamed}
 
 -- how many octets the line has at most: the word, two numbers, each with a blank before it, and the line end
 abbrev pub longest_closing : ℕ
@@ -24,7 +25,7 @@ is_taken messages m = not (eqb ((rooms_in messages).waiting m) 0)
 
 -- "at the end of the input": the run is over, and every octet was run. Where a frame was refused its octets are left
 abbrev pub at_end : Ending → Bool
-at_end e = eqb e.state 2 && eqb e.left 0
+at_end e = eqb (state_number e.state) 2 && eqb e.left 0
 
 -- the line behind those of the frames, of the floor that the run left; none where it did not come to the end of the input
 abbrev pub last_line : Ending → Floor → List ℕ
@@ -32,7 +33,7 @@ last_line e F = cond (at_end e) (closing_line limits F) []
 
 -- how the run and the line behind it came out: it failed where the line could not be written
 abbrev pub after_line : Ending → Handed → Ending
-after_line e h = record { frames = e.frames; state = cond h.accepted e.state 3; left = e.left }
+after_line e h = record { frames = e.frames; state = cond h.accepted e.state Failed; left = e.left }
 
 -- WHAT IS HANDED ON TOGETHER, over any list of turns from a floor: however an input is cut into reads, the lines of its frames and the line behind them
 -- are the printed closing of the whole input, if the run is over

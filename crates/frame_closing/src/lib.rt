@@ -2,36 +2,31 @@
 // line more". The run is `frame_stream`'s and the quiet floor is `dispatcher`'s; here is the line, and when it is printed.
 #![tactic(auto)]
 
-ghost use Rattle.std.specs.Prelude.{◌≡◌, cond, ◌≤◌, length, take};
+ghost use Rattle.std.specs.Prelude.{◌≡◌, ◌≤◌, length, take};
 ghost use Rattle.protocol.specs.Folds.{count};
 ghost use Rattle.protocol.specs.Floor.{whole_floor, limits};
 ghost use Rattle.protocol.specs.Quiet.{turned_away, quiet_after};
 ghost use Rattle.protocol.specs.Closing.{quiet_word, closing_line};
+ghost use Rattle.refusals.specs.Numbers.{number_of};
 ghost use Rattle.messages.specs.View.{HasRoom};
 ghost use Rattle.view.specs.View.{lent, floor_in};
 ghost use Rattle.frame_lines.specs.Lines.{Wrote};
 ghost use Rattle.event_answers.specs.Met.{Ready};
 ghost use Rattle.frame_closing.specs.Closed.{longest_closing, answer_line, is_taken, at_end, last_line, after_line, Closed};
 
-use frame_stream::{Ending, Handed};
+use frame_stream::{Ending, Handed, State};
+use refusals::Refusal;
 use std::io::{Read, Write};
 
 // The longest line: the word, two numbers of at most twenty digits, each with a blank before it, and the line end.
 const LONGEST: usize = 5 + 2 * (1 + 20) + 1;
 
-// "not started, or the lent floor breaks the form rule"
-const NOT_STARTED: u64 = 5;
-
-// One for a room whose message some station waits for, else none.
-fn taken(messages: &[u64], m: usize) -> u64
+// Does some station wait for a message in the room?
+fn is_taken(messages: &[u64], m: usize) -> bool
     requires { HasRoom messages.now m }
-    ensures { (result ≡ cond (is_taken messages.now m) 1 0) × (result ≤ 1) }
+    ensures { result ≡ is_taken messages.now m }
 {
-    if messages::waiting_of(messages, m) == 0 {
-        0
-    } else {
-        1
-    }
+    messages::waiting_of(messages, m) != 0
 }
 
 // "how many messages are then held"
@@ -40,10 +35,8 @@ fn held_messages(messages: &[u64]) -> u64
     ensures { result ≡ count 32 (is_taken messages.now) }
 {
     let mut held: u64 = 0;
-    let mut m: usize = 0;
-    while m < products::ROOMS {
-        held += taken(messages, m);
-        m += 1;
+    for m in 0..products::ROOMS {
+        held += u64::from(is_taken(messages, m));
     }
     held
 }
@@ -53,11 +46,7 @@ fn put_quiet(line: &mut [u8]) -> usize
     requires { longest_closing ≤ length line.old }
     ensures { Wrote 5 quiet_word line.old line.new 0 result }
 {
-    line[0] = b'q';
-    line[1] = b'u';
-    line[2] = b'i';
-    line[3] = b'e';
-    line[4] = b't';
+    line[0..5].copy_from_slice(b"quiet");
     5
 }
 
@@ -73,12 +62,12 @@ fn put_steps(line: &mut [u8], steps: u64, held: u64) -> usize
 }
 
 // The line of one that could not be: its refusal.
-fn put_refused(line: &mut [u8], number: u64) -> usize
+fn put_refused(line: &mut [u8], refusal: Refusal) -> usize
     requires { longest_closing ≤ length line.old }
-    ensures { Wrote longest_closing (answer_line (turned_away number) 0) line.old line.new 0 result }
+    ensures { Wrote longest_closing (answer_line (turned_away (number_of refusal)) 0) line.old line.new 0 result }
 {
     let word = put_quiet(line);
-    frame_lines::end_refused(line, word, number)
+    frame_lines::end_refused(line, word, refusal.number())
 }
 
 // The floor is run until it is quiet, and the line is written. A run's floor passes the form rule if it is started, so it is not tested again.
@@ -95,7 +84,7 @@ fn put_line(
     ensures { Wrote longest_closing (closing_line limits (floor_in (lent whole_floor stations.old carts.old messages.old lines.old texts.now store.now))) line.old line.new 0 result }
 {
     if !stations::is_started(stations) {
-        return put_refused(line, NOT_STARTED);
+        return put_refused(line, Refusal::NotReady);
     }
     let mut buffer = [0u8; products::LONG];
     let steps = dispatcher::run_until_quiet(
@@ -114,10 +103,10 @@ fn put_line(
 fn at_end(run: Ending) -> bool
     ensures { result ≡ at_end run }
 {
-    if run.state != frame_stream::OVER {
-        return false;
+    match run.state {
+        State::Over => run.left == 0,
+        _ => false,
     }
-    run.left == 0
 }
 
 // The line behind those of the run, if there is one.
@@ -154,7 +143,7 @@ fn after_line(run: Ending, handed: Handed) -> Ending
     }
     Ending {
         frames: run.frames,
-        state: frame_stream::FAILED,
+        state: State::Failed,
         left: run.left,
     }
 }

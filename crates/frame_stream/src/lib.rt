@@ -138,7 +138,7 @@ pub fn more<R: Read>(from: &mut R, input: &mut [u8], f: Feed) -> Feed
     after_read(size, kept, got, f)
 }
 
-// The lines that were handed on to be written: how many octets, and whether all of them were taken.
+// The lines that were handed on to be written: how many octets, and whether all of them were taken. The size is said in both cases, so this is no Result.
 #[derive(Clone, Copy)]
 pub struct Handed {
     pub size: usize,
@@ -381,6 +381,7 @@ pub fn run<R: Read, W: Write>(from: &mut R, to: &mut W) -> Ending
 }
 
 // THE SAME FOR THE DEMONSTRATION KIT, "a second caller of the same steps with its own limits": the same run, over memory of the kit's lengths.
+// All that both share is `run_over`: one function for both would take five const parameters and a clause for each, which is no plainer than the arrays.
 pub fn run_kit<R: Read, W: Write>(from: &mut R, to: &mut W) -> Ending
     ensures { Streamed kit result }
 {

@@ -7,6 +7,3 @@ use Rattle.frame_closing.proofs.held_messages.Given as goal
 
 abbrev pub invariant-loop-m : goal.invariant-loop-m
 invariant-loop-m l = (l.held ≡ count l.m (is_taken l.messages)) × (l.m ≤ 32) × (l.held ≤ l.m)
-
-abbrev pub decreases-loop-m : goal.decreases-loop-m
-decreases-loop-m l = 32 - l.m

@@ -1,20 +1,11 @@
 -- `frame_closing::put_quiet` meets its contract.
+use mathlib.Core.Path.{refl}
 use native.Mathlib.Omega.{arith}
-use lib.ListN.{length-set}
-use Rattle.frame_closing.proofs.Lines.{word_written}
+use Rattle.protocol.specs.Closing.{quiet_word}
+use Rattle.frame_lines.proofs.Octets.{part_written, wrote_all}
 use Rattle.frame_closing.proofs.put_quiet.Goals as goal
 
-pub bounds-line-1 : goal.bounds-line-1
-bounds-line-1 c = simp length-set (omega arith)
-
-pub bounds-line-2 : goal.bounds-line-2
-bounds-line-2 c = simp length-set (omega arith)
-
-pub bounds-line-3 : goal.bounds-line-3
-bounds-line-3 c = simp length-set (omega arith)
-
-pub bounds-line-4 : goal.bounds-line-4
-bounds-line-4 c = simp length-set (omega arith)
-
 pub returns : goal.returns
-returns c = word_written c.args.line.now (omega arith)
+returns c =
+    let a = c.args in
+    wrote_all a.line.now 0 quiet_word (omega arith) refl (omega arith) (part_written a.line.now _ quiet_word 0 5 c.copy_from_slice.ensures.after refl)
