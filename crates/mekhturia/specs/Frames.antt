@@ -2,6 +2,7 @@
 use Rattle.std.specs.Prelude.{◌≡◌, Bool, cond, ◌||◌, List, ℕ, eqb, leb, length, set}
 use Rattle.view.specs.View.{Lent}
 use Rattle.frame_run.specs.declared.Progress.{Progress}
+use Rattle.frame_run.specs.Stops.{stop_number}
 use Rattle.tested_run.specs.Stuck.{RanAny}
 use Rattle.mekhturia.specs.Status.{status_of, ByStatus}
 
@@ -15,7 +16,7 @@ frames_status product out index input = cond (eqb (status_of product out) 0) (co
 
 -- why it stopped, the octets read and written, and the frames, in the first four words
 abbrev pub frame_words : List ℕ → Progress → List ℕ
-frame_words out p = set (set (set (set out 0 p.state) 1 p.read) 2 p.written) 3 p.frames
+frame_words out p = set (set (set (set out 0 (stop_number p.state)) 1 p.read) 2 p.written) 3 p.frames
 
 -- the piece was run, and the lent words out are then those of how far it went, out'
 pub record RanFrames (input : List ℕ) (index : ℕ) (last : Bool) (L L' : Lent) (output output' out out' : List ℕ) : Type 0 where

@@ -530,7 +530,7 @@ fn put_progress(out: &mut [u64], p: Progress)
     ensures out_after { out.new ≡ frame_words out.old p }
     ensures out_len_unchanged { length out.new ≡ length out.old }
 {
-    out[0] = p.state;
+    out[0] = p.state.number();
     out[1] = p.read as u64;
     out[2] = p.written as u64;
     out[3] = p.frames;

@@ -1,7 +1,8 @@
 -- `mekhturia::put_progress` meets its contract.
-use mathlib.Core.Path.{refl}
+use mathlib.Core.Path.{ap}
+use Prim.Native.Nat.{ℕ}
 use native.Mathlib.Omega.{arith}
-use lib.ListN.{length-set}
+use lib.ListN.{set, length-set}
 use borrow.Author.Rules.{rules}
 use Rattle.mekhturia.proofs.put_progress.Goals as goal
 
@@ -17,6 +18,6 @@ bounds-out-3 c = simp length-set (omega arith)
 pub returns : goal.returns
 returns c =
     record {
-      out_after = refl;
+      out_after = ap (λ (n : ℕ). set (set (set (set c.args.out.now 0 n) 1 c.args.p.read) 2 c.args.p.written) 3 c.args.p.frames) c.number.ensures;
       out_len_unchanged = simp length-set;
     }
