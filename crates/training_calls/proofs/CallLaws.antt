@@ -9,7 +9,7 @@ use lib.ListN.{take, drop}
 use lib.Seq.{drop-drop}
 use denote.Enum.Declared.{tag_of}
 use types.Run.{OneOf, miss}
-use Rattle.std.specs.Prelude.{Option, None, Result, Ok, Err}
+use Rattle.std.specs.Prelude.{Option, Result, Ok, Err}
 use Rattle.protocol.specs.Floor.{Limits, Floor, limits_of}
 use Rattle.protocol.specs.Events.{refused, accepted}
 use Rattle.protocol.specs.Events as events

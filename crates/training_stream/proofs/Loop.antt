@@ -1,22 +1,22 @@
 -- THE TURNS OF A RUN, one after the other: what holds before each turn.
 use mathlib.Core.Path.{◌≡◌, refl, sym, ap, ap₂, ◌∙◌, subst}
-use mathlib.Core.Bool.{Bool, true, false}
+use mathlib.Core.Bool.{true}
 use mathlib.Core.List.{List, [], ◌∷◌, ◌++◌}
-use mathlib.Core.Logic.{inl, inr}
+use mathlib.Core.Logic.{inl, inr, ⊎_elim}
 use Prim.{tt}
 use Prim.Native.Nat.{ℕ, ◌+◌, ◌-◌}
 use native.Mathlib.Omega.{arith}
-use lib.Dec.{eqb, ltb}
+use lib.Dec.{ltb}
 use lib.ListN.{length, length-append}
-use borrow.Author.Tests.{eqb-true, ltb-false}
+use borrow.Author.Tests.{ltb-false}
 use Rattle.protocol.specs.Floor.{Floor, whole_floor}
 use Rattle.protocol.specs.PlainLists.{Plain, plain_unstarted}
 use Rattle.protocol.proofs.Tests.{by_test, clash}
 use Rattle.frame_stream.specs.declared.Feed.{Feed}
 use Rattle.frame_stream.specs.declared.Ending.{Ending}
 use Rattle.frame_stream.specs.Stream.{Stream, begin, Turn, after, MayBy, TurnsBy, stream_after}
-use Rattle.frame_stream.specs.Feed.{Inside, stream_of}
-use Rattle.frame_stream.proofs.Loop.{after_more, turns_more, going}
+use Rattle.frame_stream.specs.Feed.{state_number, Inside, stream_of}
+use Rattle.frame_stream.proofs.Loop.{after_more, turns_more, going, Stopped}
 use Rattle.frame_stream.proofs.Feeds.{part_length}
 use Rattle.training_stream.specs.declared.FloorMemory.{FloorMemory}
 use Rattle.training_stream.specs.Memory.{lent_in}
@@ -28,20 +28,20 @@ unfolding stream_after lists_by
 lists_more S Q [] m = refl
 lists_more S Q (x ∷ ts) m = lists_more (after S x) (lists_behind S Q x) ts m
 
--- BEFORE EACH TURN: some turns led from the beginning to this stream and these lists, and with those that are left they are 2^64 − 1
-pub record Came (F : Floor) (S : Stream) (Q : Plain) (left : ℕ) : Type 0 where
+-- BEFORE EACH TURN: as many turns as were counted led from the beginning to this stream and these lists
+pub record Came (F : Floor) (S : Stream) (Q : Plain) (made_turns : ℕ) : Type 0 where
   pub turns : List Turn
   pub made : BenchTurns (begin whole_floor F) turns
   pub there : S ≡ stream_after (begin whole_floor F) turns
   pub lists : Q ≡ lists_by (begin whole_floor F) plain_unstarted turns
-  pub counted : length turns + left ≡ 18446744073709551615
+  pub counted : length turns ≡ made_turns
 
-pub came_first : (F : Floor) (Q : Plain) → Q ≡ plain_unstarted → Came F (begin whole_floor F) Q 18446744073709551615
+pub came_first : (F : Floor) (Q : Plain) → Q ≡ plain_unstarted → Came F (begin whole_floor F) Q 0
 unfolding TurnsBy stream_after lists_by
 came_first F Q e = record { turns = []; made = tt; there = refl; lists = e; counted = refl }
 
-pub came_next : (F : Floor) (S S' : Stream) (Q Q' : Plain) (octets : List ℕ) (turns left : ℕ) → Came F S Q turns → BenchMade S S' Q Q' octets → left + 1 ≡ turns → Came F S' Q' left
-came_next F S S' Q Q' octets turns left k m e =
+pub came_next : (F : Floor) (S S' : Stream) (Q Q' : Plain) (octets : List ℕ) (turns more : ℕ) → Came F S Q turns → BenchMade S S' Q Q' octets → more ≡ turns + 1 → Came F S' Q' more
+came_next F S S' Q Q' octets turns more k m e =
     let ts = k.turns in
     let B = begin whole_floor F in
     let may : MayBy rows_fill (stream_after B ts) m.turn = subst (λ (X : Stream). MayBy rows_fill X m.turn) k.there m.may in
@@ -54,20 +54,21 @@ came_next F S S' Q Q' octets turns left k m e =
     }
 
 -- and where it stops
-pub bench_ran : (F : Floor) (M : FloorMemory) (input : List ℕ) (Q : Plain) (turns : ℕ) (f : Feed) (r : Ending) (b : Bool) → Inside (length input) f → Came F (stream_of input (lent_in M) f) Q turns
-    → r ≡ record { frames = f.index; state = f.state; left = f.have - f.at } → b ≡ going turns f → b ≡ false → BenchRan F r
-bench_ran F M input Q turns f r b inside k q e none =
+pub bench_ran : (F : Floor) (M : FloorMemory) (input : List ℕ) (Q : Plain) (turns : ℕ) (f : Feed) (r : Ending) → Inside (length input) f → Came F (stream_of input (lent_in M) f) Q turns
+    → r ≡ record { frames = f.index; state = f.state; left = f.have - f.at } → Stopped turns f → BenchRan F r
+bench_ran F M input Q turns f r inside k q stop =
     record {
       turns = k.turns;
       made = k.made;
       frames = ap (λ (o : Ending). o.frames) q ∙ ap (λ (X : Stream). X.index) k.there;
-      state = ap (λ (o : Ending). o.state) q ∙ ap (λ (X : Stream). X.state) k.there;
+      state = ap (λ (o : Ending). state_number o.state) q ∙ ap (λ (X : Stream). X.state) k.there;
       left = ap (λ (o : Ending). o.left) q ∙ sym (part_length input f inside) ∙ ap (λ (X : Stream). length X.left) k.there;
-      stopped = by_test (ltb f.state 2)
+      stopped = ⊎_elim
+          (λ all. inr (inr (let c = k.counted in omega arith)))
+          (λ none. by_test (ltb (state_number f.state) 2)
           (λ low. by_test (ltb f.index 9223372036854775808)
-          (λ few. by_test (eqb turns 0)
-          (λ z. inr (inr (let t = eqb-true turns 0 z in let c = k.counted in omega arith)))
-          (λ some. clash (going turns f) (let all : going turns f ≡ true = rw (some, few, low) refl in all) (sym e ∙ none)))
+          (λ few. clash (going f) (let both : going f ≡ true = rw (few, low) refl in both) none)
           (λ many. inr (inl (let m = ltb-false f.index 9223372036854775808 many in let w = ap (λ (o : Ending). o.frames) q in omega arith))))
-          (λ high. inl (let m = ltb-false f.state 2 high in let w = ap (λ (o : Ending). o.state) q in omega arith));
+          (λ high. inl (let m = ltb-false (state_number f.state) 2 high in let w = ap (λ (o : Ending). state_number o.state) q in omega arith)))
+          stop;
     }

@@ -4,6 +4,7 @@ use Rattle.protocol.specs.Floor.{Floor, whole_floor}
 use Rattle.protocol.specs.PlainLists.{Plain}
 use Rattle.frame_run.specs.CanRun.{Unstarted}
 use Rattle.frame_stream.specs.declared.Ending.{Ending}
+use Rattle.frame_stream.specs.Feed.{state_number}
 use Rattle.frame_stream.specs.Stream.{Stream, begin, Turn, after, MayBy, stream_after}
 use Rattle.training_stream.specs.Bench.{rows_fill, BenchTurns, lists_behind, lines_of, BenchIs}
 
@@ -20,9 +21,9 @@ pub record BenchRan (F : Floor) (r : Ending) : Type 0 where
   pub turns : List Turn
   pub made : BenchTurns (begin whole_floor F) turns
   pub frames : r.frames ≡ (stream_after (begin whole_floor F) turns).index
-  pub state : r.state ≡ (stream_after (begin whole_floor F) turns).state
+  pub state : state_number r.state ≡ (stream_after (begin whole_floor F) turns).state
   pub left : r.left ≡ length (stream_after (begin whole_floor F) turns).left
-  pub stopped : (2 ≤ r.state) ⊎ ((9223372036854775808 ≤ r.frames) ⊎ (length turns ≡ 18446744073709551615))
+  pub stopped : (2 ≤ state_number r.state) ⊎ ((9223372036854775808 ≤ r.frames) ⊎ (length turns ≡ 18446744073709551615))
 
 -- and what it hands on is `plain_run` of its input
 pub record Benched (r : Ending) : Type 0 where

@@ -1,4 +1,4 @@
--- THE FLOOR'S MEMORY, which goes from turn to turn by value.
+-- THE FLOOR'S MEMORY, lent as one.
 use Rattle.protocol.specs.Floor.{whole_floor}
 use Rattle.view.specs.View.{Lent, lent}
 use Rattle.training_stream.specs.declared.FloorMemory.{FloorMemory}

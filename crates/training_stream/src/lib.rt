@@ -1,5 +1,5 @@
-// THE STREAM OF THE TRAINING BENCH: frames from a reader, the lines of the lists' heads to a writer. The floor's parts go from turn to turn by value, so
-// that few slices are lent to one function.
+// THE STREAM OF THE TRAINING BENCH: frames from a reader, the lines of the lists' heads to a writer. The floor's parts are lent as one, so that few slices
+// are lent to one function.
 #![tactic(auto)]
 
 ghost use Rattle.std.specs.Prelude.{◌≡◌, ℕ, ◌<◌, length, take, get_or};
@@ -7,7 +7,8 @@ ghost use Rattle.event_answers.specs.Met.{Ready};
 ghost use Rattle.frame_lines.specs.Lines.{Tabled};
 ghost use Rattle.training_calls.specs.Gone.{Gone};
 ghost use Rattle.frame_run.specs.CanRun.{Unstarted};
-ghost use Rattle.frame_stream.specs.Feed.{Inside, stream_of};
+ghost use Rattle.frame_stream.specs.declared.State.TheVariants.{Runs};
+ghost use Rattle.frame_stream.specs.Feed.{state_number, Inside, stream_of};
 ghost use Rattle.protocol.specs.PlainLists.{plain_unstarted};
 ghost use Rattle.view.specs.View.{floor_in};
 ghost use Rattle.lists.specs.View.{lent_lists, lists_in};
@@ -16,7 +17,7 @@ ghost use Rattle.training_stream.specs.Memory.{lent_in};
 ghost use Rattle.training_stream.specs.Feeds.{BenchMade, BenchRan, Benched};
 
 use frame_run::Progress;
-use frame_stream::{Ending, Feed};
+use frame_stream::{Ending, Feed, State};
 use std::io::{Read, Write};
 
 // The lent parts of a floor.
@@ -30,63 +31,31 @@ pub struct FloorMemory {
     store: [u8; 4096],
 }
 
-// A floor over which a piece was run, and how far.
-#[derive(Clone, Copy)]
-struct FloorRun {
-    floor: FloorMemory,
-    progress: Progress,
-}
-
-// The frames of a piece, run over the floor: their calls are in the table.
+// The frames of a piece, run over the floor, and how far: their calls are in the table.
 fn run_floor(
     input: &[u8],
     calls: &mut [u64],
-    floor: FloorMemory,
+    floor: &mut FloorMemory,
     numbers: &[u64],
     last: bool,
-) -> FloorRun
-    requires { Ready (lent_in floor) × Tabled numbers.now × (length calls.old ≡ 5120) }
-    ensures gone { Gone input.now last (lent_in floor) (lent_in result.floor) calls.new result.progress }
+) -> Progress
+    requires { Ready (lent_in floor.old) × Tabled numbers.now × (length calls.old ≡ 5120) }
+    ensures gone { Gone input.now last (lent_in floor.old) (lent_in floor.new) calls.new result }
     ensures calls_len_unchanged { length calls.new ≡ length calls.old }
 {
-    let mut stations = floor.stations;
-    let mut carts = floor.carts;
-    let mut messages = floor.messages;
-    let mut lines = floor.lines;
-    let mut texts = floor.texts;
-    let mut store = floor.store;
-    let progress = training_calls::take_frames(
+    training_calls::take_frames(
         input,
         calls,
-        &mut stations,
-        &mut carts,
-        &mut messages,
-        &mut lines,
-        &mut texts,
-        &mut store,
+        &mut floor.stations,
+        &mut floor.carts,
+        &mut floor.messages,
+        &mut floor.lines,
+        &mut floor.texts,
+        &mut floor.store,
         products::floor_bounds(),
         numbers,
         last,
-    );
-    let left = FloorMemory {
-        stations,
-        carts,
-        messages,
-        lines,
-        texts,
-        store,
-    };
-    FloorRun {
-        floor: left,
-        progress,
-    }
-}
-
-// The piece of input after a turn, and the floor.
-#[derive(Clone, Copy)]
-struct BenchTurn {
-    feed: Feed,
-    floor: FloorMemory,
+    )
 }
 
 // The frames that are there: over the floor, then their calls to the lists, and the lines of the takes.
@@ -95,23 +64,22 @@ fn run_piece<W: Write>(
     input: &[u8],
     output: &mut [u8],
     calls: &mut [u64],
-    floor: FloorMemory,
+    floor: &mut FloorMemory,
     counts: &mut [u64],
     sends: &mut [u64],
     octets: &mut [u8],
     numbers: &[u64],
     f: Feed,
-) -> BenchTurn
-    requires ready { Ready (lent_in floor) × ListsReady (lent_lists counts.old sends.old octets.old) × Tabled numbers.now }
-    requires inside { Inside (length input.now) f × (f.state ≡ 0) × (f.index < 9223372036854775808) × (length input.now ≡ 65536) × (length output.old ≡ 65536) × (length calls.old ≡ 5120) }
-    ensures ready_2 { Ready (lent_in result.floor) × ListsReady (lent_lists counts.new sends.new octets.new) × BenchMade (stream_of input.now (lent_in floor) f) (stream_of input.now (lent_in result.floor) result.feed) (lists_in (lent_lists counts.old sends.old octets.old)) (lists_in (lent_lists counts.new sends.new octets.new)) (take result.feed.handed output.new) }
-    ensures inside_2 { Inside (length input.now) result.feed }
+) -> Feed
+    requires ready { Ready (lent_in floor.old) × ListsReady (lent_lists counts.old sends.old octets.old) × Tabled numbers.now }
+    requires inside { Inside (length input.now) f × (f.state ≡ Runs) × (f.index < 9223372036854775808) × (length input.now ≡ 65536) × (length output.old ≡ 65536) × (length calls.old ≡ 5120) }
+    ensures ready_2 { Ready (lent_in floor.new) × ListsReady (lent_lists counts.new sends.new octets.new) × BenchMade (stream_of input.now (lent_in floor.old) f) (stream_of input.now (lent_in floor.new) result) (lists_in (lent_lists counts.old sends.old octets.old)) (lists_in (lent_lists counts.new sends.new octets.new)) (take result.handed output.new) }
+    ensures inside_2 { Inside (length input.now) result }
     ensures output_len_unchanged { (length output.new ≡ length output.old) × (length calls.new ≡ length calls.old) }
 {
     let at = f.at;
     let have = f.have;
-    let run = run_floor(&input[at..have], calls, floor, numbers, f.last);
-    let p = run.progress;
+    let p = run_floor(&input[at..have], calls, floor, numbers, f.last);
     let n = training_lists::make_calls(
         counts,
         sends,
@@ -124,9 +92,7 @@ fn run_piece<W: Write>(
         f.index,
     );
     let handed = frame_stream::hand_on(to, &output[..n]);
-    let feed = frame_stream::after_run(f, p, handed);
-    let left = run.floor;
-    BenchTurn { feed, floor: left }
+    frame_stream::after_run(f, p, handed)
 }
 
 // ONE TURN of the stream: a read where more input is wanted, else a run of the frames that are there.
@@ -136,26 +102,25 @@ fn turn<R: Read, W: Write>(
     input: &mut [u8],
     output: &mut [u8],
     calls: &mut [u64],
-    floor: FloorMemory,
+    floor: &mut FloorMemory,
     counts: &mut [u64],
     sends: &mut [u64],
     octets: &mut [u8],
     numbers: &[u64],
     f: Feed,
-) -> BenchTurn
-    requires ready { Ready (lent_in floor) × ListsReady (lent_lists counts.old sends.old octets.old) × Tabled numbers.now }
-    requires inside { Inside (length input.old) f × (f.state < 2) × (f.index < 9223372036854775808) × (length input.old ≡ 65536) × (length output.old ≡ 65536) × (length calls.old ≡ 5120) }
-    ensures ready_2 { Ready (lent_in result.floor) × ListsReady (lent_lists counts.new sends.new octets.new) × BenchMade (stream_of input.old (lent_in floor) f) (stream_of input.new (lent_in result.floor) result.feed) (lists_in (lent_lists counts.old sends.old octets.old)) (lists_in (lent_lists counts.new sends.new octets.new)) (take result.feed.handed output.new) }
-    ensures inside_2 { Inside (length input.new) result.feed }
+) -> Feed
+    requires ready { Ready (lent_in floor.old) × ListsReady (lent_lists counts.old sends.old octets.old) × Tabled numbers.now }
+    requires inside { Inside (length input.old) f × (state_number f.state < 2) × (f.index < 9223372036854775808) × (length input.old ≡ 65536) × (length output.old ≡ 65536) × (length calls.old ≡ 5120) }
+    ensures ready_2 { Ready (lent_in floor.new) × ListsReady (lent_lists counts.new sends.new octets.new) × BenchMade (stream_of input.old (lent_in floor.old) f) (stream_of input.new (lent_in floor.new) result) (lists_in (lent_lists counts.old sends.old octets.old)) (lists_in (lent_lists counts.new sends.new octets.new)) (take result.handed output.new) }
+    ensures inside_2 { Inside (length input.new) result }
     ensures input_len_unchanged { (length input.new ≡ length input.old) × (length output.new ≡ length output.old) × (length calls.new ≡ length calls.old) }
 {
-    if f.state == frame_stream::WANTS {
-        let feed = frame_stream::more(from, input, f);
-        return BenchTurn { feed, floor };
+    match f.state {
+        State::Wants => frame_stream::more(from, input, f),
+        _ => run_piece(
+            to, input, output, calls, floor, counts, sends, octets, numbers, f,
+        ),
     }
-    run_piece(
-        to, input, output, calls, floor, counts, sends, octets, numbers, f,
-    )
 }
 
 // All of the input, from a floor and lists that are not started.
@@ -165,35 +130,32 @@ fn run_all<R: Read, W: Write>(
     input: &mut [u8],
     output: &mut [u8],
     calls: &mut [u64],
-    memory: FloorMemory,
+    floor: &mut FloorMemory,
     counts: &mut [u64],
     sends: &mut [u64],
     octets: &mut [u8],
     numbers: &[u64],
 ) -> Ending
-    requires ready { Ready (lent_in memory) × ListsReady (lent_lists counts.old sends.old octets.old) × Tabled numbers.now }
+    requires ready { Ready (lent_in floor.old) × ListsReady (lent_lists counts.old sends.old octets.old) × Tabled numbers.now }
     requires octets_value { (lists_in (lent_lists counts.old sends.old octets.old) ≡ plain_unstarted) × (length input.old ≡ 65536) × (length output.old ≡ 65536) × (length calls.old ≡ 5120) }
-    ensures { BenchRan (floor_in (lent_in memory)) result }
+    ensures { BenchRan (floor_in (lent_in floor.old)) result }
 {
-    let mut floor = memory;
     let mut f = Feed {
         at: 0,
         have: 0,
         index: 0,
-        state: frame_stream::WANTS,
+        state: State::Wants,
         last: false,
         handed: 0,
     };
-    let mut turns = u64::MAX;
-    while frame_stream::goes_on(turns, f) {
-        turns -= 1;
-        let t = turn(
+    // A proved loop has to end, and nothing says that the input does: so turns are counted, up to a number that no run comes to.
+    for made in 0..u64::MAX {
+        if !frame_stream::goes_on(f) {
+            break;
+        }
+        f = turn(
             from, to, input, output, calls, floor, counts, sends, octets, numbers, f,
         );
-        let feed = t.feed;
-        let left = t.floor;
-        f = feed;
-        floor = left;
     }
     let left = f.have - f.at;
     Ending {
@@ -228,25 +190,25 @@ fn no_floor() -> FloorMemory
 fn run_over<R: Read, W: Write>(
     from: &mut R,
     to: &mut W,
-    memory: FloorMemory,
+    floor: &mut FloorMemory,
     counts: &mut [u64],
     sends: &mut [u64],
     octets: &mut [u8; list_rows::OCTETS],
 ) -> Ending
-    requires { Ready (lent_in memory) × (length counts.old ≡ 21) × ((k : ℕ) → get_or counts.old k 0 ≡ 0) × (length sends.old ≡ 8192) }
-    ensures { BenchRan (floor_in (lent_in memory)) result }
+    requires { Ready (lent_in floor.old) × (length counts.old ≡ 21) × ((k : ℕ) → get_or counts.old k 0 ≡ 0) × (length sends.old ≡ 8192) }
+    ensures { BenchRan (floor_in (lent_in floor.old)) result }
 {
     let mut input = io::large_buffer();
     let mut output = io::large_buffer();
     let mut calls = [0u64; training_calls::CALLS];
-    let numbers = frame_stream::all_numbers();
+    let numbers = frame_run::all_numbers();
     run_all(
         from,
         to,
         &mut input,
         &mut output,
         &mut calls,
-        memory,
+        floor,
         counts,
         sends,
         octets,
@@ -262,5 +224,6 @@ pub fn run<R: Read, W: Write>(from: &mut R, to: &mut W) -> Ending
     let mut counts = no_counts();
     let mut sends = [0u64; list_rows::SENDS];
     let mut octets = [0u8; list_rows::OCTETS];
-    run_over(from, to, no_floor(), &mut counts, &mut sends, &mut octets)
+    let mut floor = no_floor();
+    run_over(from, to, &mut floor, &mut counts, &mut sends, &mut octets)
 }

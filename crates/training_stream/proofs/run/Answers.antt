@@ -3,5 +3,5 @@ use Rattle.training_stream.proofs.run.Goals as goal
 
 pub returns : goal.returns
 returns g c =
-    let m = c.no_floor in
+    let m = c.no_floor-floor in
     benched m.result _ m.ensures.1 c.run_over.ensures
