@@ -46,11 +46,11 @@ returns-then-stations-n c =
     let m = e.held_is in
     wrong_length_lem (lent P a.stations.now a.carts.now a.messages.now a.lines.now a.texts.now a.store.now)
     (λ h. elim c.then-stations-n.branch [
-      | then-stations-n-via-then-stations-n w ↦ let z = h.stations in w.if-stations-n.true (omega arith)
-      | then-stations-n-via-else-stations-n+then-carts-k w ↦ let z = h.carts in w.if-carts-k.true (omega arith)
-      | then-stations-n-via-else-stations-n+else-carts-k+then-messages-held w ↦ let z = h.messages in w.if-messages-held.true (omega arith)
-      | then-stations-n-via-else-stations-n+else-carts-k+else-messages-held+then-lines-records w ↦ let z = h.lines in let most = most_is P a.bounds e in w.if-lines-records.true (omega arith)
-      | then-stations-n-via-else-stations-n+else-carts-k+else-messages-held+else-lines-records+then-texts-held w ↦ let z = h.texts in w.if-texts-held.true (omega arith)
+      | then-stations-n-via-then-stations-n w ↦ let z = h.stations in omega (arith, w.if-stations-n.true)
+      | then-stations-n-via-else-stations-n+then-carts-k w ↦ let z = h.carts in omega (arith, w.if-carts-k.true)
+      | then-stations-n-via-else-stations-n+else-carts-k+then-messages-held w ↦ let z = h.messages in omega (arith, w.if-messages-held.true)
+      | then-stations-n-via-else-stations-n+else-carts-k+else-messages-held+then-lines-records w ↦ let z = h.lines in let most = most_is P a.bounds e in omega (arith, w.if-lines-records.true)
+      | then-stations-n-via-else-stations-n+else-carts-k+else-messages-held+else-lines-records+then-texts-held w ↦ let z = h.texts in omega (arith, w.if-texts-held.true)
     ])
 
 pub returns : goal.returns
