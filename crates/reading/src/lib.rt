@@ -11,7 +11,7 @@ ghost use Rattle.messages.specs.View.{HasRoom, rooms_in};
 ghost use Rattle.view.specs.View.{lent, floor_in};
 ghost use Rattle.queue.specs.Rooms.{room_code};
 ghost use Rattle.form_tables.specs.Tables.{tables};
-ghost use Rattle.reading.specs.Parts.{part_of, read_in, lender, IsPart};
+ghost use Rattle.reading.specs.Parts.{part_of, part_in, read_in, lender, IsPart};
 
 use ids::{MessageNumber, Station};
 use refusals::Refusal;
@@ -30,6 +30,16 @@ pub const FRONT: Part = Part {
     at: 0,
     octets: 0,
 };
+
+// The part that is lent back, of a refusal too.
+pub fn part_or_front(found: Result<Part, Refusal>) -> Part
+    ensures { result ≡ part_in found }
+{
+    match found {
+        Ok(part) => part,
+        Err(_) => FRONT,
+    }
+}
 
 // "that text's own part of the short table or of the long store", of the held message in room m: its length says which.
 pub fn part_of(messages: &[u64], m: usize) -> Part
