@@ -10,9 +10,8 @@ ghost use Rattle.checkframes.specs.Progress.{state_after, Inside, Goes, Ended};
 use frame_reader::Checked;
 use refusals::Refusal;
 use std::env::{Env, FillError};
+use std::io;
 use std::io::Read;
-use std::rt::Files;
-use std::{fs, io, str};
 
 // What is to be done with a file.
 #[derive(Clone, Copy, Debug, PartialEq, Eq)]
@@ -128,11 +127,6 @@ fn print<P: Print>(rt: &P, name: &str, found: Checked) -> io::Result<()> {
     println!(rt; "{name}: frames {frames}, refusal {number} at octet {at}")
 }
 
-// A line on standard error: what failed, and why. Where it cannot be written, there is nobody to be told.
-fn fail<P: Eprint>(rt: &P, what: &str, why: io::Error) {
-    let _ = eprintln!(rt; "{what}: {why}");
-}
-
 // The line of a reader's octets, or why they cannot be read.
 fn check_reader<P: Print + Eprint, R: Read + Drop>(rt: &P, mut from: R, name: &str) {
     let mut input = [0u8; 65536];
@@ -140,23 +134,7 @@ fn check_reader<P: Print + Eprint, R: Read + Drop>(rt: &P, mut from: R, name: &s
         Ok(p) => {
             let _ = print(rt, name, p.found);
         }
-        Err(why) => fail(rt, name, why),
-    }
-}
-
-// The file of this name, or why it cannot be opened.
-fn check_file<P: Files + Print + Eprint>(rt: &P, path: &str) {
-    match fs::open(rt, path) {
-        Ok(file) => check_reader(rt, file, path),
-        Err(why) => fail(rt, path, why),
-    }
-}
-
-// The file that an argument names. std takes a name as text.
-fn check_argument<P: Files + Print + Eprint>(rt: &P, name: &[u8]) {
-    match str::from_utf8(name) {
-        Ok(path) => check_file(rt, path),
-        Err(_) => fail(rt, "path", io::Error::from(io::ErrorKind::InvalidFilename)),
+        Err(why) => frame_files::fail(rt, name, why),
     }
 }
 
@@ -165,15 +143,5 @@ fn main(rt: HostRuntime) {
     if let Err(FillError::NotPresent) = rt.arg(1, &mut name) {
         check_reader(&rt, rt.stdin(), "standard input");
     }
-    for i in 1..usize::MAX {
-        match rt.arg(i, &mut name) {
-            Ok(length) => check_argument(&rt, &name[..length]),
-            Err(FillError::NotPresent) => return,
-            Err(FillError::TooLong) => fail(
-                &rt,
-                "path",
-                io::Error::from(io::ErrorKind::InvalidFilename),
-            ),
-        }
-    }
+    frame_files::for_each_file(&rt, |path, file| check_reader(&rt, file, path));
 }

@@ -1,8 +1,11 @@
 // STORED CLOSINGS: prints the closing of each file of frames that its arguments name, each under a line with the file's name.
 #![tactic(auto)]
 
-use frame_files::Program;
+use std::io;
 
 fn main(rt: HostRuntime) {
-    frame_files::run_files(&rt, Program::Closing);
+    frame_files::for_each_file(&rt, |path, mut file| {
+        let _ = println!(rt; "{path}");
+        frame_closing::close(&mut file, &mut io::writer(&rt));
+    });
 }

@@ -1,8 +1,11 @@
 // STORED RUNS OF THE KIT: prints the kit's run of each file of frames that its arguments name, each under a line with the file's name.
 #![tactic(auto)]
 
-use frame_files::Program;
+use std::io;
 
 fn main(rt: HostRuntime) {
-    frame_files::run_files(&rt, Program::Demo);
+    frame_files::for_each_file(&rt, |path, mut file| {
+        let _ = println!(rt; "{path}");
+        frame_stream::run_kit(&mut file, &mut io::writer(&rt));
+    });
 }

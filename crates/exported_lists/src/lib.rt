@@ -12,7 +12,7 @@ use ids::{CartNumber, Station};
 use lists::Reply;
 use refusals::Refusal;
 
-// A reply: the refusal, or 0; the message's number; how many octets its text has.
+// A reply: the refusal, or 0; the message's number; how many octets its text has. A `Result` does not cross to C.
 #[repr(C)]
 #[derive(Clone, Copy)]
 pub struct Said {

@@ -7,7 +7,7 @@ ghost use Rattle.exported_totals.specs.Numbers.{summed_of, terms_of};
 
 use totals::{CartResult, Tally, TotalsError};
 
-// What a sum or a join came to: the number of its refusal, or 0 and the totals.
+// What a sum or a join came to: the number of its refusal, or 0 and the totals. A `Result` does not cross to C.
 #[repr(C)]
 #[derive(Clone, Copy)]
 pub struct Summed {

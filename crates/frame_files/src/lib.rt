@@ -1,68 +1,36 @@
-// EACH FILE OF FRAMES that the program's arguments name: a line with its name, and behind it what a program prints for it. The stored runs are such files.
+// EACH FILE THAT THE PROGRAM'S ARGUMENTS NAME, for a program to read: a stored run is such a file, of frames.
 #![tactic(auto)]
 
 use std::env::{Env, FillError};
-use std::io::{Read, Write};
 use std::rt::Files;
 use std::{fs, io, str};
 
-// Which program it is that the file is an input of: `floor`, `demo`, `closing` or `training`.
-#[derive(Clone, Copy)]
-pub enum Program {
-    Floor,
-    Demo,
-    Closing,
-    Training,
-}
-
-// What that program prints for what a reader gives.
-fn run<R: Read, W: Write>(program: Program, from: &mut R, to: &mut W) {
-    match program {
-        Program::Floor => {
-            frame_stream::run(from, to);
-        }
-        Program::Demo => {
-            frame_stream::run_kit(from, to);
-        }
-        Program::Closing => {
-            frame_closing::close(from, to);
-        }
-        Program::Training => {
-            training_stream::run(from, to);
-        }
-    }
-}
-
 // A line on standard error: what failed, and why. Where it cannot be written, there is nobody to be told.
-fn fail<R: Eprint>(rt: &R, what: &str, why: io::Error) {
+pub fn fail<P: Eprint>(rt: &P, what: &str, why: io::Error) {
     let _ = eprintln!(rt; "{what}: {why}");
 }
 
-// One file, or why it cannot be read.
-fn run_file<R: Files + Print + Eprint>(rt: &R, program: Program, path: &str) {
+// The file that an argument names, or why it cannot be read. std takes a name as text.
+fn visit_file<P: Files + Eprint, F: Fn(&str, P::File)>(rt: &P, name: &[u8], visit: &F)
+    requires { F.IsAlwaysCallable visit.now }
+{
+    let Ok(path) = str::from_utf8(name) else {
+        return fail(rt, "path", io::Error::from(io::ErrorKind::InvalidFilename));
+    };
     match fs::open(rt, path) {
-        Ok(mut file) => {
-            let _ = println!(rt; "{path}");
-            run(program, &mut file, &mut io::writer(rt));
-        }
+        Ok(file) => visit(path, file),
         Err(why) => fail(rt, path, why),
     }
 }
 
-// The file that an argument names. std takes a name as text.
-fn run_argument<R: Files + Print + Eprint>(rt: &R, program: Program, name: &[u8]) {
-    match str::from_utf8(name) {
-        Ok(path) => run_file(rt, program, path),
-        Err(_) => fail(rt, "path", io::Error::from(io::ErrorKind::InvalidFilename)),
-    }
-}
-
 // All of them, in order.
-pub fn run_files<R: Env + Files + Print + Eprint>(rt: &R, program: Program) {
+pub fn for_each_file<P: Env + Files + Eprint, F: Fn(&str, P::File)>(rt: &P, visit: F)
+    requires { F.IsAlwaysCallable visit }
+{
     for i in 1..usize::MAX {
         let mut name = [0u8; 4096];
         match rt.arg(i, &mut name) {
-            Ok(length) => run_argument(rt, program, &name[..length]),
+            Ok(length) => visit_file(rt, &name[..length], &visit),
             Err(FillError::NotPresent) => return,
             Err(FillError::TooLong) => {
                 fail(rt, "path", io::Error::from(io::ErrorKind::InvalidFilename))

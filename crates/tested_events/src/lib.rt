@@ -16,7 +16,7 @@ ghost use Rattle.event_answers.specs.Answers.{answer_in};
 ghost use Rattle.event_answers.specs.Met.{Met};
 ghost use Rattle.event_answers.specs.Delivered.{Delivered};
 ghost use Rattle.dispatcher.specs.Called.{QuietMet};
-ghost use Rattle.reading.specs.Parts.{read_in, part_in, TextLent};
+ghost use Rattle.reading.specs.Parts.{read_in, TextLent};
 
 use event_answers::Answer;
 use ids::{CartNumber, MessageNumber, Station};
@@ -316,16 +316,6 @@ pub fn read(
     Err(Refusal::NotReady)
 }
 
-// The part that is lent back: "refused, it lends back the empty part".
-fn part_or_front(found: Result<Part, Refusal>) -> Part
-    ensures { result ≡ part_in found }
-{
-    match found {
-        Ok(part) => part,
-        Err(_) => reading::FRONT,
-    }
-}
-
 // THE READING CALL: "by initiator and number, lends back that text's own part of the short table or of the long store"; "refused, it lends back the empty
 // part at the front of the short table".
 pub fn text_of<'a>(
@@ -345,7 +335,7 @@ pub fn text_of<'a>(
     let found = read(
         stations, carts, messages, lines, texts, store, initiator, number, bounds,
     );
-    let part = part_or_front(found);
+    let part = reading::part_or_front(found);
     reading::lend(texts, store, part)
 }
 

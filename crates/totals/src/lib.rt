@@ -82,7 +82,7 @@ pub fn join(a: Tally, b: Tally) -> Result<Tally, TotalsError>
     })
 }
 
-// The greatest common divisor, by remainders.
+// The greatest common divisor, by remainders: no count is kept, so there is no range to go over.
 fn common_divisor(a: u64, b: u64) -> u64
     ensures { result ≡ gcd a b }
 {

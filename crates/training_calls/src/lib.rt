@@ -214,6 +214,7 @@ pub fn take_frames(
         frames: 0,
         state: Stop::Full,
     };
+    // No range to go over, as in `frame_run::take_frames`.
     while goes_on(p) {
         p = take_frame(
             input, calls, stations, carts, messages, lines, texts, store, bounds, numbers, p, last,

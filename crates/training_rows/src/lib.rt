@@ -33,7 +33,7 @@ const FROM: usize = 3;
 
 const SIZE: usize = 4;
 
-// The kinds; of no call it is 0.
+// The kinds; of no call it is 0. They are numbers, since they are words of a table; before and behind it stands `Option<Call>`.
 const NOTHING: u64 = 0;
 
 const START: u64 = 1;
