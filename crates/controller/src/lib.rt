@@ -392,3 +392,128 @@ pub fn text_refusal<P: Product>(
         P::bounds(),
     )
 }
+
+#[cfg(test)]
+mod tests {
+    use super::*;
+    use products::{Kit, WholeFloor};
+
+    // Lengths go by the product: a floor of the kit's lengths starts as a kit, and not as the whole floor.
+    #[test]
+    fn starts_by_its_lengths(rt: HostRuntime) {
+        let mut stations = [0u64; 580];
+        let mut carts = [0u64; 152];
+        let mut messages = [0u64; 56];
+        let mut lines = [0u64; 2250];
+        let texts = [0u8; 256];
+        let store = [0u8; 4096];
+        let floor = start::<WholeFloor>(
+            &mut stations,
+            &mut carts,
+            &mut messages,
+            &mut lines,
+            &texts,
+            &store,
+            4,
+            8,
+        );
+        assert!(rt; floor.is_err());
+        let kit = start::<Kit>(
+            &mut stations,
+            &mut carts,
+            &mut messages,
+            &mut lines,
+            &texts,
+            &store,
+            4,
+            8,
+        );
+        assert!(rt; kit.is_ok());
+    }
+
+    // Where nothing is lent, each call is refused, whatever it is handed.
+    #[test]
+    fn carts_without_a_floor(rt: HostRuntime) {
+        let here = Station(0);
+        let cart = CartNumber(0);
+        assert!(rt; enter::<Kit>(&mut [], &mut [], &[], &[], &[], &[], here, cart).is_err());
+        assert!(rt; move_cart::<Kit>(&[], &mut [], &[], &mut [], &[], &[], cart, here).is_err());
+        assert!(rt; flag_cart::<Kit>(&[], &mut [], &[], &[], &[], &[], cart, true).is_err());
+        assert!(rt; retire::<Kit>(&mut [], &mut [], &[], &[], &[], &[], cart).is_err());
+        assert!(rt; define_group::<Kit>(&mut [], &[], &[], &[], &[], &[], 0, 1).is_err());
+    }
+
+    #[test]
+    fn messages_without_a_floor(rt: HostRuntime) {
+        let here = Station(0);
+        let cart = CartNumber(0);
+        assert!(rt;
+            send::<Kit>(
+                &mut [],
+                &[],
+                &mut [],
+                &mut [],
+                &mut [],
+                &[],
+                here,
+                1,
+                b"stop"
+            )
+            .is_err()
+        );
+        assert!(rt;
+            send_group::<Kit>(
+                &mut [],
+                &[],
+                &mut [],
+                &mut [],
+                &mut [],
+                &[],
+                here,
+                0,
+                b"stop"
+            )
+            .is_err()
+        );
+        assert!(rt;
+            send_long::<Kit>(
+                &mut [],
+                &[],
+                &mut [],
+                &mut [],
+                &[],
+                &mut [],
+                here,
+                1,
+                &[0u8; 33]
+            )
+            .is_err()
+        );
+        assert!(rt; wire::<Kit>(&mut [], &mut [], &mut [], &mut [], &[], &[], here, here).is_err());
+        assert!(rt;
+            radio::<Kit>(
+                &mut [],
+                &mut [],
+                &[],
+                &mut [],
+                &[],
+                &[],
+                here,
+                cart,
+                &mut []
+            )
+            .is_err()
+        );
+        assert!(rt; quiet::<Kit>(&mut [], &mut [], &mut [], &mut [], &[], &[], &mut []).is_err());
+    }
+
+    #[test]
+    fn texts_without_a_floor(rt: HostRuntime) {
+        let number = MessageNumber(0);
+        assert_eq!(rt;
+            text_of::<Kit>(&[], &[], &[], &[], &[], &[], Station(0), number).len(),
+            0
+        );
+        assert!(rt; text_refusal::<Kit>(&[], &[], &[], &[], &[], &[], Station(0), number).is_err());
+    }
+}
