@@ -8,11 +8,12 @@ use native.Mathlib.Omega.{arith}
 use lib.Dec.{ltb}
 use lib.ListN.{get_or, length, length-append, take}
 use borrow.Author.Tests.{le-ltb, lt-ltb}
+use borrow.Table.Steps.{cases}
 use Rattle.std.specs.Prelude.{Ok, Err}
 use Rattle.totals.specs.declared.CartResult.{CartResult}
 use Rattle.totals.specs.declared.Tally.{Tally}
 use Rattle.totals.specs.declared.TotalsError.TheVariants.{TooLong}
-use Rattle.totals.specs.Totals.{InRange, added, counted, joined, joined_if_both, most_counted, most_results, most_total, nothing, sum_of, too_large, totals_of}
+use Rattle.totals.specs.Totals.{InRange, added, counted, joined, joined_if_both, most_counted, most_results, most_total, nothing, sum_of, too_large, Totalled, totals_of}
 use Rattle.totals.proofs.Joins.{added_assoc, added_comm, added_nothing, fits, neither_too_large}
 
 nothing_added : (A : Tally) → added nothing A ≡ A
@@ -100,5 +101,16 @@ take_all [] = refl
 take_all (r ∷ l) = ap (λ (k : List CartResult). r ∷ k) (take_all l)
 
 -- where the walk ends, the answer is the written one
-pub walk_ends : (l : List CartResult) (A : Tally) → length l ≤ most_results → Walked l (length l) A → Ok A ≡ totals_of l
-walk_ends l A n w = ap Ok (w.is ∙ ap sum_of (take_all l)) ∙ sym (short_list l n)
+pub walk_answers : (l : List CartResult) (A : Tally) → length l ≤ most_results → Walked l (length l) A → Ok A ≡ totals_of l
+walk_answers l A n w = ap Ok (w.is ∙ ap sum_of (take_all l)) ∙ sym (short_list l n)
+
+-- so it is of any list, where none of one that is too long is counted and 22 is answered
+pub walk_ends : (l : List CartResult) (t : ℕ) (A : Tally) (r : Totalled) → t ≡ cond (ltb most_results (length l)) 0 (length l) → Walked l t A
+    → r ≡ cond (ltb most_results (length l)) (Err TooLong) (Ok A) → r ≡ totals_of l
+unfolding totals_of
+walk_ends l t A r et w er =
+    cases (ltb most_results (length l))
+    (λ b. let y : r ≡ Err TooLong = rw b at er in rw b y)
+    (λ b. let z : t ≡ length l = rw b at et in
+    let y : r ≡ Ok A = rw b at er in
+    rw b (y ∙ ap Ok (w.is ∙ ap (λ (n : ℕ). sum_of (take n l)) z ∙ ap sum_of (take_all l))))

@@ -3,7 +3,7 @@ use mathlib.Core.Path.{◌≡◌, sym}
 use Prim.Native.Nat.{◌+◌}
 use lib.ListN.{length}
 use native.Mathlib.Omega.{arith}
-use Rattle.totals.proofs.Sums.{long_list, walk_goes_on, walk_ends}
+use Rattle.totals.proofs.Sums.{long_list, walk_goes_on, walk_answers}
 use Rattle.totals.proofs.sum.Goals as goal
 
 pub returns-then-results-gt-MOST_RESULTS : goal.returns-then-results-gt-MOST_RESULTS
@@ -17,4 +17,4 @@ loop-res-preserved c =
 pub returns : goal.returns
 returns c =
     let e : c.loop-res.res-index ≡ length c.args.results.now = omega arith in
-    walk_ends c.args.results.now c.loop-res.totals (omega arith) (rw e at c.loop-res.invariant)
+    walk_answers c.args.results.now c.loop-res.totals (omega arith) (rw e at c.loop-res.invariant)
