@@ -136,7 +136,7 @@ fn is_right(
     requires { WholeRooms messages.now × (k * 19 ≤ length carts.now) × (rows_at ≤ length lines.now) × (k ≤ 64) × (j < 16) }
     ensures { (n : ℕ) → result ≡ right n k (carts_in carts.now) (rooms_in messages.now) (registers_in lines.now) i j (said r) }
 {
-    let Some(kind) = view::kind_of(r) else {
+    let Some(kind) = view::kind_said(r) else {
         return false;
     };
     let index = view::index_of(r);
@@ -239,7 +239,7 @@ fn take(masks: &mut [u64], way: Way, right: bool, r: Record) -> Way
     ensures masks_after { met_of result masks.new ≡ outcome (right && fresh (met_of way masks.old) (said r)) (met_of way masks.old) (said r) }
     ensures masks_len_unchanged { length masks.new ≡ length masks.old }
 {
-    let Some(kind) = view::kind_of(r) else {
+    let Some(kind) = view::kind_said(r) else {
         return failed(way);
     };
     let index = view::index_of(r);

@@ -92,11 +92,18 @@ pub fn register(cart: CartNumber) -> Record
     Record(word_of(Kind::Register, cart.0, 0), 0)
 }
 
+// The number that a record's word has for its kind, also where it is none of the five.
+pub fn kind_of(said: Record) -> u64
+    ensures { result ≡ kind_of said.0 }
+{
+    said.0 % INDEX
+}
+
 // Which of the five a record is, if any.
-pub fn kind_of(said: Record) -> Option<Kind>
+pub fn kind_said(said: Record) -> Option<Kind>
     ensures { result ≡ kind_said (kind_of said.0) }
 {
-    match said.0 % INDEX {
+    match kind_of(said) {
         1 => Some(Kind::Multicast),
         2 => Some(Kind::AckList),
         3 => Some(Kind::Delete),
@@ -110,7 +117,7 @@ pub fn kind_of(said: Record) -> Option<Kind>
 pub fn is_of(said: Record, kind: Kind) -> bool
     ensures { result ≡ eqb (kind_of said.0) (number_said kind) }
 {
-    said.0 % INDEX == kind.number()
+    kind_of(said) == kind.number()
 }
 
 // The room of its message, or its cart.
