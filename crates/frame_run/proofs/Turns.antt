@@ -1,6 +1,6 @@
 -- ONE FRAME OF THE RUN: from the state of a run to the state of the run with one frame more.
 use mathlib.Core.Path.{◌≡◌, refl, sym, ap, ap₂, ◌∙◌, subst}
-use mathlib.Core.Bool.{Bool, true, false, not, cond, ◌&&◌}
+use mathlib.Core.Bool.{Bool, true, false, not, cond, ◌&&◌, ◌||◌}
 use mathlib.Core.List.{List, ◌++◌}
 use Prim.{tt}
 use Prim.Native.Nat.{ℕ, suc, ◌+◌, ◌≤◌}
@@ -49,8 +49,8 @@ took index L L' out out' p r e size a R met line read frames state =
     }
 
 -- IS A REFUSED FRAME ONLY NOT WHOLE YET: what the code asks of its refusal
-abbrev pub none_whole : Refusal → Bool → Bool
-none_whole refusal last = eqb (number_of refusal) 1 && not last
+abbrev pub none_whole : ℕ → Bool → Bool
+none_whole number last = eqb number 0 || (eqb number 1 && not last)
 
 -- THE STATE OF A RUN, one line further
 module _ (R : Ran) (L L' : Lent) (out₀ out out' : List ℕ) (p r : Progress) (most : ℕ) (line : List ℕ) (now_in : InRun R L out₀ out p)
@@ -169,6 +169,9 @@ module _ (Kept : Lent → Type 0) (input : List ℕ) (index : ℕ) (last : Bool)
         ends = λ z. absurd (let a = t.state in omega arith);
       }
 
+number_some : (r : Refusal) → number_of r ≡ 0 → ⊥
+number_some r z = grind arith
+
 -- WHAT THE DECODER SAID of the frame there
 module _ (input : List ℕ) (at : ℕ) (last : Bool) (said : Result (Option Event) Refusal) (read : reading_in (drop at input) said ≡ read_at limits input at) where
   there : (x : Result (Option Event) Refusal) → said ≡ x → reading_in (drop at input) x ≡ read_at limits input at
@@ -177,16 +180,20 @@ module _ (input : List ℕ) (at : ℕ) (last : Bool) (said : Result (Option Even
   pub end_there : said ≡ Ok None → NoneWhole last (read_at limits input at)
   end_there q = subst (NoneWhole last) (there (Ok None) q) tt
 
-  module _ (refusal : Refusal) (q : said ≡ Err refusal) (b : Bool) (is : b ≡ none_whole refusal last) where
+  module _ (refusal : Refusal) (q : said ≡ Err refusal) (number : ℕ) (its : number ≡ number_of refusal) (b : Bool) (is : b ≡ none_whole number last) where
+    -- a refusal has a number, so what is not whole is cut short
+    of_cut : b ≡ (eqb (number_of refusal) 1 && not last)
+    of_cut = subst (λ (n : ℕ). b ≡ none_whole n last) its is ∙ ap (λ (x : Bool). x || (eqb (number_of refusal) 1 && not last)) (ne_eqb (number_of refusal) 0 (number_some refusal))
+
     pub cut_there : b ≡ true → NoneWhole last (read_at limits input at)
     cut_there t =
-        let cut : none_whole refusal last ≡ true = sym is ∙ t in
+        let cut : (eqb (number_of refusal) 1 && not last) ≡ true = sym of_cut ∙ t in
         subst (NoneWhole last) (there (Err refusal) q) (eqb-true (number_of refusal) 1 (and_left (eqb (number_of refusal) 1) (not last) cut), not-true last (and_right (eqb (number_of refusal) 1) (not last) cut))
 
-    pub refused_there : b ≡ false → (read_at limits input at ≡ refused_frame (number_of refusal)) × (number_of refusal ≡ 1 → last ≡ true)
+    pub refused_there : b ≡ false → (read_at limits input at ≡ refused_frame number) × (number ≡ 1 → last ≡ true)
     refused_there f = (
-      sym (there (Err refusal) q),
-      λ one. not-false last (ap (λ (x : Bool). x && not last) (sym (eq-eqb (number_of refusal) 1 one)) ∙ sym is ∙ f),
+      sym (there (Err refusal) q) ∙ ap refused_frame (sym its),
+      λ one. not-false last (ap (λ (x : Bool). x && not last) (sym (eq-eqb (number_of refusal) 1 (sym its ∙ one))) ∙ sym of_cut ∙ f),
     )
 
   pub taken_there : (e : Event) → said ≡ Ok (Some e) → read_at limits input at ≡ taken (event_in (drop at input) e) (size_of e)

@@ -26,6 +26,9 @@ use reports::Report;
 // "Sixteen octets".
 const FRAME: usize = 16;
 
+// The number of a frame that is cut short.
+const CUT: u64 = 1;
+
 // An event that was accepted: its report, and, of a radio step, which room's text was handed over and how many octets it has.
 #[derive(Clone, Copy)]
 pub struct Done {
@@ -271,14 +274,14 @@ pub fn waiting(p: Progress) -> Progress
     }
 }
 
-// Is a frame that is refused only not whole yet? It is cut short at the end of the piece, where more input may come.
-pub fn none_whole(refusal: Refusal, last: bool) -> bool
-    ensures { result ≡ (eqb (number_of refusal) 1 && not last) }
+// Is no whole frame there? No octet is left, which has no refusal; or the frame is cut short at the end of the piece, where more input may come.
+pub fn none_whole(number: u64, last: bool) -> bool
+    ensures { result ≡ (eqb number 0 || (eqb number 1 && not last)) }
 {
-    match refusal {
-        Refusal::CutShort => !last,
-        _ => false,
+    if number == 0 {
+        return true;
     }
+    number == CUT && !last
 }
 
 // The event of a frame, and its line.
@@ -316,12 +319,12 @@ fn take_event(
 }
 
 // The line of a frame that is refused, which ends the run.
-pub fn refuse(output: &mut [u8], index: u64, p: Progress, refusal: Refusal) -> Progress
+pub fn refuse(output: &mut [u8], index: u64, p: Progress, number: u64) -> Progress
     requires { (p.written + line_room ≤ length output.old) × (p.frames + 1 < 18446744073709551616) }
-    ensures wrote { Wrote longest_refusal (line_of index (refused (number_of refusal))) output.old output.new p.written result.written }
+    ensures wrote { Wrote longest_refusal (line_of index (refused number)) output.old output.new p.written result.written }
     ensures read_value { (result.read ≡ p.read) × (result.frames ≡ p.frames + 1) × (result.state ≡ Ended) }
 {
-    let written = frame_lines::put_refusal(output, p.written, index, refusal.number());
+    let written = frame_lines::put_refusal(output, p.written, index, number);
     Progress {
         read: p.read,
         written,
@@ -359,10 +362,11 @@ fn take_frame(
         ),
         Ok(None) => waiting(p),
         Err(refusal) => {
-            if none_whole(refusal, last) {
+            let number = refusal.number();
+            if none_whole(number, last) {
                 return waiting(p);
             }
-            refuse(output, index, p, refusal)
+            refuse(output, index, p, number)
         }
     }
 }

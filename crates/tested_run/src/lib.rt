@@ -81,10 +81,11 @@ fn refuse_frame(
         }
         Ok(None) => frame_run::waiting(p),
         Err(refusal) => {
-            if frame_run::none_whole(refusal, last) {
+            let number = refusal.number();
+            if frame_run::none_whole(number, last) {
                 return frame_run::waiting(p);
             }
-            frame_run::refuse(output, index, p, refusal)
+            frame_run::refuse(output, index, p, number)
         }
     }
 }

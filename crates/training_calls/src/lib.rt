@@ -171,7 +171,8 @@ fn take_frame(
         }
         Ok(None) => frame_run::waiting(p),
         Err(refusal) => {
-            if frame_run::none_whole(refusal, last) {
+            let number = refusal.number();
+            if frame_run::none_whole(number, last) {
                 return frame_run::waiting(p);
             }
             put_row(calls, p, refused_frame(), Stop::Ended)

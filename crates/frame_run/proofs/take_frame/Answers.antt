@@ -13,13 +13,13 @@ returns-then-none_whole c =
     let f = c.frame_at in
     let a = c.args in
     λ P n R. turned_waits Ready a.input.now a.index a.last (lent P a.stations.now a.carts.now a.messages.now a.lines.now a.texts.now a.store.now) a.output.now a.p R (ap stop_number c.requires.state_value.0) c.requires.state_value.1 c.requires.state_value.2 c.requires.frames_le_read.0 _
-    c.waiting-then-none_whole.ensures (cut_there a.input.now a.p.read a.last f.result f.ensures _ c.in-Err.is _ c.none_whole.ensures c.if-none_whole.true)
+    c.waiting-then-none_whole.ensures (cut_there a.input.now a.p.read a.last f.result f.ensures _ c.in-Err.is _ c.number-number.ensures _ c.none_whole.ensures c.if-none_whole.true)
 
 pub returns-else-none_whole : goal.returns-else-none_whole
 returns-else-none_whole c =
     let f = c.frame_at in
     let a = c.args in
-    let t = refused_there a.input.now a.p.read a.last f.result f.ensures _ c.in-Err.is _ c.none_whole.ensures c.if-none_whole.false in
+    let t = refused_there a.input.now a.p.read a.last f.result f.ensures _ c.in-Err.is _ c.number-number.ensures _ c.none_whole.ensures c.if-none_whole.false in
     let r = c.refuse.ensures in
     λ P n R. turned_refused Ready a.input.now a.index a.last (lent P a.stations.now a.carts.now a.messages.now a.lines.now a.texts.now a.store.now) a.output.now a.p R (ap stop_number c.requires.state_value.0) c.requires.state_value.1 c.requires.state_value.2 c.requires.frames_le_read.0 _ _ _
     t.0 r.wrote r.read_value t.1

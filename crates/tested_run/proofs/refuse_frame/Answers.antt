@@ -16,7 +16,7 @@ returns-then-none_whole c =
     let f = c.frame_at in
     record {
       turned_on = λ L k. turned_waits (Stuck a.lengths) a.input.now a.index a.last L a.output.now a.p k (ap stop_number c.requires.state_value.0) c.requires.state_value.1 c.requires.state_value.2 c.requires.frames_le_read.0 _
-          c.waiting-then-none_whole.ensures (cut_there a.input.now a.p.read a.last f.result f.ensures _ c.in-Err.is _ c.none_whole.ensures c.if-none_whole.true);
+          c.waiting-then-none_whole.ensures (cut_there a.input.now a.p.read a.last f.result f.ensures _ c.in-Err.is _ c.number-number.ensures _ c.none_whole.ensures c.if-none_whole.true);
       output_len_unchanged = refl;
     }
 
@@ -24,7 +24,7 @@ pub returns-else-none_whole : goal.returns-else-none_whole
 returns-else-none_whole c =
     let a = c.args in
     let f = c.frame_at in
-    let t = refused_there a.input.now a.p.read a.last f.result f.ensures _ c.in-Err.is _ c.none_whole.ensures c.if-none_whole.false in
+    let t = refused_there a.input.now a.p.read a.last f.result f.ensures _ c.in-Err.is _ c.number-number.ensures _ c.none_whole.ensures c.if-none_whole.false in
     let r = c.refuse.ensures in
     record {
       turned_on = λ L k. turned_refused (Stuck a.lengths) a.input.now a.index a.last L a.output.now a.p k (ap stop_number c.requires.state_value.0) c.requires.state_value.1 c.requires.state_value.2 c.requires.frames_le_read.0 _ _ _

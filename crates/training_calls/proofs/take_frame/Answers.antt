@@ -15,7 +15,7 @@ returns-then-none_whole c =
     let f = c.frame_at in
     let a = c.args in
     λ P n R. turned_waits a.input.now a.last (lent P a.stations.now a.carts.now a.messages.now a.lines.now a.texts.now a.store.now) a.calls.now a.p R (ap stop_number c.requires.state_value.0) c.requires.state_value.1 c.requires.state_value.2 _
-    c.waiting-then-none_whole.ensures (cut_there a.input.now a.p.read a.last f.result f.ensures _ c.in-Err.is _ c.none_whole.ensures c.if-none_whole.true)
+    c.waiting-then-none_whole.ensures (cut_there a.input.now a.p.read a.last f.result f.ensures _ c.in-Err.is _ c.number-number.ensures _ c.none_whole.ensures c.if-none_whole.true)
 
 pub put_row-requires-in-Err : goal.put_row-requires-in-Err
 put_row-requires-in-Err c =
@@ -26,7 +26,7 @@ pub returns-else-none_whole : goal.returns-else-none_whole
 returns-else-none_whole c =
     let f = c.frame_at in
     let a = c.args in
-    let t = refused_there a.input.now a.p.read a.last f.result f.ensures _ c.in-Err.is _ c.none_whole.ensures c.if-none_whole.false in
+    let t = refused_there a.input.now a.p.read a.last f.result f.ensures _ c.in-Err.is _ c.number-number.ensures _ c.none_whole.ensures c.if-none_whole.false in
     let m = c.refused_frame in
     let r = c.put_row-in-Err in
     λ P n R. refused_row a.input.now a.last (lent P a.stations.now a.carts.now a.messages.now a.lines.now a.texts.now a.store.now) a.calls.now a.p R (ap stop_number c.requires.state_value.0) c.requires.state_value.1 c.requires.state_value.2 _ r.result m.result _
