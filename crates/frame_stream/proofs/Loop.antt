@@ -1,13 +1,13 @@
 -- THE TURNS OF A RUN, one after the other: what holds before each turn.
 use mathlib.Core.Path.{◌≡◌, refl, sym, ap, ◌∙◌, subst}
-use mathlib.Core.Bool.{Bool, true, false, ◌&&◌}
+use mathlib.Core.Bool.{Bool, true, false, not, ◌&&◌}
 use mathlib.Core.List.{List, [], ◌∷◌, ◌++◌}
 use mathlib.Core.Logic.{◌⊎◌, inl, inr, ⊎_elim}
 use Prim.Native.Nat.{ℕ, ◌+◌, ◌-◌, ◌<◌}
 use native.Mathlib.Omega.{arith}
-use lib.Dec.{ltb}
+use lib.Dec.{eqb, ltb}
 use lib.ListN.{length, length-append}
-use borrow.Author.Tests.{ltb-true, ltb-false}
+use borrow.Author.Tests.{ltb-true, ltb-false, ne_eqb}
 use Rattle.protocol.specs.Floor.{Product, Floor}
 use Rattle.protocol.proofs.Tests.{by_test, and_left, and_right, clash}
 use Rattle.view.specs.View.{Lent, floor_in}
@@ -51,16 +51,20 @@ came_next P F S S' octets turns more k m e =
       counted = let c = k.counted in let z = length-append ts (m.turn ∷ []) in omega arith;
     }
 
--- IS ANYTHING MORE TO BE DONE: what the code asks
+-- IS ANYTHING MORE TO BE DONE
 abbrev pub going : Feed → Bool
 going f = ltb f.index 9223372036854775808 && ltb (state_number f.state) 2
 
-pub goes : (f : Feed) (b : Bool) → b ≡ going f → b ≡ true → (f.index < 9223372036854775808) × (state_number f.state < 2)
-goes f b e t =
-    let both : going f ≡ true = sym e ∙ t in (
+-- and so many turns are left: what the code asks
+pub goes : (left : ℕ) (f : Feed) (b : Bool) → b ≡ (not (eqb left 0) && going f) → b ≡ true → (f.index < 9223372036854775808) × (state_number f.state < 2)
+goes left f b e t =
+    let both : going f ≡ true = and_right (not (eqb left 0)) (going f) (sym e ∙ t) in (
       ltb-true f.index 9223372036854775808 (and_left (ltb f.index 9223372036854775808) (ltb (state_number f.state) 2) both),
       ltb-true (state_number f.state) 2 (and_right (ltb f.index 9223372036854775808) (ltb (state_number f.state) 2) both),
     )
+
+pub goes_no_more : (left : ℕ) (f : Feed) (b : Bool) → b ≡ (not (eqb left 0) && going f) → b ≡ false → (left ≡ 0 → ⊥) → going f ≡ false
+goes_no_more left f b e t some = ap (λ (x : Bool). not x && going f) (sym (ne_eqb left 0 some)) ∙ sym e ∙ t
 
 -- a run stops where nothing is to be done, or after the last turn that is counted
 abbrev pub Stopped : ℕ → Feed → Type 0

@@ -3,7 +3,7 @@
 // and `hand_on`. All the others are about slices and numbers, and what they come to is the written stream (specs/Stream).
 #![tactic(auto)]
 
-ghost use Rattle.std.specs.Prelude.{◌≡◌, false, not, ◌&&◌, [], ◌+◌, ◌^◌, ◌≤◌, ◌<◌, eqb, ltb, IfSome, length, take};
+ghost use Rattle.std.specs.Prelude.{◌≡◌, false, not, ◌&&◌, [], ◌+◌, ◌^◌, ◌≤◌, ◌<◌, eqb, ltb, IfOk, OnErr, IfSome, Some, None, length, take};
 ghost use Rattle.stations.specs.View.{head_in};
 ghost use Rattle.frame_lines.specs.Lines.{Tabled};
 ghost use Rattle.protocol.specs.Floor.{whole_floor, kit};
@@ -15,7 +15,7 @@ ghost use Rattle.frame_stream.specs.Feed.{state_number, Inside, stream_of, Made,
 
 use frame_run::{Progress, Stop};
 use products::Bounds;
-use std::io::{Read, Write};
+use std::io::{Read, Result, Write};
 
 // What a stream is to do.
 #[derive(Clone, Copy, Debug, PartialEq, Eq)]
@@ -90,11 +90,20 @@ struct Got {
     room: usize,
 }
 
+// What a read's answer says: how many octets it brought, or that it failed, which is not the end of the input.
+fn brought_by(answer: Result<usize>) -> Option<usize>
+    ensures brought { IfOk answer (λ n. result ≡ Some n) }
+    ensures failed { OnErr answer (result ≡ None) }
+{
+    answer.ok()
+}
+
 // One read, into the rest of the piece.
 fn read<R: Read>(from: &mut R, rest: &mut [u8]) -> Got
-    ensures { (result.room ≡ length rest.old) × IfSome result.brought (λ n. n ≤ result.room) }
+    ensures room_value { (result.room ≡ length rest.old) × IfSome result.brought (λ n. n ≤ result.room) }
+    ensures rest_len_unchanged { length rest.new ≡ length rest.old }
 {
-    let brought = from.read(rest).ok();
+    let brought = brought_by(from.read(rest));
     Got {
         brought,
         room: rest.len(),
@@ -259,10 +268,13 @@ fn turn<R: Read, W: Write>(
     }
 }
 
-// Is there anything more to be done?
-pub fn goes_on(f: Feed) -> bool
-    ensures { result ≡ (ltb f.index 9223372036854775808 && ltb (state_number f.state) 2) }
+// Is there anything more to be done, and a turn left to do it?
+pub fn goes_on(turns: u64, f: Feed) -> bool
+    ensures { result ≡ (not (eqb turns 0) && (ltb f.index 9223372036854775808 && ltb (state_number f.state) 2)) }
 {
+    if turns == 0 {
+        return false;
+    }
     match f.state {
         State::Runs | State::Wants => f.index < FRAMES,
         State::Over | State::Failed => false,
@@ -306,7 +318,7 @@ pub fn run_all<R: Read, W: Write>(
     };
     // A proved loop has to end, and nothing says that the input does: so turns are counted, up to a number that no run comes to.
     for made in 0..u64::MAX {
-        if !goes_on(f) {
+        if !goes_on(u64::MAX - made, f) {
             break;
         }
         f = turn(

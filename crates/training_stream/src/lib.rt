@@ -150,7 +150,7 @@ fn run_all<R: Read, W: Write>(
     };
     // A proved loop has to end, and nothing says that the input does: so turns are counted, up to a number that no run comes to.
     for made in 0..u64::MAX {
-        if !frame_stream::goes_on(f) {
+        if !frame_stream::goes_on(u64::MAX - made, f) {
             break;
         }
         f = turn(

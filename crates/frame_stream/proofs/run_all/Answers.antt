@@ -3,7 +3,7 @@ use native.Mathlib.Omega.{arith}
 use Rattle.view.specs.View.{lent, floor_in}
 use Rattle.frame_run.proofs.Loop.{same_stations, same_carts, same_messages, same_lines, same_texts, same_store}
 use mathlib.Core.Logic.{inl, inr}
-use Rattle.frame_stream.proofs.Loop.{came_first, came_next, goes, Stopped, ran_all}
+use Rattle.frame_stream.proofs.Loop.{came_first, came_next, goes, goes_no_more, Stopped, ran_all}
 use Rattle.frame_stream.proofs.run_all.Goals.{else-loop-made-test, then-loop-made-test+then-not-goes_on}
 use Rattle.frame_stream.proofs.run_all.Goals as goal
 
@@ -15,7 +15,7 @@ loop-made-init g c =
 pub turn-f-requires : goal.turn-f-requires
 turn-f-requires g c =
     let l = c.loop-made in
-    let g = goes l.f _ c.goes_on.ensures c.if-not-goes_on.false in
+    let g = goes _ l.f _ c.goes_on.ensures c.if-not-goes_on.false in
     let i = l.invariant in
     let w = c.requires.0.1 in
     record {
@@ -26,7 +26,7 @@ turn-f-requires g c =
 pub loop-made-preserved : goal.loop-made-preserved
 loop-made-preserved g c =
     let l = c.loop-made in
-    let g = goes l.f _ c.goes_on.ensures c.if-not-goes_on.false in
+    let g = goes _ l.f _ c.goes_on.ensures c.if-not-goes_on.false in
     let i = l.invariant in
     let t = c.turn-f.ensures in
     (λ P n R. (let x = i.0 P n R in let y = t.by_each P n x.0 in (y.0, came_next P _ _ _ _ l.made _ x.1 y.1 refl)), t.inside_2, t.input_len_unchanged.0 ∙ i.2, t.input_len_unchanged.1 ∙ i.3)
@@ -81,6 +81,6 @@ returns g c =
     let l = c.loop-made in
     let stop : Stopped l.made l.f = elim c.loop-made-test.branch [
       | else-loop-made-test w ↦ inl (omega (arith, w.loop-made-test.false, l.auto.made-end))
-      | then-loop-made-test+then-not-goes_on w ↦ inr (sym w.goes_on.ensures ∙ w.if-not-goes_on.true)
+      | then-loop-made-test+then-not-goes_on w ↦ inr (goes_no_more _ l.f _ w.goes_on.ensures w.if-not-goes_on.true (λ z. omega (arith, w.loop-made-test.true, l.auto.made-end)))
     ] in
     λ P n R. ran_all _ _ l.input l.made l.f _ (l.invariant.0 P n R).0 l.invariant.1 (l.invariant.0 P n R).1 refl stop

@@ -2,7 +2,7 @@ use mathlib.Core.Path.{refl, sym, ◌∙◌}
 use native.Mathlib.Omega.{arith}
 use Rattle.view.specs.View.{floor_in}
 use mathlib.Core.Logic.{inl, inr}
-use Rattle.frame_stream.proofs.Loop.{goes, Stopped}
+use Rattle.frame_stream.proofs.Loop.{goes, goes_no_more, Stopped}
 use Rattle.lists.proofs.Facts.{lengths_of}
 use Rattle.training_stream.specs.Memory.{lent_in}
 use Rattle.training_stream.proofs.Loop.{came_first, came_next, bench_ran}
@@ -17,7 +17,7 @@ loop-made-init g c =
 pub turn-f-requires : goal.turn-f-requires
 turn-f-requires g c =
     let l = c.loop-made in
-    let g = goes l.f _ c.goes_on.ensures c.if-not-goes_on.false in
+    let g = goes _ l.f _ c.goes_on.ensures c.if-not-goes_on.false in
     let i = l.invariant in
     record {
       ready = (i.0, i.1, c.requires.ready.2);
@@ -57,6 +57,6 @@ returns g c =
     let l = c.loop-made in
     let stop : Stopped l.made l.f = elim c.loop-made-test.branch [
       | else-loop-made-test w ↦ inl (omega (arith, w.loop-made-test.false, l.auto.made-end))
-      | then-loop-made-test+then-not-goes_on w ↦ inr (sym w.goes_on.ensures ∙ w.if-not-goes_on.true)
+      | then-loop-made-test+then-not-goes_on w ↦ inr (goes_no_more _ l.f _ w.goes_on.ensures w.if-not-goes_on.true (λ z. omega (arith, w.loop-made-test.true, l.auto.made-end)))
     ] in
     bench_ran (floor_in (lent_in c.args.floor.now)) l.floor l.input _ l.made l.f _ l.invariant.3 l.invariant.2 refl stop
