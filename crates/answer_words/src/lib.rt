@@ -19,8 +19,8 @@ pub fn too_few(out: &[u64]) -> bool
     out.len() < WORDS
 }
 
-// Eight words, at the front of the lent ones: their order and their numbers are the C interface.
-fn put_words(
+// Eight words, at the front of the lent ones, of any number of a refusal: their order and their numbers are the C interface.
+pub fn put_words(
     out: &mut [u64],
     refusal: u64,
     kind: u64,
@@ -45,7 +45,9 @@ fn put_words(
     out[7] = size;
 }
 
-// The words of an answer: the refusal's number, or 0; "kind, a, b, p, w", q; how many octets of text.
+// The words of an answer: the refusal's number, or 0; "kind, a, b, p, w", q; how many octets of text. Inlined, since the answer goes through memory
+// to a function of its own, which costs a C name's call up to a third more.
+#[inline]
 pub fn put_answer_words(out: &mut [u64], answer: Answer)
     requires { 8 ≤ length out.old }
     ensures out_after { out.new ≡ answer_words out.old answer }
@@ -72,8 +74,8 @@ pub fn put_answer_words(out: &mut [u64], answer: Answer)
     }
 }
 
-// Two words, at the front of the lent ones.
-fn put_two(out: &mut [u64], first: u64, second: u64)
+// Two words, at the front of the lent ones: any number of a refusal, or 0, and the number of steps.
+pub fn put_two(out: &mut [u64], first: u64, second: u64)
     requires { 2 ≤ length out.old }
     ensures out_after { out.new ≡ set (set out.old 0 first) 1 second }
     ensures out_len_unchanged { length out.new ≡ length out.old }
@@ -97,8 +99,8 @@ pub fn put_quiet_words(out: &mut [u64], quiet: Result<u64, Refusal>)
     }
 }
 
-// Four words, at the front of the lent ones: a refusal's number, or 0, and a part.
-fn put_part(out: &mut [u64], refusal: u64, part: Part)
+// Four words, at the front of the lent ones: any number of a refusal, or 0, and a part.
+pub fn put_part(out: &mut [u64], refusal: u64, part: Part)
     requires { 4 ≤ length out.old }
     ensures out_after { out.new ≡ part_row out.old refusal part }
     ensures out_len_unchanged { length out.new ≡ length out.old }
