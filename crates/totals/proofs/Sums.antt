@@ -1,5 +1,5 @@
 -- SUMS OF LISTS, and what the walk over a lent list keeps.
-use mathlib.Core.Path.{◌≡◌, ap, ap₂, refl, sym, ◌∙◌}
+use mathlib.Core.Path.{◌≡◌, ap, ap₂, refl, sym, ◌∙◌, subst}
 use mathlib.Core.Bool.{false, cond}
 use mathlib.Core.List.{List, [], ◌∷◌, ◌++◌}
 use Prim.Native.Nat.{ℕ, zero, suc, ◌+◌, ◌*◌, ◌<◌, ◌≤◌}
@@ -7,7 +7,7 @@ use native.Mathlib.Numerals.{add-one}
 use native.Mathlib.Omega.{arith}
 use lib.Dec.{ltb}
 use lib.ListN.{get_or, length, length-append, take}
-use borrow.Author.Tests.{le-ltb, lt-ltb}
+use borrow.Author.Tests.{le-ltb, lt-ltb, ltb-false}
 use borrow.Table.Steps.{cases}
 use Rattle.std.specs.Prelude.{Ok, Err}
 use Rattle.totals.specs.declared.CartResult.{CartResult}
@@ -113,4 +113,4 @@ walk_ends l t A r et w er =
     (λ b. let y : r ≡ Err TooLong = rw b at er in rw b y)
     (λ b. let z : t ≡ length l = rw b at et in
     let y : r ≡ Ok A = rw b at er in
-    rw b (y ∙ ap Ok (w.is ∙ ap (λ (n : ℕ). sum_of (take n l)) z ∙ ap sum_of (take_all l))))
+    y ∙ walk_answers l A (ltb-false most_results (length l) b) (subst (λ (n : ℕ). Walked l n A) z w))

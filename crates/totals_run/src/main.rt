@@ -18,18 +18,34 @@ fn sum_front(list: [CartResult; TOO_MANY], count: usize) -> Result<Tally, Totals
     totals::sum(&list[..count])
 }
 
+// Each word and each number is a write of its own, so that a write that fails loses nothing of those before it.
+fn print_number<P: Print>(rt: &P, number: u64) -> io::Result<()> {
+    print!(rt; " {number}")
+}
+
 fn print_outcome<P: Print>(rt: &P, outcome: Result<Tally, TotalsError>) -> io::Result<()> {
     match outcome {
-        Ok(Tally { received, passed }) => println!(rt; " {received} {passed}"),
-        Err(error) => println!(rt; " no {}", error.number()),
+        Ok(totals) => {
+            print_number(rt, totals.received)?;
+            print_number(rt, totals.passed)?;
+        }
+        Err(error) => {
+            print!(rt; " no")?;
+            print_number(rt, error.number())?;
+        }
     }
+    println!(rt)
 }
 
 // So many results, all alike.
 fn print_sum<P: Print>(rt: &P, count: usize, received: u32, passed: u32) -> io::Result<()>
     requires { count ≤ 4097 }
 {
-    print!(rt; "sum {count} {received} {passed}:")?;
+    print!(rt; "sum")?;
+    print_number(rt, count as u64)?;
+    print_number(rt, u64::from(received))?;
+    print_number(rt, u64::from(passed))?;
+    print!(rt; ":")?;
     let result = CartResult {
         cart: 0,
         received,
@@ -39,19 +55,29 @@ fn print_sum<P: Print>(rt: &P, count: usize, received: u32, passed: u32) -> io::
 }
 
 fn print_join<P: Print>(rt: &P, a: Tally, b: Tally) -> io::Result<()> {
-    print!(rt;
-        "join {} {} {} {}:",
-        a.received, a.passed, b.received, b.passed
-    )?;
+    print!(rt; "join")?;
+    print_number(rt, a.received)?;
+    print_number(rt, a.passed)?;
+    print_number(rt, b.received)?;
+    print_number(rt, b.passed)?;
+    print!(rt; ":")?;
     print_outcome(rt, totals::join(a, b))
 }
 
 fn print_ratio<P: Print>(rt: &P, totals: Tally) -> io::Result<()> {
-    print!(rt; "ratio {} {}:", totals.received, totals.passed)?;
+    print!(rt; "ratio")?;
+    print_number(rt, totals.received)?;
+    print_number(rt, totals.passed)?;
+    print!(rt; ":")?;
     match totals::ratio(totals) {
-        Some(over) => println!(rt; " {} / {}", over.passed, over.received),
-        None => println!(rt; " none"),
+        Some(over) => {
+            print_number(rt, over.passed)?;
+            print!(rt; " /")?;
+            print_number(rt, over.received)?;
+        }
+        None => print!(rt; " none")?,
     }
+    println!(rt)
 }
 
 fn tally(received: u64, passed: u64) -> Tally {
