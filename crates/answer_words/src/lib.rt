@@ -45,8 +45,8 @@ pub fn put_words(
     out[7] = size;
 }
 
-// The words of an answer: the refusal's number, or 0; "kind, a, b, p, w", q; how many octets of text. Inlined, since the answer goes through memory
-// to a function of its own, which costs a C name's call up to a third more.
+// The words of an answer: the refusal's number, or 0; "kind, a, b, p, w", q; how many octets of text.
+// Inlined: to a function of its own an answer goes through memory, and a call under a C name takes up to a third more instructions.
 #[inline]
 pub fn put_answer_words(out: &mut [u64], answer: Answer)
     requires { 8 ≤ length out.old }
